@@ -25,7 +25,7 @@ pub fn streams<K: Keys>(
 ) -> Option<(StreamSender, StreamReceiver)>
     ensures when { IsSome result
         ↔ ((handshake.ended ≡ false) × (handshake.passed ≡ length handshake.pattern.messages)) }
-    ensures matches { (v : Party) → Matches K.public_of K.agreement handshake v → IfSome result
+    ensures matches { (v : Party) → Matches K.pairs handshake v → IfSome result
         (λ r. StreamSenderMatches r.0 (transport_of v interval) (Speaks 0)
         × StreamReceiverMatches r.1 (transport_of v interval) (Listens 0)) }
 {
@@ -56,11 +56,11 @@ pub fn read_after<K: Keys>(
     ensures unfinished { ((handshake.ended ≡ false) × (handshake.passed ≡ length handshake.pattern.messages) → ⊥)
         → (result ≡ Ok false) × (came.new ≡ came.old) × (out.new.items ≡ out.old.items) }
     ensures responder { (p : Plan) (a b : Start) (ps qs : List HandshakeMessage) (v w : Party)
-        → HaveFinished p a b ps qs v w → Matches K.public_of K.agreement handshake w → IfOk result
+        → HaveFinished p a b ps qs v w → Matches K.pairs handshake w → IfOk result
         (λ whole. HandsOut (transport_of v interval) came.old out.old.items out.new.items whole
         ⊎ ForgedOrTwice p ps qs v.history w.history) }
     ensures initiator { (p : Plan) (a b : Start) (ps qs : List HandshakeMessage) (v w : Party)
-        → HaveFinished p a b ps qs v w → Matches K.public_of K.agreement handshake v → IfOk result
+        → HaveFinished p a b ps qs v w → Matches K.pairs handshake v → IfOk result
         (λ whole. HandsOut (transport_of w interval) came.old out.old.items out.new.items whole
         ⊎ ForgedOrTwice p ps qs v.history w.history) }
 {

@@ -8,6 +8,7 @@ use Rattle.noise_events.specs.Events.{Raw}
 use Rattle.noise_duel.specs.OneEnd.{HasReceived}
 use Rattle.noise_duel.specs.Reports.{Reports}
 use Rattle.noise_duel.specs.Runs.Run.{ends, begins}
+use Rattle.noise_keys.specs.Keys.{KeyPairs}
 
 -- one entry more
 pub reported-more : (before after : List (Role × Entry)) (entry : Role × Entry) → after ≡ before ++ entry ∷ []
@@ -56,13 +57,13 @@ say-of d e Responder payload n next notes w h =
     (with_side (with_side d Responder next) Initiator it.reader))
     (sym it.notes_are) (says d Responder payload it.bytes n it.heard next it.reader w it.got it.receives))
 
-module _ {A B : Type 0} (public_a : A → Own → Option (List ℕ)) (agreement_a : A → Own → List ℕ → Option (List ℕ))
-    (public_b : B → Own → Option (List ℕ)) (agreement_b : B → Own → List ℕ → Option (List ℕ)) where
+module _ {A B : Type 0} (pairs_a : A → KeyPairs)
+    (pairs_b : B → KeyPairs) where
   -- ---- writing
 
   pub written : (d : Sides) (role : Role) (payload : List ℕ) (number : Option ℕ) (duel : DuelValue A B) (before after : Report)
-      → RoleWrote public_a agreement_a public_b agreement_b d role payload number duel before after
-      → HasHappened public_a agreement_a public_b agreement_b d (Write role payload) duel before after
+      → RoleWrote pairs_a pairs_b d role payload number duel before after
+      → HasHappened pairs_a pairs_b d (Write role payload) duel before after
   written d role payload number duel before after w = record {
     next = with_side d role w.next;
     notes = (role, written_note w.reported) ∷ [];
@@ -73,8 +74,8 @@ module _ {A B : Type 0} (public_a : A → Own → Option (List ℕ)) (agreement_
   }
 
   pub said-nothing : (d : Sides) (role : Role) (payload : List ℕ) (number : Option ℕ) (duel : DuelValue A B) (before after : Report)
-      → RoleWrote public_a agreement_a public_b agreement_b d role payload number duel before after → number ≡ None
-      → HasHappened public_a agreement_a public_b agreement_b d (Say role payload) duel before after
+      → RoleWrote pairs_a pairs_b d role payload number duel before after → number ≡ None
+      → HasHappened pairs_a pairs_b d (Say role payload) duel before after
   said-nothing d role payload number duel before after w none = record {
     next = with_side d role w.next;
     notes = (role, written_note w.reported) ∷ [];
@@ -90,9 +91,9 @@ module _ {A B : Type 0} (public_a : A → Own → Option (List ℕ)) (agreement_
       at (Err why) e h = says_nothing d role payload why w.next h
 
   pub said : (d : Sides) (role : Role) (payload : List ℕ) (number : Option ℕ) (n : ℕ) (between duel : DuelValue A B) (before middle after : Report)
-      → (w : RoleWrote public_a agreement_a public_b agreement_b d role payload number between before middle) → number ≡ Some n
-      → HasHappened public_a agreement_a public_b agreement_b (with_side d role w.next) (Deliver (other role) n) duel middle after
-      → HasHappened public_a agreement_a public_b agreement_b d (Say role payload) duel before after
+      → (w : RoleWrote pairs_a pairs_b d role payload number between before middle) → number ≡ Some n
+      → HasHappened pairs_a pairs_b (with_side d role w.next) (Deliver (other role) n) duel middle after
+      → HasHappened pairs_a pairs_b d (Say role payload) duel before after
   said d role payload number n between duel before middle after w some h = search (rules, say-of, append_assoc)
     where
       at : (reported : Result ℕ SendFault) → result_ok reported ≡ Some n → SideWrites (side d role) payload (written_note reported) w.next
@@ -108,11 +109,11 @@ module _ {A B : Type 0} (public_a : A → Own → Option (List ℕ)) (agreement_
   -- ---- receiving
 
   came-initiator : (d : Sides) (event : Event) (bytes : List ℕ) (duel : DuelValue A B) (end : EndValue A) (before after : Report)
-      → DuelMatches public_a agreement_a public_b agreement_b duel d → HasFrames before d
+      → DuelMatches pairs_a pairs_b duel d → HasFrames before d
       → before.initiator ≡ after.initiator → before.responder ≡ after.responder
-      → (h : HasReceived public_a agreement_a d.initiator Initiator bytes end before.entries.items after.entries.items)
+      → (h : HasReceived pairs_a d.initiator Initiator bytes end before.entries.items after.entries.items)
       → Happens d event (noted_by Initiator (h.notes ++ held_note (length h.next.state.partial))) (with_side d Initiator h.next)
-      → HasHappened public_a agreement_a public_b agreement_b d event (record { initiator = end; responder = duel.responder }) before after
+      → HasHappened pairs_a pairs_b d event (record { initiator = end; responder = duel.responder }) before after
   came-initiator d event bytes duel end before after st fr one two h happens = record {
     next = with_side d Initiator h.next;
     notes = noted_by Initiator (h.notes ++ held_note (length h.next.state.partial));
@@ -126,11 +127,11 @@ module _ {A B : Type 0} (public_a : A → Own → Option (List ℕ)) (agreement_
   }
 
   came-responder : (d : Sides) (event : Event) (bytes : List ℕ) (duel : DuelValue A B) (end : EndValue B) (before after : Report)
-      → DuelMatches public_a agreement_a public_b agreement_b duel d → HasFrames before d
+      → DuelMatches pairs_a pairs_b duel d → HasFrames before d
       → before.initiator ≡ after.initiator → before.responder ≡ after.responder
-      → (h : HasReceived public_b agreement_b d.responder Responder bytes end before.entries.items after.entries.items)
+      → (h : HasReceived pairs_b d.responder Responder bytes end before.entries.items after.entries.items)
       → Happens d event (noted_by Responder (h.notes ++ held_note (length h.next.state.partial))) (with_side d Responder h.next)
-      → HasHappened public_a agreement_a public_b agreement_b d event (record { initiator = duel.initiator; responder = end }) before after
+      → HasHappened pairs_a pairs_b d event (record { initiator = duel.initiator; responder = end }) before after
   came-responder d event bytes duel end before after st fr one two h happens = record {
     next = with_side d Responder h.next;
     notes = noted_by Responder (h.notes ++ held_note (length h.next.state.partial));
@@ -145,19 +146,19 @@ module _ {A B : Type 0} (public_a : A → Own → Option (List ℕ)) (agreement_
 
   -- bytes come in one piece
   pub injected-initiator : (d : Sides) (role : Role) (bytes : List ℕ) (duel : DuelValue A B) (end : EndValue A) (before after : Report) → role ≡ Initiator
-      → DuelMatches public_a agreement_a public_b agreement_b duel d → HasFrames before d
+      → DuelMatches pairs_a pairs_b duel d → HasFrames before d
       → before.initiator ≡ after.initiator → before.responder ≡ after.responder
-      → HasReceived public_a agreement_a d.initiator role bytes end before.entries.items after.entries.items
-      → HasHappened public_a agreement_a public_b agreement_b d (Raw role bytes) (record { initiator = end; responder = duel.responder }) before after
+      → HasReceived pairs_a d.initiator role bytes end before.entries.items after.entries.items
+      → HasHappened pairs_a pairs_b d (Raw role bytes) (record { initiator = end; responder = duel.responder }) before after
   injected-initiator d Initiator bytes duel end before after is st fr one two h =
       came-initiator d (Raw Initiator bytes) bytes duel end before after st fr one two h (injects d Initiator bytes h.notes h.next h.receives)
   injected-initiator d Responder bytes duel end before after is st fr one two h = cc
 
   pub injected-responder : (d : Sides) (role : Role) (bytes : List ℕ) (duel : DuelValue A B) (end : EndValue B) (before after : Report) → role ≡ Responder
-      → DuelMatches public_a agreement_a public_b agreement_b duel d → HasFrames before d
+      → DuelMatches pairs_a pairs_b duel d → HasFrames before d
       → before.initiator ≡ after.initiator → before.responder ≡ after.responder
-      → HasReceived public_b agreement_b d.responder role bytes end before.entries.items after.entries.items
-      → HasHappened public_a agreement_a public_b agreement_b d (Raw role bytes) (record { initiator = duel.initiator; responder = end }) before after
+      → HasReceived pairs_b d.responder role bytes end before.entries.items after.entries.items
+      → HasHappened pairs_a pairs_b d (Raw role bytes) (record { initiator = duel.initiator; responder = end }) before after
   injected-responder d Initiator bytes duel end before after is st fr one two h = cc
   injected-responder d Responder bytes duel end before after is st fr one two h =
       came-responder d (Raw Responder bytes) bytes duel end before after st fr one two h (injects d Responder bytes h.notes h.next h.receives)
@@ -165,10 +166,10 @@ module _ {A B : Type 0} (public_a : A → Own → Option (List ℕ)) (agreement_
   -- a frame comes, or there is none of that number
   pub took-initiator : (d : Sides) (role : Role) (n : ℕ) (found : Option (List ℕ)) (duel : DuelValue A B) (end : EndValue A) (before after : Report)
       → role ≡ Initiator → slice_get d.responder.frames n ≡ found
-      → DuelMatches public_a agreement_a public_b agreement_b duel d → HasFrames before d
+      → DuelMatches pairs_a pairs_b duel d → HasFrames before d
       → before.initiator ≡ after.initiator → before.responder ≡ after.responder
-      → HasDelivered public_a agreement_a d.initiator role n found end before.entries.items after.entries.items
-      → HasHappened public_a agreement_a public_b agreement_b d (Deliver role n) (record { initiator = end; responder = duel.responder }) before after
+      → HasDelivered pairs_a d.initiator role n found end before.entries.items after.entries.items
+      → HasHappened pairs_a pairs_b d (Deliver role n) (record { initiator = end; responder = duel.responder }) before after
   took-initiator d Responder n found duel end before after is got st fr one two h = cc
   took-initiator d Initiator n (Some bytes) duel end before after is got st fr one two h =
       came-initiator d (Deliver Initiator n) bytes duel end before after st fr one two h (delivers d Initiator n bytes h.notes h.next got h.receives)
@@ -186,10 +187,10 @@ module _ {A B : Type 0} (public_a : A → Own → Option (List ℕ)) (agreement_
 
   pub took-responder : (d : Sides) (role : Role) (n : ℕ) (found : Option (List ℕ)) (duel : DuelValue A B) (end : EndValue B) (before after : Report)
       → role ≡ Responder → slice_get d.initiator.frames n ≡ found
-      → DuelMatches public_a agreement_a public_b agreement_b duel d → HasFrames before d
+      → DuelMatches pairs_a pairs_b duel d → HasFrames before d
       → before.initiator ≡ after.initiator → before.responder ≡ after.responder
-      → HasDelivered public_b agreement_b d.responder role n found end before.entries.items after.entries.items
-      → HasHappened public_a agreement_a public_b agreement_b d (Deliver role n) (record { initiator = duel.initiator; responder = end }) before after
+      → HasDelivered pairs_b d.responder role n found end before.entries.items after.entries.items
+      → HasHappened pairs_a pairs_b d (Deliver role n) (record { initiator = duel.initiator; responder = end }) before after
   took-responder d Initiator n found duel end before after is got st fr one two h = cc
   took-responder d Responder n (Some bytes) duel end before after is got st fr one two h =
       came-responder d (Deliver Responder n) bytes duel end before after st fr one two h (delivers d Responder n bytes h.notes h.next got h.receives)
@@ -208,8 +209,8 @@ module _ {A B : Type 0} (public_a : A → Own → Option (List ℕ)) (agreement_
   -- ---- events, one after another
 
   pub nothing-yet : (d : Sides) (events : List Event) (duel : DuelValue A B) (report : Report)
-      → DuelMatches public_a agreement_a public_b agreement_b duel d → HasFrames report d → report.entries.items ≡ []
-      → HasComeTo public_a agreement_a public_b agreement_b d events events duel report
+      → DuelMatches pairs_a pairs_b duel d → HasFrames report d → report.entries.items ≡ []
+      → HasComeTo pairs_a pairs_b d events events duel report
   nothing-yet d events duel report st fr empty = record {
     now = d;
     goes_on = λ notes last h. subst (λ (es : List (Role × Entry)). Run d events (notes_of es ++ notes) last) (sym empty) h;
@@ -218,9 +219,9 @@ module _ {A B : Type 0} (public_a : A → Own → Option (List ℕ)) (agreement_
   }
 
   pub one-more : (d : Sides) (events rest more : List Event) (event : Event) (duel next : DuelValue A B) (report after : Report) → rest ≡ event ∷ more
-      → (h : HasComeTo public_a agreement_a public_b agreement_b d events rest duel report)
-      → HasHappened public_a agreement_a public_b agreement_b h.now event next report after
-      → HasComeTo public_a agreement_a public_b agreement_b d events more next after
+      → (h : HasComeTo pairs_a pairs_b d events rest duel report)
+      → HasHappened pairs_a pairs_b h.now event next report after
+      → HasComeTo pairs_a pairs_b d events more next after
   one-more d events rest more event duel next report after is h t = record {
     now = t.next;
     goes_on = λ notes last run.
@@ -233,8 +234,8 @@ module _ {A B : Type 0} (public_a : A → Own → Option (List ℕ)) (agreement_
   }
 
   pub all-come : (d : Sides) (events rest : List Event) (duel : DuelValue A B) (report : Report) → rest ≡ []
-      → HasComeTo public_a agreement_a public_b agreement_b d events rest duel report
-      → Reports public_a agreement_a public_b agreement_b d events duel report
+      → HasComeTo pairs_a pairs_b d events rest duel report
+      → Reports pairs_a pairs_b d events duel report
   all-come d events rest duel report is h = record {
     last = h.now;
     run = subst (λ (ns : List (Role × Note)). Run d events ns h.now) (append-nil (notes_of report.entries.items))

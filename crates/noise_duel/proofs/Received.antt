@@ -6,6 +6,7 @@ use Rattle.noise_duel.specs.declared.entry.Entry.{Entry}
 use Rattle.noise_duel.specs.declared.entry.Idle.{Idle}
 use Rattle.noise_duel.specs.OneEnd.{HasReceived}
 use Rattle.noise_duel.proofs.Linking.{receives-nothing, takes-taken, takes-none, is-idle}
+use Rattle.noise_keys.specs.Keys.{KeyPairs}
 
 noted_by-append : (role : Role) (ms ns : List Note) → noted_by role (ms ++ ns) ≡ noted_by role ms ++ noted_by role ns
 noted_by-append role [] ns = refl
@@ -39,13 +40,13 @@ most-left _ n most h = tt
 pub left_of-most : (step : StepValue) (left : Option (Idle × ℕ)) (n most : ℕ) → left ≡ left_of step n → n ≤ most → IfSome left (λ l. l.1 ≤ most)
 left_of-most step left n most e h = subst (λ (o : Option (Idle × ℕ)). IfSome o (λ l. l.1 ≤ most)) (sym e) (most-left step n most h)
 
-module _ {K : Type 0} (public_of : K → Own → Option (List ℕ)) (agreement : K → Own → List ℕ → Option (List ℕ)) where
+module _ {K : Type 0} (pairs : K → KeyPairs) where
   -- a take more
   pub received-more : (s : Side) (role : Role) (bytes rest left : List ℕ) (end then : EndValue K) (before between after : List (Role × Entry))
-      (n : ℕ) (step : StepValue) (h : HasReceivedSome public_of agreement s role bytes rest end before between) → left ≡ drop n rest
-      → ((v : EndState) → EndMatches public_of agreement end v → (next : EndState) × Takes v rest n step next × EndMatches public_of agreement then next)
+      (n : ℕ) (step : StepValue) (h : HasReceivedSome pairs s role bytes rest end before between) → left ≡ drop n rest
+      → ((v : EndState) → EndMatches pairs end v → (next : EndState) × Takes v rest n step next × EndMatches pairs then next)
       → notes_of after ≡ notes_of between ++ noted_by role (step_note step)
-      → HasReceivedSome public_of agreement s role bytes left then before after
+      → HasReceivedSome pairs s role bytes left then before after
   received-more s role bytes rest left end then before between after n step h is takes reported =
       let w = takes h.next.state h.matches in
       let t = takes-taken h.next rest n step w.0 w.1 in
@@ -53,17 +54,17 @@ module _ {K : Type 0} (public_of : K → Own → Option (List ℕ)) (agreement :
         next = t.after;
         notes = h.notes ++ step_note step;
         goes_on = search (rules, append_assoc);
-        matches = subst (λ (v : EndState). EndMatches public_of agreement then v) (sym t.state) w.2;
+        matches = subst (λ (v : EndState). EndMatches pairs then v) (sym t.state) w.2;
         frames = t.frames ∙ h.frames;
         reported = reported-more role before between after h.notes (step_note step) h.reported reported;
       }
 
   -- none is taken of the rest
   pub stopped-idle : (s : Side) (role : Role) (bytes rest : List ℕ) (end then : EndValue K) (before between : List (Role × Entry)) (n : ℕ) (step : StepValue)
-      (left : Option (Idle × ℕ)) (h : HasReceivedSome public_of agreement s role bytes rest end before between)
-      → ((v : EndState) → EndMatches public_of agreement end v → (next : EndState) × Takes v rest n step next × EndMatches public_of agreement then next)
+      (left : Option (Idle × ℕ)) (h : HasReceivedSome pairs s role bytes rest end before between)
+      → ((v : EndState) → EndMatches pairs end v → (next : EndState) × Takes v rest n step next × EndMatches pairs then next)
       → n ≡ 0 → 0 < length rest → IsPartial end.partial → left ≡ left_of step (length rest)
-      → HasStopped public_of agreement s role bytes left then before between
+      → HasStopped pairs s role bytes left then before between
   stopped-idle s role bytes rest end then before between n step left h takes none some partial found =
       let w = takes h.next.state h.matches in
       let t = takes-none h.next.state w.0 rest n step w.1 none some (subst (λ (partial : List ℕ). IsPartial partial) h.matches.partial partial) in
@@ -76,9 +77,9 @@ module _ {K : Type 0} (public_of : K → Own → Option (List ℕ)) (agreement :
 
   -- bytes of a piece more, with all after it
   abbrev received-after : (s : Side) (role : Role) (bytes rest piece left beyond : List ℕ) (end then : EndValue K) (before between after : List (Role × Entry))
-      (h : HasReceivedSome public_of agreement s role bytes rest end before between) → rest ≡ piece ++ beyond
-      → HasReceivedSome public_of agreement h.next role piece left then between after
-      → HasReceivedSome public_of agreement s role bytes (left ++ beyond) then before after
+      (h : HasReceivedSome pairs s role bytes rest end before between) → rest ≡ piece ++ beyond
+      → HasReceivedSome pairs h.next role piece left then between after
+      → HasReceivedSome pairs s role bytes (left ++ beyond) then before after
   received-after s role bytes rest piece left beyond end then before between after h is w = record {
     next = w.next;
     notes = h.notes ++ w.notes;
@@ -95,21 +96,21 @@ module _ {K : Type 0} (public_of : K → Own → Option (List ℕ)) (agreement :
 
   -- a whole piece more
   pub received-piece : (s : Side) (role : Role) (bytes rest piece beyond : List ℕ) (end then : EndValue K) (before between after : List (Role × Entry))
-      (left : Option (Idle × ℕ)) (h : HasReceivedSome public_of agreement s role bytes rest end before between) → rest ≡ piece ++ beyond → left ≡ None
-      → ((t : Side) → EndMatches public_of agreement end t.state → HasStopped public_of agreement t role piece left then between after)
-      → HasReceivedSome public_of agreement s role bytes beyond then before after
+      (left : Option (Idle × ℕ)) (h : HasReceivedSome pairs s role bytes rest end before between) → rest ≡ piece ++ beyond → left ≡ None
+      → ((t : Side) → EndMatches pairs end t.state → HasStopped pairs t role piece left then between after)
+      → HasReceivedSome pairs s role bytes beyond then before after
   received-piece s role bytes rest piece beyond end then before between after left h is found stops =
       let w = stops h.next h.matches in
       let none : w.rest ≡ [] = subst (λ (l : Option (Idle × ℕ)). AreLeft w.some.next w.rest l) found w.rest_is in
-      subst (λ (xs : List ℕ). HasReceivedSome public_of agreement s role bytes (xs ++ beyond) then before after) none
+      subst (λ (xs : List ℕ). HasReceivedSome pairs s role bytes (xs ++ beyond) then before after) none
       (received-after s role bytes rest piece w.rest beyond end then before between after h is w.some)
 
   -- a piece of which some are left, and with them all after it
   pub stopped-piece : (s : Side) (role : Role) (bytes rest piece beyond : List ℕ) (end then : EndValue K) (before between after : List (Role × Entry))
-      (left : Option (Idle × ℕ)) (why : Idle) (n : ℕ) (h : HasReceivedSome public_of agreement s role bytes rest end before between)
+      (left : Option (Idle × ℕ)) (why : Idle) (n : ℕ) (h : HasReceivedSome pairs s role bytes rest end before between)
       → rest ≡ piece ++ beyond → left ≡ Some (why, n)
-      → ((t : Side) → EndMatches public_of agreement end t.state → HasStopped public_of agreement t role piece left then between after)
-      → HasStopped public_of agreement s role bytes (Some (why, n + length beyond)) then before after
+      → ((t : Side) → EndMatches pairs end t.state → HasStopped pairs t role piece left then between after)
+      → HasStopped pairs s role bytes (Some (why, n + length beyond)) then before after
   stopped-piece s role bytes rest piece beyond end then before between after left why n h is found stops =
       let w = stops h.next h.matches in
       let some = subst (λ (l : Option (Idle × ℕ)). AreLeft w.some.next w.rest l) found w.rest_is in
@@ -129,10 +130,10 @@ module _ {K : Type 0} (public_of : K → Own → Option (List ℕ)) (agreement :
 
   pub received-all : (s : Side) (role : Role) (bytes : List ℕ) (left : Option (Idle × ℕ)) (end : EndValue K) (count : ℕ)
       (before between reported after : List (Role × Entry))
-      → HasStopped public_of agreement s role bytes left end before between → IsPartial end.partial → count ≡ length end.partial
+      → HasStopped pairs s role bytes left end before between → IsPartial end.partial → count ≡ length end.partial
       → notes_of reported ≡ notes_of between ++ noted_by role (note_of_left left)
       → notes_of after ≡ notes_of reported ++ noted_by role (held_note count)
-      → HasReceived public_of agreement s role bytes end before after
+      → HasReceived pairs s role bytes end before after
   received-all s role bytes left end count before between reported after h partial is e f =
       let next = h.some.next in
       let notes = h.some.notes in

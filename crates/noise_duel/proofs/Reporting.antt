@@ -5,6 +5,7 @@ use Rattle.std.specs.List.{list_any}
 use Rattle.noise_duel.proofs.Common.{◌||◌, Role, Initiator, Responder, Token, other, same_role, Plan, Place, first_places, message_places, places_of, token_places, transport_places, is_among, is_at, hash, Own, Counterparts, counterpart, passed_places, token_of, Party, EndState, EndMatches, EndValue, IsReportedBy, KeyMaterial, HaveParts, InTurn, MessagesComeThrough, MessagesLeave, sides_at_start, payloads_in, say_events, notes_of, Event, Note, DuelValue, EndsComeOfMessages, Start, HashesReport, PayloadsCome, PsksMakeOne, VisiblyEqualGivesOne, EndsFrame, Run, Sides}
 use Rattle.noise_duel.specs.declared.report.Report.{Report}
 use Rattle.noise_duel.specs.Reports.{EndsAgree, HaveComeThrough, Reports, static_shown}
+use Rattle.noise_keys.specs.Keys.{KeyPairs}
 
 -- ---- agreement
 
@@ -55,15 +56,15 @@ known-static w p party n v u c pattern role passed own = search (rules, passed-a
 
 -- ---- the whole conversation
 
-module _ {A B : Type 0} (public_a : A → Own → Option (List ℕ)) (agreement_a : A → Own → List ℕ → Option (List ℕ))
-    (public_b : B → Own → Option (List ℕ)) (agreement_b : B → Own → List ℕ → Option (List ℕ)) where
+module _ {A B : Type 0} (pairs_a : A → KeyPairs)
+    (pairs_b : B → KeyPairs) where
   pub all-through : MessagesComeThrough → MessagesLeave → EndsComeOfMessages
-      → ((e : EndValue A) (v : EndState) → EndMatches public_a agreement_a e v → IsReportedBy v e)
-      → ((e : EndValue B) (v : EndState) → EndMatches public_b agreement_b e v → IsReportedBy v e)
+      → ((e : EndValue A) (v : EndState) → EndMatches pairs_a e v → IsReportedBy v e)
+      → ((e : EndValue B) (v : EndState) → EndMatches pairs_b e v → IsReportedBy v e)
       → (w : KeyMaterial) (p : Plan) (prologue : List ℕ) (a b : Start) (interval : ℕ) (lines : List (Role × List ℕ))
       → HaveParts w p prologue a b → InTurn p 0 lines → (duel : DuelValue A B) (report : Report)
-      → Reports public_a agreement_a public_b agreement_b (sides_at_start p a b interval interval) (say_events lines) duel report
-      → HaveComeThrough public_a agreement_a public_b agreement_b w p prologue a b interval lines duel report
+      → Reports pairs_a pairs_b (sides_at_start p a b interval interval) (say_events lines) duel report
+      → HaveComeThrough pairs_a pairs_b w p prologue a b interval lines duel report
   all-through come leave stand reported_a reported_b w p prologue a b interval lines parts turns duel report left =
       let notes : List (Role × Note) = notes_of report.entries.items in
       let last : Sides = left.last in
@@ -95,8 +96,8 @@ module _ {A B : Type 0} (public_a : A → Own → Option (List ℕ)) (agreement_
         entries = it.0;
         initiator_frames = left.frames.initiator ∙ it.1.frames Initiator;
         responder_frames = left.frames.responder ∙ it.1.frames Responder;
-        initiator = subst (λ (z : EndState). EndMatches public_a agreement_a duel.initiator z) views.0 left.matches.initiator;
-        responder = subst (λ (z : EndState). EndMatches public_b agreement_b duel.responder z) views.1 left.matches.responder;
+        initiator = subst (λ (z : EndState). EndMatches pairs_a duel.initiator z) views.0 left.matches.initiator;
+        responder = subst (λ (z : EndState). EndMatches pairs_b duel.responder z) views.1 left.matches.responder;
         last = last;
         matches = left.matches;
         through = it.1;

@@ -11,14 +11,15 @@ use Rattle.noise_duel.specs.Entries.{notes_of, written_note}
 use Rattle.noise_duel.specs.Notes.{Note, held_note, noted_by}
 use Rattle.noise_duel.specs.Sides.{Side}
 use Rattle.noise_duel.specs.Runs.{SideWrites, SideReceives}
+use Rattle.noise_keys.specs.Keys.{KeyPairs}
 
-module _ {K : Type 0} (public_of : K → Own → Option (List ℕ)) (agreement : K → Own → List ℕ → Option (List ℕ)) where
+module _ {K : Type 0} (pairs : K → KeyPairs) where
   -- After a write at this side the end and the frames are those of another one.
   pub record HasWritten (s : Side) (payload : List ℕ) (reported : Result ℕ SendFault) (end : EndValue K)
       (frames : List (Vec ℕ Global)) : Type 0 where
     pub next : Side
     pub writes : SideWrites s payload (written_note reported) next
-    pub matches : EndMatches public_of agreement end next.state
+    pub matches : EndMatches pairs end next.state
     pub frames_are : bytes_of frames ≡ next.frames
 
   -- After bytes that came to this side the end is that of another one, and the entries report them.
@@ -27,6 +28,6 @@ module _ {K : Type 0} (public_of : K → Own → Option (List ℕ)) (agreement :
     pub next : Side
     pub notes : List Note
     pub receives : SideReceives s bytes notes next
-    pub matches : EndMatches public_of agreement end next.state
+    pub matches : EndMatches pairs end next.state
     pub frames : next.frames ≡ s.frames
     pub reported : notes_of after ≡ notes_of before ++ noted_by role (notes ++ held_note (length next.state.partial))

@@ -14,18 +14,19 @@ use Rattle.noise_duel.specs.DuelValue.{DuelValue, DuelMatches, HasFrames}
 use Rattle.noise_duel.specs.OneEnd.{HasReceived}
 use Rattle.noise_duel.specs.Runs.{SideWrites, Happens, Run}
 use Rattle.noise_duel.specs.Sides.{Side, Sides, side, with_side}
+use Rattle.noise_keys.specs.Keys.{KeyPairs}
 
-module _ {K : Type 0} (public_of : K → Own → Option (List ℕ)) (agreement : K → Own → List ℕ → Option (List ℕ)) where
+module _ {K : Type 0} (pairs : K → KeyPairs) where
   -- A frame comes to this side, or none of that number was written: then the end is as it was, and the entries are
   -- reported so.
   abbrev pub HasDelivered : Side → Role → ℕ → Option (List ℕ) → EndValue K → List (Role × Entry) → List (Role × Entry)
       → Type 0
-  HasDelivered s role n (Some bytes) end before after = HasReceived public_of agreement s role bytes end before after
+  HasDelivered s role n (Some bytes) end before after = HasReceived pairs s role bytes end before after
   HasDelivered s role n None end before after =
-      EndMatches public_of agreement end s.state × (notes_of after ≡ notes_of before ++ (role, Missing n) ∷ [])
+      EndMatches pairs end s.state × (notes_of after ≡ notes_of before ++ (role, Missing n) ∷ [])
 
-module _ {A B : Type 0} (public_a : A → Own → Option (List ℕ)) (agreement_a : A → Own → List ℕ → Option (List ℕ))
-    (public_b : B → Own → Option (List ℕ)) (agreement_b : B → Own → List ℕ → Option (List ℕ)) where
+module _ {A B : Type 0} (pairs_a : A → KeyPairs)
+    (pairs_b : B → KeyPairs) where
   -- This role wrote a payload, or was refused: the ends, the frames and the entries are those after that. The number is
   -- that of the frame, if there is one.
   pub record RoleWrote (d : Sides) (role : Role) (payload : List ℕ) (number : Option ℕ) (duel : DuelValue A B)
@@ -34,7 +35,7 @@ module _ {A B : Type 0} (public_a : A → Own → Option (List ℕ)) (agreement_
     pub number_is : number ≡ result_ok reported
     pub next : Side
     pub writes : SideWrites (side d role) payload (written_note reported) next
-    pub matches : DuelMatches public_a agreement_a public_b agreement_b duel (with_side d role next)
+    pub matches : DuelMatches pairs_a pairs_b duel (with_side d role next)
     pub frames : HasFrames after (with_side d role next)
     pub entries : notes_of after.entries.items ≡ notes_of before.entries.items ++ (role, written_note reported) ∷ []
 
@@ -42,7 +43,7 @@ module _ {A B : Type 0} (public_a : A → Own → Option (List ℕ)) (agreement_
   abbrev pub RoleWrites : {E : Type 0} → Role → List ℕ → DuelValue A B → DuelValue A B → Report → Report
       → Result (Option ℕ) E → Type 0
   RoleWrites role payload old new before after result = (d : Sides)
-      → DuelMatches public_a agreement_a public_b agreement_b old d → HasFrames before d
+      → DuelMatches pairs_a pairs_b old d → HasFrames before d
       → IfOk result (λ number. RoleWrote d role payload number new before after)
 
   -- An event happened: the ends, the frames and the entries are those after it.
@@ -50,14 +51,14 @@ module _ {A B : Type 0} (public_a : A → Own → Option (List ℕ)) (agreement_
     pub next : Sides
     pub notes : List (Role × Note)
     pub happens : Happens d event notes next
-    pub matches : DuelMatches public_a agreement_a public_b agreement_b duel next
+    pub matches : DuelMatches pairs_a pairs_b duel next
     pub frames : HasFrames after next
     pub entries : notes_of after.entries.items ≡ notes_of before.entries.items ++ notes
 
   -- Where the ends and the frames were those of some sides, the event happened to these, unless memory ran out.
   abbrev pub Applies : {T E : Type 0} → Event → DuelValue A B → DuelValue A B → Report → Report → Result T E → Type 0
   Applies event old new before after result = (d : Sides)
-      → DuelMatches public_a agreement_a public_b agreement_b old d → HasFrames before d
+      → DuelMatches pairs_a pairs_b old d → HasFrames before d
       → OnOk result (HasHappened d event new before after)
 
   -- So far: whatever comes of the events that are left comes, after the notes so far, of all events.
@@ -65,5 +66,5 @@ module _ {A B : Type 0} (public_a : A → Own → Option (List ℕ)) (agreement_
     pub now : Sides
     pub goes_on : (notes : List (Role × Note)) (last : Sides) → Run now rest notes last
         → Run d events (notes_of report.entries.items ++ notes) last
-    pub matches : DuelMatches public_a agreement_a public_b agreement_b duel now
+    pub matches : DuelMatches pairs_a pairs_b duel now
     pub frames : HasFrames report now

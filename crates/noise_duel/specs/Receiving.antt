@@ -13,6 +13,7 @@ use Rattle.noise_duel.specs.Entries.{notes_of, step_of}
 use Rattle.noise_duel.specs.Notes.{Note, Judged, Left, noted_by}
 use Rattle.noise_duel.specs.Sides.{Side}
 use Rattle.noise_duel.specs.Runs.{SideReceives}
+use Rattle.noise_keys.specs.Keys.{KeyPairs}
 
 -- what is noted of a step: a payload, or a refused frame
 abbrev pub step_note : StepValue → List Note
@@ -40,7 +41,7 @@ AreLeft s rest None = rest ≡ []
 AreLeft s rest (Some left) =
     (idle_step (progress_of s.state) ≡ Some (step_of left.0)) × (0 < left.1) × (length rest ≡ left.1)
 
-module _ {K : Type 0} (public_of : K → Own → Option (List ℕ)) (agreement : K → Own → List ℕ → Option (List ℕ)) where
+module _ {K : Type 0} (pairs : K → KeyPairs) where
   -- Of bytes that come to this side all but the rest were handed over, and the entries report them: whatever comes of
   -- the rest, with any bytes after it, comes of all of them after the notes so far.
   pub record HasReceivedSome (s : Side) (role : Role) (bytes rest : List ℕ) (end : EndValue K)
@@ -49,7 +50,7 @@ module _ {K : Type 0} (public_of : K → Own → Option (List ℕ)) (agreement :
     pub notes : List Note
     pub goes_on : (beyond : List ℕ) (more : List Note) (last : Side) → SideReceives next (rest ++ beyond) more last
         → SideReceives s (bytes ++ beyond) (notes ++ more) last
-    pub matches : EndMatches public_of agreement end next.state
+    pub matches : EndMatches pairs end next.state
     pub frames : next.frames ≡ s.frames
     pub reported : notes_of after ≡ notes_of before ++ noted_by role notes
 

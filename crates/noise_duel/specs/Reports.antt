@@ -24,6 +24,7 @@ use Rattle.noise_duel.specs.Networks.{HaveOneHash, HaveOneHistory, HaveClash, Pa
 use Rattle.noise_duel.specs.OwnFrames.{FramesAreOwn}
 use Rattle.noise_duel.specs.Runs.{Run}
 use Rattle.noise_duel.specs.Sides.{Sides}
+use Rattle.noise_keys.specs.Keys.{KeyPairs}
 
 -- What holds at the end of a run of two new ends of one pattern, over any network; their prologues, keys, psks and
 -- intervals may differ.
@@ -60,25 +61,25 @@ abbrev pub receive_key_in : {K : Type 0} → Phase K → Option (List ℕ)
 receive_key_in (phase.Open t) = t.receive_key
 receive_key_in _ = None
 
-module _ {A B : Type 0} (public_a : A → Own → Option (List ℕ)) (agreement_a : A → Own → List ℕ → Option (List ℕ))
-    (public_b : B → Own → Option (List ℕ)) (agreement_b : B → Own → List ℕ → Option (List ℕ)) where
+module _ {A B : Type 0} (pairs_a : A → KeyPairs)
+    (pairs_b : B → KeyPairs) where
   -- The report is that of a run of two ends, and the ends left match the states after it.
   pub record Reports (d : Sides) (events : List Event) (duel : DuelValue A B) (report : Report) : Type 0 where
     pub last : Sides
     pub run : Run d events (notes_of report.entries.items) last
     pub frames : HasFrames report last
-    pub matches : DuelMatches public_a agreement_a public_b agreement_b duel last
+    pub matches : DuelMatches pairs_a pairs_b duel last
 
   -- Whatever the states of two ends, the report and the ends left are those of the run of these events.
   abbrev pub ReportsRun : {E : Type 0} → List Event → DuelValue A B → Result (DuelValue A B × Report) E → Type 0
   ReportsRun events duel result = (v w : EndState)
-      → DuelMatches public_a agreement_a public_b agreement_b duel (both_sides v w)
+      → DuelMatches pairs_a pairs_b duel (both_sides v w)
       → IfOk result (λ r. Reports (both_sides v w) events r.0 r.1)
 
   -- Where they are two new ends of one pattern, they agree at the end of that run.
   abbrev pub AgreesInRun : {E : Type 0} → List Event → DuelValue A B → Result (DuelValue A B × Report) E → Type 0
   AgreesInRun events duel result = (p : Plan) (a b : Start) (i j : ℕ)
-      → DuelMatches public_a agreement_a public_b agreement_b duel (sides_at_start p a b i j)
+      → DuelMatches pairs_a pairs_b duel (sides_at_start p a b i j)
       → IfOk result (λ r. (left : Reports (sides_at_start p a b i j) events r.0 r.1) × EndsAgree p a b i j left.last)
 
   -- All lines have come through: the report has just each line as written and then as accepted, with its payload, and
@@ -91,12 +92,12 @@ module _ {A B : Type 0} (public_a : A → Own → Option (List ℕ)) (agreement_
         ≡ frames_by Initiator (transcript w p prologue interval lines)
     pub responder_frames : bytes_of report.responder.items
         ≡ frames_by Responder (transcript w p prologue interval lines)
-    pub initiator : EndMatches public_a agreement_a duel.initiator
+    pub initiator : EndMatches pairs_a duel.initiator
         (end_after p Initiator a b interval (history_in w p prologue lines) lines)
-    pub responder : EndMatches public_b agreement_b duel.responder
+    pub responder : EndMatches pairs_b duel.responder
         (end_after p Responder b a interval (history_in w p prologue lines) lines)
     pub last : Sides
-    pub matches : DuelMatches public_a agreement_a public_b agreement_b duel last
+    pub matches : DuelMatches pairs_a pairs_b duel last
     pub through : ComeThrough w p prologue interval lines last
     pub history : last.responder.state.party.history ≡ last.initiator.state.party.history
     pub hash : hash_in duel.responder.phase ≡ hash_in duel.initiator.phase
@@ -112,5 +113,5 @@ module _ {A B : Type 0} (public_a : A → Own → Option (List ℕ)) (agreement_
       → Type 0
   AllComeThrough lines duel result = (w : KeyMaterial) (p : Plan) (prologue : List ℕ) (a b : Start) (interval : ℕ)
       → HaveParts w p prologue a b → InTurn p 0 lines
-      → DuelMatches public_a agreement_a public_b agreement_b duel (sides_at_start p a b interval interval)
+      → DuelMatches pairs_a pairs_b duel (sides_at_start p a b interval interval)
       → IfOk result (λ r. HaveComeThrough w p prologue a b interval lines r.0 r.1)

@@ -26,9 +26,9 @@ pub(crate) fn receive<K: Keys>(
     cuts: &Cuts,
     entries: &mut Vec<(Role, Entry)>,
 ) -> Result<(), AllocError>
-    ensures { (s : Side) → EndMatches K.public_of K.agreement end.old s.state
+    ensures { (s : Side) → EndMatches K.pairs end.old s.state
         → OnOk result
-        (HasReceived K.public_of K.agreement s role bytes.now end.new entries.old.items entries.new.items) }
+        (HasReceived K.pairs s role bytes.now end.new entries.old.items entries.new.items) }
 {
     let left = receive_chunks(alloc, role, end, bytes, cuts, entries)?;
     report_left(role, left, entries)?;
@@ -44,8 +44,8 @@ fn receive_chunks<K: Keys>(
     cuts: &Cuts,
     entries: &mut Vec<(Role, Entry)>,
 ) -> Result<Option<(Idle, usize)>, AllocError>
-    ensures { (s : Side) → EndMatches K.public_of K.agreement end.old s.state → IfOk result (λ left.
-        HasStopped K.public_of K.agreement s role bytes.now left end.new entries.old.items entries.new.items) }
+    ensures { (s : Side) → EndMatches K.pairs end.old s.state → IfOk result (λ left.
+        HasStopped K.pairs s role bytes.now left end.new entries.old.items entries.new.items) }
 {
     let mut rest = bytes;
     let mut index = 0;
@@ -69,8 +69,8 @@ fn receive_chunk<K: Keys>(
     entries: &mut Vec<(Role, Entry)>,
 ) -> Result<Option<(Idle, usize)>, AllocError>
     ensures most { IfOk result (λ left. IfSome left (λ l. l.1 ≤ length piece.now)) }
-    ensures left { (s : Side) → EndMatches K.public_of K.agreement end.old s.state → IfOk result (λ left.
-        HasStopped K.public_of K.agreement s role piece.now left end.new entries.old.items entries.new.items) }
+    ensures left { (s : Side) → EndMatches K.pairs end.old s.state → IfOk result (λ left.
+        HasStopped K.pairs s role piece.now left end.new entries.old.items entries.new.items) }
 {
     let mut rest = piece;
     while !rest.is_empty() {

@@ -81,9 +81,9 @@ impl<A: Keys, B: Keys> Duel<A, B> {
         alloc: Global,
         events: &[Event],
     ) -> Result<(Duel<A, B>, Report), AllocError>
-        ensures reports { ReportsRun A.public_of A.agreement B.public_of B.agreement
+        ensures reports { ReportsRun A.pairs B.pairs
             (events_of events.now) self result }
-        ensures agrees { AgreesInRun A.public_of A.agreement B.public_of B.agreement
+        ensures agrees { AgreesInRun A.pairs B.pairs
             (events_of events.now) self result }
     {
         let mut report = Report::new(alloc);
@@ -104,9 +104,9 @@ impl<A: Keys, B: Keys> Duel<A, B> {
         alloc: Global,
         lines: &[(Role, Vec<u8>, Cuts)],
     ) -> Result<(Duel<A, B>, Report), AllocError>
-        ensures reports { ReportsRun A.public_of A.agreement B.public_of B.agreement
+        ensures reports { ReportsRun A.pairs B.pairs
             (say_events (roles_and_payloads lines.now)) self result }
-        ensures comes_through { AllComeThrough A.public_of A.agreement B.public_of B.agreement
+        ensures comes_through { AllComeThrough A.pairs B.pairs
             (roles_and_payloads lines.now) self result }
     {
         let mut report = Report::new(alloc);
@@ -126,7 +126,7 @@ impl<A: Keys, B: Keys> Duel<A, B> {
         ensures when { IsOk result
             ↔ ((is_datagram_ready self.initiator ≡ true) × (is_datagram_ready self.responder ≡ true)) }
         ensures matches { (v w : EndState)
-            → DuelMatches A.public_of A.agreement B.public_of B.agreement self (both_sides v w)
+            → DuelMatches A.pairs B.pairs self (both_sides v w)
             → IfOk result (λ duel. DatagramDuelMatches duel (datagram_sides_of v w window)) }
         ensures back { IfErr result (λ duel. duel ≡ self) }
     {
@@ -146,7 +146,7 @@ impl<A: Keys, B: Keys> Duel<A, B> {
         event: &Event,
         report: &mut Report,
     ) -> Result<(), AllocError>
-        ensures { Applies A.public_of A.agreement B.public_of B.agreement
+        ensures { Applies A.pairs B.pairs
             (event_of event.now) self.old self.new report.old report.new result }
     {
         match event {
@@ -170,7 +170,7 @@ impl<A: Keys, B: Keys> Duel<A, B> {
         payload: &[u8],
         report: &mut Report,
     ) -> Result<Option<usize>, AllocError>
-        ensures { RoleWrites A.public_of A.agreement B.public_of B.agreement
+        ensures { RoleWrites A.pairs B.pairs
             role payload.now self.old self.new report.old report.new result }
     {
         let reported = match role {
@@ -198,7 +198,7 @@ impl<A: Keys, B: Keys> Duel<A, B> {
         cuts: &Cuts,
         report: &mut Report,
     ) -> Result<(), AllocError>
-        ensures { Applies A.public_of A.agreement B.public_of B.agreement
+        ensures { Applies A.pairs B.pairs
             (Say role payload.now) self.old self.new report.old report.new result }
     {
         match self.write(alloc, role, payload, report)? {
@@ -216,7 +216,7 @@ impl<A: Keys, B: Keys> Duel<A, B> {
         cuts: &Cuts,
         report: &mut Report,
     ) -> Result<(), AllocError>
-        ensures { Applies A.public_of A.agreement B.public_of B.agreement
+        ensures { Applies A.pairs B.pairs
             (Deliver role number) self.old self.new report.old report.new result }
     {
         match role {
@@ -253,7 +253,7 @@ impl<A: Keys, B: Keys> Duel<A, B> {
         bytes: &[u8],
         report: &mut Report,
     ) -> Result<(), AllocError>
-        ensures { Applies A.public_of A.agreement B.public_of B.agreement
+        ensures { Applies A.pairs B.pairs
             (Raw role bytes.now) self.old self.new report.old report.new result }
     {
         let whole = Cuts::whole();
@@ -288,8 +288,8 @@ fn take_frame<K: Keys>(
     cuts: &Cuts,
     entries: &mut Vec<(Role, Entry)>,
 ) -> Result<(), AllocError>
-    ensures { (s : Side) → EndMatches K.public_of K.agreement end.old s.state
-        → OnOk result (HasDelivered K.public_of K.agreement s role number
+    ensures { (s : Side) → EndMatches K.pairs end.old s.state
+        → OnOk result (HasDelivered K.pairs s role number
         (slice_get (bytes_of frames.now) number) end.new entries.old.items entries.new.items) }
 {
     match frames.get(number) {

@@ -17,8 +17,8 @@ pub(crate) fn write<K: Keys>(
     payload: &[u8],
     frames: &mut Vec<Vec<u8>>,
 ) -> Result<Result<usize, SendFault>, AllocError>
-    ensures { (s : Side) → EndMatches K.public_of K.agreement end.old s.state → bytes_of frames.old.items ≡ s.frames
-        → IfOk result (λ reported. HasWritten K.public_of K.agreement s payload.now reported end.new frames.new.items) }
+    ensures { (s : Side) → EndMatches K.pairs end.old s.state → bytes_of frames.old.items ≡ s.frames
+        → IfOk result (λ reported. HasWritten K.pairs s payload.now reported end.new frames.new.items) }
 {
     let room = end.frame_len(payload.len()).unwrap_or(0);
     let mut frame = vec![in alloc; 0u8; room]?;

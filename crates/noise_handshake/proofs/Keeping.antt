@@ -3,8 +3,9 @@ use Rattle.std.proofs.Common.{rules, ◌≡◌, ℕ, suc, ◌+◌, ◌-◌, ◌*
 use Rattle.noise_handshake.proofs.Common.{Option, count_by, Token, is_psk, has_psk, has_key, keyed, nonce_now, SymmetricState, Own, Remote, keyed_after_tokens, tokens_at, HandshakeValue, nonce_after_message, nonce_due, psks_of, IsSound, passed_places}
 use Rattle.noise_handshake.proofs.Counting.{bound-after, due-next, message-most}
 use Rattle.noise_handshake.proofs.Places.{has_key-passed}
+use Rattle.noise_keys.specs.Keys.{KeyPairs}
 
-module _ {K : Type 0} (public_of : K → Own → Option (List ℕ)) (h : HandshakeValue K) (s : IsSound public_of h) (tokens : List Token)
+module _ {K : Type 0} (pairs : K → KeyPairs) (h : HandshakeValue K) (s : IsSound pairs h) (tokens : List Token)
     (e : tokens ≡ tokens_at h.pattern.messages h.passed) (due : h.passed < length h.pattern.messages) where
   counted : psks_of (drop h.passed h.pattern.messages) ≡ count_by is_psk tokens + psks_of (drop (suc h.passed) h.pattern.messages)
   counted = search rules
@@ -23,7 +24,7 @@ module _ {K : Type 0} (public_of : K → Own → Option (List ℕ)) (h : Handsha
       → psks ≡ drop (count_by is_psk tokens) h.psks
       → keyed state ≡ keyed_after_tokens (has_psk h.pattern) (keyed h.state) tokens → length tokens ≤ 10
       → nonce_now state ≡ nonce_after_message (has_psk h.pattern) (keyed h.state) (nonce_now h.state) tokens
-      → IsSound public_of (record h { remote = remote; state = state; psks = psks; passed = passed })
+      → IsSound pairs (record h { remote = remote; state = state; psks = psks; passed = passed })
   sound-after remote state psks passed p d k short u = record {
     within = omega (arith, due, p);
     few = s.few;

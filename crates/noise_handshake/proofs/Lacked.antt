@@ -7,6 +7,7 @@ use Rattle.noise_handshake.proofs.Knowing.{is_some-remote}
 use Rattle.noise_handshake.proofs.Wrote.{for-view}
 use Rattle.noise_handshake.proofs.Stepwise.{lacks-first}
 use Rattle.noise_handshake.proofs.Wanted.{none-some}
+use Rattle.noise_keys.specs.Keys.{KeyPairs}
 
 lacks-tail : (w : Writer) (known : Remote) (psks : List (List ℕ)) (t : Token) (ts : List Token) (x : List ℕ) (k : ℕ) (xs : List (List ℕ))
     → k < length ts → Gives w known psks t x → Given w known psks (take (suc k) (t ∷ ts)) xs
@@ -98,7 +99,7 @@ module _ {K : Type 0} (h : HandshakeValue K) where
   pub due-turn : is-due ≡ true → turn_from Initiator h.passed ≡ h.role
   due-turn e = same_role-true (turn_from Initiator h.passed) h.role (tests-of h.ended (h.passed == length h.pattern.messages) (is_turn h.role h.passed) e).2
 
-  module _ (public_of : K → Own → Option (List ℕ)) (agreement : K → Own → List ℕ → Option (List ℕ)) (v : Party) (s : ValueMatches public_of agreement h v) where
+  module _ (pairs : K → KeyPairs) (v : Party) (s : ValueMatches pairs h v) where
     pub due-here : Speaks v → is-due ≡ true
     due-here l =
         let less : h.passed < length h.pattern.messages =
@@ -109,7 +110,7 @@ module _ {K : Type 0} (h : HandshakeValue K) where
 
     pub due-speaking : h.passed ≤ length h.pattern.messages → is-due ≡ true → (has_psks : Bool) (psks : List (List ℕ)) (tokens : List Token)
         → has_psks ≡ has_psk h.pattern → psks ≡ h.psks → tokens ≡ tokens_now v
-        → Speaking v h.role has_psks (public_of h.keys) (agreement h.keys) psks h.remote tokens
+        → Speaking v h.role has_psks (pairs h.keys).public (pairs h.keys).agree psks h.remote tokens
     due-speaking w e has_psks psks tokens b d f = record {
       speaks = record {
         going = sym s.ended ∙ (tests-of h.ended (h.passed == length h.pattern.messages) (is_turn h.role h.passed) e).0;

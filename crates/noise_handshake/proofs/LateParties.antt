@@ -15,6 +15,7 @@ use Rattle.noise_handshake.proofs.Once.{refuses-one}
 use Rattle.noise_handshake.proofs.PskPlaces.{no-psk, psk-place}
 use Rattle.noise_handshake.specs.declared.faults.ReadFault.TheVariants as read
 use Rattle.noise_handshake.specs.declared.faults.WriteFault.TheVariants as write
+use Rattle.noise_keys.specs.Keys.{KeyPairs}
 
 -- a party with other psks
 abbrev pub holding : Party → List (List ℕ) → Party
@@ -95,9 +96,9 @@ psk-none v m n remote c w = no-psk (tokens_now v) w.before w.later n c w.tokens 
 
 -- ---- the psks that were handed in
 
-module _ {K : Type 0} (public_of : K → Own → Option (List ℕ)) (agreement : K → Own → List ℕ → Option (List ℕ)) (h : HandshakeValue K) (v : Party)
-    (later : List (List ℕ)) (s : MatchesWith public_of agreement later h v) where
-  pub matches-given : ValueMatches public_of agreement h (holding v h.psks)
+module _ {K : Type 0} (pairs : K → KeyPairs) (h : HandshakeValue K) (v : Party)
+    (later : List (List ℕ)) (s : MatchesWith pairs later h v) where
+  pub matches-given : ValueMatches pairs h (holding v h.psks)
   matches-given = record {
     pattern = s.pattern;
     role = s.role;
@@ -118,8 +119,8 @@ module _ {K : Type 0} (public_of : K → Own → Option (List ℕ)) (agreement :
   after-given c few = sym (drop-append-le c h.psks later few) ∙ ap (drop c) s.psks
 
   pub after-read : (h2 : HandshakeValue K) (xs : List (List ℕ)) (payload : List ℕ) → count_by is_psk (tokens_now v) ≤ length h.psks
-      → ValueMatches public_of agreement h2 (after_message (holding v h.psks) xs payload)
-      → MatchesWith public_of agreement later h2 (after_message v xs payload)
+      → ValueMatches pairs h2 (after_message (holding v h.psks) xs payload)
+      → MatchesWith pairs later h2 (after_message v xs payload)
   after-read h2 xs payload c t = record {
     pattern = t.pattern;
     role = t.role;
@@ -133,8 +134,8 @@ module _ {K : Type 0} (public_of : K → Own → Option (List ℕ)) (agreement :
   }
 
   pub after-written : (h2 : HandshakeValue K) (xs : List (List ℕ)) (payload : List ℕ) → count_by is_psk (tokens_now v) ≤ length h.psks
-      → ValueMatches public_of agreement h2 (after_own (holding v h.psks) xs payload)
-      → MatchesWith public_of agreement later h2 (after_own v xs payload)
+      → ValueMatches pairs h2 (after_own (holding v h.psks) xs payload)
+      → MatchesWith pairs later h2 (after_own v xs payload)
   after-written h2 xs payload c t = record {
     pattern = t.pattern;
     role = t.role;
@@ -149,8 +150,8 @@ module _ {K : Type 0} (public_of : K → Own → Option (List ℕ)) (agreement :
 
 -- ---- a handshake that has all psks
 
-module _ {K : Type 0} (public_of : K → Own → Option (List ℕ)) (agreement : K → Own → List ℕ → Option (List ℕ)) (h : HandshakeValue K) (v : Party) where
-  pub value-of : Matches public_of agreement h v → ValueMatches public_of agreement h v
+module _ {K : Type 0} (pairs : K → KeyPairs) (h : HandshakeValue K) (v : Party) where
+  pub value-of : Matches pairs h v → ValueMatches pairs h v
   value-of s = record {
     pattern = s.pattern;
     role = s.role;
@@ -163,7 +164,7 @@ module _ {K : Type 0} (public_of : K → Own → Option (List ℕ)) (agreement :
     history = s.history;
   }
 
-  pub matches-of : ValueMatches public_of agreement h v → IsSupplied h → Matches public_of agreement h v
+  pub matches-of : ValueMatches pairs h v → IsSupplied h → Matches pairs h v
   matches-of s all = record {
     pattern = s.pattern;
     role = s.role;
@@ -207,9 +208,9 @@ module _ {K : Type 0} (h : HandshakeValue K) (less : h.passed < length h.pattern
 
 -- ---- what a handshake may hold
 
-pub whole-late : {K : Type 0} (public_of : K → Own → Option (List ℕ)) (h : HandshakeValue K) (u : List (List ℕ)) → length u ≡ length h.psks
-    → IsWholeValue public_of h → IsWholeValue public_of (record h { psks = u })
-whole-late public_of h u e w = search
+pub whole-late : {K : Type 0} (pairs : K → KeyPairs) (h : HandshakeValue K) (u : List (List ℕ)) → length u ≡ length h.psks
+    → IsWholeValue pairs h → IsWholeValue pairs (record h { psks = u })
+whole-late pairs h u e w = search
 
 pub opens-partial : (o : OpenedValue) (v : Party) (u : List (List ℕ)) → IsOpenedOf o (holding v u) → IsOpenedOf o v
 opens-partial o v u p = search
@@ -219,16 +220,16 @@ opens-partial o v u p = search
 wants-all : (v : Party) (own : Own) (key : List ℕ) (w : WantsToWrite v own key) → suc (length w.lacks.before) ≤ length (tokens_now v)
 wants-all v own key w = omega (arith, w.lacks.lacks.within)
 
-module _ {K : Type 0} (public_of : K → Own → Option (List ℕ)) (agreement : K → Own → List ℕ → Option (List ℕ)) (h : HandshakeValue K) (v : Party) (later : List (List ℕ))
-    (s : MatchesWith public_of agreement later h v) where
+module _ {K : Type 0} (pairs : K → KeyPairs) (h : HandshakeValue K) (v : Party) (later : List (List ℕ))
+    (s : MatchesWith pairs later h v) where
   abbrev n : ℕ
   n = length h.psks
 
-  given : ValueMatches public_of agreement h (holding v h.psks)
-  given = matches-given public_of agreement h v later s
+  given : ValueMatches pairs h (holding v h.psks)
+  given = matches-given pairs h v later s
 
   pub same-tokens : tokens_at h.pattern.messages h.passed ≡ tokens_now v
-  same-tokens = tokens-are public_of agreement h (holding v h.psks) given
+  same-tokens = tokens-are pairs h (holding v h.psks) given
 
   pub few-now : count_by is_psk (tokens_at h.pattern.messages h.passed) ≤ n → count_by is_psk (tokens_now v) ≤ n
   few-now c = subst (λ (us : List Token). count_by is_psk us ≤ n) same-tokens c
@@ -236,13 +237,13 @@ module _ {K : Type 0} (public_of : K → Own → Option (List ℕ)) (agreement :
   pub write-none : count_by is_psk (tokens_at h.pattern.messages h.passed) ≤ n → ((token : ℕ) → LacksDhResult (holding v h.psks) token → ⊥)
       → (token : ℕ) → LacksDhResult v token → ⊥
   write-none c f token l =
-      f token (lacks-back v h.psks n (agrees public_of agreement h v later s) token
+      f token (lacks-back v h.psks n (agrees pairs h v later s) token
       (omega (arith, few-now c, count-take (tokens_now v) (suc token))) l)
 
   pub write-dh-result : (own : Own) (key : List ℕ) → count_by is_psk (tokens_at h.pattern.messages h.passed) ≤ n
       → WantsToWrite (holding v h.psks) own key → WantsToWrite v own key
   write-dh-result own key c a =
-      wants-write-partial v h.psks n (agrees public_of agreement h v later s) own key (length (tokens_now v))
+      wants-write-partial v h.psks n (agrees pairs h v later s) own key (length (tokens_now v))
       (omega (arith, few-now c, count-take (tokens_now v) (length (tokens_now v)))) a (wants-all (holding v h.psks) own key a)
 
   module _ (k : ℕ) (at : IsPskAfter (tokens_at h.pattern.messages h.passed) n k) where
@@ -252,7 +253,7 @@ module _ {K : Type 0} (public_of : K → Own → Option (List ℕ)) (agreement :
     first-dh-result : (own : Own) (key : List ℕ) → LacksDhResultFor (writer v) v.remote h.psks (take k (tokens_now v)) own key
         → LacksDhResultFor (writer v) v.remote v.psks (take k (tokens_now v)) own key
     first-dh-result own key l =
-        lacks-for-same (writer v) v.remote h.psks v.psks n (agrees public_of agreement h v later s) (take k (tokens_now v)) own key l
+        lacks-for-same (writer v) v.remote h.psks v.psks n (agrees pairs h v later s) (take k (tokens_now v)) own key l
         (omega (arith, at-now.count, count-take (take k (tokens_now v)) (suc (length l.before))))
 
     pub write-before : (own : Own) (key : List ℕ) → Speaks (holding v h.psks) → LacksDhResultFor (writer v) v.remote h.psks (take k (tokens_now v)) own key
@@ -276,7 +277,7 @@ module _ {K : Type 0} (public_of : K → Own → Option (List ℕ)) (agreement :
       tokens = at-now.tokens;
       count = at-now.count;
       computed = λ j less l.
-          f j (lacks-same (writer v) v.remote v.psks h.psks n (sym (agrees public_of agreement h v later s)) (take k (tokens_now v)) j
+          f j (lacks-same (writer v) v.remote v.psks h.psks n (sym (agrees pairs h v later s)) (take k (tokens_now v)) j
           (omega (arith, at-now.count, count-take (take k (tokens_now v)) (suc j)))
           (lacks-first (writer v) v.remote v.psks (tokens_now v) k j (omega (arith, less, length-take k (tokens_now v))) l.lacks));
     }
@@ -295,30 +296,30 @@ module _ (v : Party) (m : List ℕ) (o : Option (Own × List ℕ))
   pub wants-none : o ≡ None → (token : ℕ) → Refuses v m token Agreement → ⊥
   wants-none e = search rules
 
-module _ {K : Type 0} (public_of : K → Own → Option (List ℕ)) (agreement : K → Own → List ℕ → Option (List ℕ)) (h : HandshakeValue K) (v : Party) (later : List (List ℕ))
-    (s : MatchesWith public_of agreement later h v)
+module _ {K : Type 0} (pairs : K → KeyPairs) (h : HandshakeValue K) (v : Party) (later : List (List ℕ))
+    (s : MatchesWith pairs later h v)
     (m : List ℕ) where
   abbrev given-now : ℕ
   given-now = length h.psks
 
   abbrev alike : take given-now h.psks ≡ take given-now v.psks
-  alike = agrees public_of agreement h v later s
+  alike = agrees pairs h v later s
 
   -- nothing has changed
-  pub matches-same : (h2 : HandshakeValue K) → ValueMatches public_of agreement h2 (holding v h.psks)
-      → ValueMatches public_of agreement (with_later h2 later) v
+  pub matches-same : (h2 : HandshakeValue K) → ValueMatches pairs h2 (holding v h.psks)
+      → ValueMatches pairs (with_later h2 later) v
   matches-same h2 t = search
 
   -- or it has ended
-  matches-ended_party : (h2 : HandshakeValue K) → ValueMatches public_of agreement h2 (ended_party (holding v h.psks))
-      → ValueMatches public_of agreement (with_later h2 later) (ended_party v)
+  matches-ended_party : (h2 : HandshakeValue K) → ValueMatches pairs h2 (ended_party (holding v h.psks))
+      → ValueMatches pairs (with_later h2 later) (ended_party v)
   matches-ended_party h2 t = search
 
-  pub matches-ended : (h2 : HandshakeValue K) → h2 ≡ ended_as h → ValueMatches public_of agreement (with_later h2 later) (ended_party v)
+  pub matches-ended : (h2 : HandshakeValue K) → h2 ≡ ended_as h → ValueMatches pairs (with_later h2 later) (ended_party v)
   matches-ended h2 e = search rules
 
-  pub matches-declined : (h2 : HandshakeValue K) (fault : ReadFault) → ValueMatches public_of agreement h2 (after_not_read (holding v h.psks) fault)
-      → ValueMatches public_of agreement (with_later h2 later) (after_not_read v fault)
+  pub matches-declined : (h2 : HandshakeValue K) (fault : ReadFault) → ValueMatches pairs h2 (after_not_read (holding v h.psks) fault)
+      → ValueMatches pairs (with_later h2 later) (after_not_read v fault)
   matches-declined h2 read.Ended t = matches-same h2 t
   matches-declined h2 read.Done t = matches-same h2 t
   matches-declined h2 read.NotYourTurn t = matches-same h2 t
@@ -326,10 +327,10 @@ module _ {K : Type 0} (public_of : K → Own → Option (List ℕ)) (agreement :
 
   module _ (few : count_by is_psk (tokens_at h.pattern.messages h.passed) ≤ given-now) where
     few-here : (k : ℕ) → count_by is_psk (take k (tokens_now v)) ≤ given-now
-    few-here k = omega (arith, few-now public_of agreement h v later s few, count-take (tokens_now v) k)
+    few-here k = omega (arith, few-now pairs h v later s few, count-take (tokens_now v) k)
 
     pub read-accepts : (xs : List (List ℕ)) (p : List ℕ) → Accepts (holding v h.psks) m xs p → Accepts v m xs p
-    read-accepts xs p a = accepts-partial v h.psks given-now alike m xs p (few-now public_of agreement h v later s few) a
+    read-accepts xs p a = accepts-partial v h.psks given-now alike m xs p (few-now pairs h v later s few) a
 
     pub read-dh-result : (own : Own) (key : List ℕ) → WantsToRead (holding v h.psks) m own key → WantsToRead v m own key
     read-dh-result own key a =
@@ -355,11 +356,11 @@ module _ {K : Type 0} (public_of : K → Own → Option (List ℕ)) (agreement :
     )
 
     pub read-none : (remote : Option (List ℕ)) → WantsPskToRead v given-now m remote → ⊥
-    read-none remote x = psk-none v m given-now remote (few-now public_of agreement h v later s few) x
+    read-none remote x = psk-none v m given-now remote (few-now pairs h v later s few) x
 
   module _ (k : ℕ) (at : IsPskAfter (tokens_at h.pattern.messages h.passed) given-now k) where
     at-read : IsPskAfter (tokens_now v) given-now k
-    at-read = at-now public_of agreement h v later s k at
+    at-read = at-now pairs h v later s k at
 
     few-before : (j : ℕ) → j ≤ k → count_by is_psk (take j (tokens_now v)) ≤ given-now
     few-before j less = omega (arith, at-read.count, count-less (tokens_now v) j k less)
@@ -464,15 +465,15 @@ not-lacked false o h = refl
 not-lacked true (Some x) h = refl
 not-lacked true None h = let e = h refl in absurd (cc)
 
-pub whole-of : {K : Type 0} (public_of : K → Own → Option (List ℕ)) (h : HandshakeValue K) → IsSound public_of h → KnowsRemote h → IsLateWhole public_of h
-whole-of public_of h s k =
+pub whole-of : {K : Type 0} (pairs : K → KeyPairs) (h : HandshakeValue K) → IsSound pairs h → KnowsRemote h → IsLateWhole pairs h
+whole-of pairs h s k =
     let missing = some-psks (psks_of (drop h.passed h.pattern.messages) - length h.psks) in (
       missing.0,
       record {
         within = s.within;
         psks = omega (arith, s.psks, missing.1, length-append h.psks missing.0);
-        own_e = not-lacked (is_among h.role E (places_of h.pattern)) (public_of h.keys Ephemeral) s.has_e;
-        own_s = not-lacked (is_among h.role S (places_of h.pattern)) (public_of h.keys Static) s.has_s;
+        own_e = not-lacked (is_among h.role E (places_of h.pattern)) ((pairs h.keys).public Ephemeral) s.has_e;
+        own_s = not-lacked (is_among h.role S (places_of h.pattern)) ((pairs h.keys).public Static) s.has_s;
         remote_e = k.e;
         remote_s = k.s;
         key = s.keyed;
@@ -504,14 +505,14 @@ supplied-fault h write.NotYourTurn all = all
 supplied-fault h write.TooLong all = all
 supplied-fault h (write.Agreement token) all = all
 
-module _ {K : Type 0} (public_of : K → Own → Option (List ℕ)) (agreement : K → Own → List ℕ → Option (List ℕ)) (h h2 : HandshakeValue K)
+module _ {K : Type 0} (pairs : K → KeyPairs) (h h2 : HandshakeValue K)
     (less : h.passed < length h.pattern.messages) (all : IsSupplied h) (v : Party) (payload : List ℕ) where
   pub writes-supplied : (bytes : List ℕ) (result : Result ℕ WriteFault)
       → MatchResult result (λ _. Advances h h2) (λ fault. h2 ≡ after_write_fault h fault)
-      → MatchResult result (HasWrittenTo (ValueMatches public_of agreement) v payload bytes h2)
-      (HasNotWritten (ValueMatches public_of agreement) v (length payload) h2)
-      → MatchResult result (HasWrittenTo (Matches public_of agreement) v payload bytes h2)
-      (HasNotWritten (Matches public_of agreement) v (length payload) h2)
-  writes-supplied bytes (Ok n) a w = (w.0, w.1, matches-of public_of agreement h2 _ w.2 (supplied-after h less all h2 a))
+      → MatchResult result (HasWrittenTo (ValueMatches pairs) v payload bytes h2)
+      (HasNotWritten (ValueMatches pairs) v (length payload) h2)
+      → MatchResult result (HasWrittenTo (Matches pairs) v payload bytes h2)
+      (HasNotWritten (Matches pairs) v (length payload) h2)
+  writes-supplied bytes (Ok n) a w = (w.0, w.1, matches-of pairs h2 _ w.2 (supplied-after h less all h2 a))
   writes-supplied bytes (Err fault) a w =
-      (w.0, matches-of public_of agreement h2 _ w.1 (subst (λ (z : HandshakeValue K). IsSupplied z) (sym a) (supplied-fault h fault all)))
+      (w.0, matches-of pairs h2 _ w.1 (subst (λ (z : HandshakeValue K). IsSupplied z) (sym a) (supplied-fault h fault all)))

@@ -12,9 +12,10 @@ use Rattle.noise_handshake.proofs.Owned.{owned}
 use Rattle.noise_handshake.proofs.Standing.{due, listening, listens, reads-turn, tokens-are}
 use Rattle.noise_handshake.proofs.Parties.{items-from}
 use Rattle.noise_handshake.proofs.Wrote.{short-view, speaking, writes-added, writes-due, writes-length, writes-short, writes-turn}
+use Rattle.noise_keys.specs.Keys.{KeyPairs}
 
 -- there is a message, of the other party
-module _ {K : Type 0} (public_of : K → Own → Option (List ℕ)) (a : Inside K) (i : IsKept public_of a) (h : HandshakeValue K) (seen : held_in a ≡ h)
+module _ {K : Type 0} (pairs : K → KeyPairs) (a : Inside K) (i : IsKept pairs a) (h : HandshakeValue K) (seen : held_in a ≡ h)
     (none : read_fault h ≡ None) where
   none-read : read_fault (held_in a) ≡ None
   none-read = ap (λ (z : HandshakeValue K). read_fault z) seen ∙ none
@@ -29,7 +30,7 @@ module _ {K : Type 0} (public_of : K → Own → Option (List ℕ)) (a : Inside 
   reads-unended = unended-read (held_in a) none-read
 
 -- or of this party
-module _ {K : Type 0} (public_of : K → Own → Option (List ℕ)) (a : Inside K) (i : IsKept public_of a) (h : HandshakeValue K) (seen : held_in a ≡ h)
+module _ {K : Type 0} (pairs : K → KeyPairs) (a : Inside K) (i : IsKept pairs a) (h : HandshakeValue K) (seen : held_in a ≡ h)
     (speaks : (not h.ended && not (h.passed == length h.pattern.messages) && is_turn h.role h.passed) ≡ true) where
   due-in : (not a.ended && not (a.passed == length a.pattern.messages) && is_turn a.means.role a.passed) ≡ true
   due-in = ap (λ (z : HandshakeValue K). not z.ended && not (z.passed == length z.pattern.messages) && is_turn z.role z.passed) seen ∙ speaks
@@ -41,28 +42,28 @@ module _ {K : Type 0} (public_of : K → Own → Option (List ℕ)) (a : Inside 
   speaks-ours = due-turn (held_in a) due-in
 
 -- and of a payload of this length
-module _ {K : Type 0} (public_of : K → Own → Option (List ℕ)) (a : Inside K) (i : IsKept public_of a) (h : HandshakeValue K) (seen : held_in a ≡ h)
+module _ {K : Type 0} (pairs : K → KeyPairs) (a : Inside K) (i : IsKept pairs a) (h : HandshakeValue K) (seen : held_in a ≡ h)
     (len : ℕ) (none : write_fault h len ≡ None) where
   none-write : write_fault (held_in a) len ≡ None
   none-write = ap (λ (z : HandshakeValue K). write_fault z len) seen ∙ none
 
   pub writes-next : a.passed < length a.pattern.messages
-  writes-next = writes-due public_of (held_in a) i.2 len none-write
+  writes-next = writes-due pairs (held_in a) i.2 len none-write
 
   pub writes-ours : turn_from Initiator a.passed ≡ a.means.role
-  writes-ours = writes-turn public_of (held_in a) i.2 len none-write
+  writes-ours = writes-turn pairs (held_in a) i.2 len none-write
 
   pub writes-unended : a.ended ≡ false
   writes-unended = unended-write (held_in a) len none-write
 
   pub writes-long : message_len_of h len ≡ Some (overhead_of a.pattern (a.passed + 1) + len)
-  writes-long = ap (λ (z : HandshakeValue K). message_len_of z len) (sym seen) ∙ writes-length public_of (held_in a) i.2 len none-write
+  writes-long = ap (λ (z : HandshakeValue K). message_len_of z len) (sym seen) ∙ writes-length pairs (held_in a) i.2 len none-write
 
   module _ (placed : List PlacedToken) (d : placed ≡ a.next.tokens.items) (state : SymmetricState) (e : state ≡ a.state) where
     pub writes-wide : added_width a.means.has_psks (keyed state) (tokens_of placed) ≡ overhead_of a.pattern (a.passed + 1)
     writes-wide =
         ap (λ (z : SymmetricState). added_width a.means.has_psks (keyed z) (tokens_of placed)) e
-        ∙ writes-added public_of (held_in a) i.2 len none-write a.means.has_psks (tokens_of placed) i.0
+        ∙ writes-added pairs (held_in a) i.2 len none-write a.means.has_psks (tokens_of placed) i.0
         (tokens-laid a.pattern a.passed a.next (i.4 writes-next) placed d)
 
     pub writes-room : (out : ℕ) → ((n : ℕ) → message_len_of h len ≡ Some n → n ≤ out)
@@ -70,10 +71,10 @@ module _ {K : Type 0} (public_of : K → Own → Option (List ℕ)) (a : Inside 
     writes-room out room = subst (λ (k : ℕ). k + len ≤ out) (sym writes-wide) (room (overhead_of a.pattern (a.passed + 1) + len) writes-long)
 
     pub writes-most : added_width a.means.has_psks (keyed state) (tokens_of placed) + len ≤ 65535
-    writes-most = subst (λ (k : ℕ). k + len ≤ 65535) (sym writes-wide) (writes-short public_of (held_in a) i.2 len none-write)
+    writes-most = subst (λ (k : ℕ). k + len ≤ 65535) (sym writes-wide) (writes-short pairs (held_in a) i.2 len none-write)
 
 -- the tokens of the message, as they were placed
-module _ {K : Type 0} (public_of : K → Own → Option (List ℕ)) (a : Inside K) (i : IsKept public_of a) (less : a.passed < length a.pattern.messages)
+module _ {K : Type 0} (pairs : K → KeyPairs) (a : Inside K) (i : IsKept pairs a) (less : a.passed < length a.pattern.messages)
     (placed : List PlacedToken) (d : placed ≡ a.next.tokens.items) where
   pub tokens-next : tokens_of placed ≡ tokens_at a.pattern.messages a.passed
   tokens-next = tokens-laid a.pattern a.passed a.next (i.4 less) placed d
@@ -138,7 +139,7 @@ module _ {K : Type 0} (public_of : K → Own → Option (List ℕ)) (a : Inside 
       → list_all (is_known a.means.role (is_some a.remote.e) (is_some a.remote.s)) (tokens_of placed) ≡ true
   known-ours turn = search (tokens-next, writing-known)
 
-  pub own-ours : turn_from Initiator a.passed ≡ a.means.role → list_all (has_own (public_of a.means.keys)) (tokens_of placed) ≡ true
+  pub own-ours : turn_from Initiator a.passed ≡ a.means.role → list_all (has_own (pairs a.means.keys).public) (tokens_of placed) ≡ true
   own-ours turn = search (tokens-next, owned)
 
   left-next : drop (a.used + a.next.psks) a.psks.items ≡ drop (count_by is_psk (tokens_of placed)) (drop a.used a.psks.items)
@@ -152,7 +153,7 @@ module _ {K : Type 0} (public_of : K → Own → Option (List ℕ)) (a : Inside 
 
     pub key-next : (plan : Plan) → plan ≡ a.pattern → keyed new ≡ has_key plan (passed_places plan (a.passed + 1))
     key-next plan same =
-        key-after public_of (held_in a) i.2 (tokens_of placed) tokens-next less new (a.passed + 1) refl key-in
+        key-after pairs (held_in a) i.2 (tokens_of placed) tokens-next less new (a.passed + 1) refl key-in
         ∙ ap (λ (z : Plan). has_key z (passed_places z (a.passed + 1))) (sym same)
 
     module _ (counted : nonce_now new ≡ nonce_after_message a.means.has_psks (keyed state) (nonce_now state) (tokens_of placed))
@@ -166,11 +167,11 @@ module _ {K : Type 0} (public_of : K → Own → Option (List ℕ)) (a : Inside 
 
       unchanged-next : (known : Remote)
           → KnowsRemote (held_in (record a { used = a.used + a.next.psks; passed = a.passed + 1; next = laid; state = new; remote = known }))
-          → IsKept public_of (record a { used = a.used + a.next.psks; passed = a.passed + 1; next = laid; state = new; remote = known })
+          → IsKept pairs (record a { used = a.used + a.next.psks; passed = a.passed + 1; next = laid; state = new; remote = known })
       unchanged-next known knows = (
         i.0,
         used-within h seen has,
-        sound-after public_of (held_in a) i.2 (tokens_of placed) tokens-next less known new (drop (a.used + a.next.psks) a.psks.items)
+        sound-after pairs (held_in a) i.2 (tokens_of placed) tokens-next less known new (drop (a.used + a.next.psks) a.psks.items)
             (a.passed + 1) refl left-next key-in (omega (arith, length-tokens_of placed, few)) counted-in,
         knows,
         subst (λ (z : Plan). LaysNext z (a.passed + 1) laid) same lays,
@@ -180,64 +181,64 @@ module _ {K : Type 0} (public_of : K → Own → Option (List ℕ)) (a : Inside 
 
       pub unchanged-read : turn_from Initiator a.passed ≡ other a.means.role → (known : Remote) → is_some known.e ≡ has_after_tokens E (is_some a.remote.e) (tokens_of placed)
           → is_some known.s ≡ has_after_tokens S (is_some a.remote.s) (tokens_of placed)
-          → IsKept public_of (record a { used = a.used + a.next.psks; passed = a.passed + 1; next = laid; state = new; remote = known })
+          → IsKept pairs (record a { used = a.used + a.next.psks; passed = a.passed + 1; next = laid; state = new; remote = known })
       unchanged-read turn known fe fs =
           unchanged-next known
           (knows-read (held_in a) i.3 less known new (drop (a.used + a.next.psks) a.psks.items) (tokens_of placed) turn tokens-next fe fs)
 
       pub unchanged-wrote : turn_from Initiator a.passed ≡ a.means.role
-          → IsKept public_of (record a { used = a.used + a.next.psks; passed = a.passed + 1; next = laid; state = new })
+          → IsKept pairs (record a { used = a.used + a.next.psks; passed = a.passed + 1; next = laid; state = new })
       unchanged-wrote turn = unchanged-next a.remote (knows-wrote (held_in a) i.3 less new (drop (a.used + a.next.psks) a.psks.items) turn)
 
   -- for the parties of the handshake
-  module _ (agreement : K → Own → List ℕ → Option (List ℕ)) (h : HandshakeValue K) (seen : held_in a ≡ h) (v : Party) (s : ValueMatches public_of agreement h v) where
-    matches-in : ValueMatches public_of agreement (held_in a) v
-    matches-in = subst (λ (z : HandshakeValue K). ValueMatches public_of agreement z v) (sym seen) s
+  module _ (h : HandshakeValue K) (seen : held_in a ≡ h) (v : Party) (s : ValueMatches pairs h v) where
+    matches-in : ValueMatches pairs (held_in a) v
+    matches-in = subst (λ (z : HandshakeValue K). ValueMatches pairs z v) (sym seen) s
 
     here : tokens_of placed ≡ tokens_now v
-    here = tokens-next ∙ tokens-are public_of agreement (held_in a) v matches-in
+    here = tokens-next ∙ tokens-are pairs (held_in a) v matches-in
 
     pub trial-next : (state : SymmetricState) → state ≡ a.state → StateMatches state v.history
     trial-next state e = subst (λ (z : SymmetricState). StateMatches z v.history) (sym e) matches-in.history
 
     module _ (ds : List (List ℕ)) (f : ds ≡ a.psks.items) where
       pub listening-next : read_fault h ≡ None
-          → Listening v a.means.role a.means.has_psks (agreement a.means.keys) (take (length ds - a.used) (drop a.used ds)) a.remote (tokens_of placed)
+          → Listening v a.means.role a.means.has_psks (pairs a.means.keys).agree (take (length ds - a.used) (drop a.used ds)) a.remote (tokens_of placed)
       listening-next none =
-          listening public_of agreement (held_in a) v matches-in a.means.has_psks (take (length ds - a.used) (drop a.used ds)) (tokens_of placed)
-          (listens public_of agreement (held_in a) v matches-in i.2.within (none-read public_of a i h seen none)) i.0
+          listening pairs (held_in a) v matches-in a.means.has_psks (take (length ds - a.used) (drop a.used ds)) (tokens_of placed)
+          (listens pairs (held_in a) v matches-in i.2.within (none-read pairs a i h seen none)) i.0
           (items-from ds a.psks.items a.used f) here
 
       pub due-next : (not h.ended && not (h.passed == length h.pattern.messages) && is_turn h.role h.passed) ≡ true
-          → Speaking v a.means.role a.means.has_psks (public_of a.means.keys) (agreement a.means.keys) (take (length ds - a.used) (drop a.used ds)) a.remote (tokens_of placed)
+          → Speaking v a.means.role a.means.has_psks (pairs a.means.keys).public (pairs a.means.keys).agree (take (length ds - a.used) (drop a.used ds)) a.remote (tokens_of placed)
       due-next speaks =
-          due-speaking (held_in a) public_of agreement v matches-in i.2.within (due-in public_of a i h seen speaks) a.means.has_psks
+          due-speaking (held_in a) pairs v matches-in i.2.within (due-in pairs a i h seen speaks) a.means.has_psks
           (take (length ds - a.used) (drop a.used ds)) (tokens_of placed) i.0 (items-from ds a.psks.items a.used f) here
 
       pub speaking-next : (len : ℕ) → write_fault h len ≡ None
-          → Speaking v a.means.role a.means.has_psks (public_of a.means.keys) (agreement a.means.keys) (take (length ds - a.used) (drop a.used ds)) a.remote (tokens_of placed)
+          → Speaking v a.means.role a.means.has_psks (pairs a.means.keys).public (pairs a.means.keys).agree (take (length ds - a.used) (drop a.used ds)) a.remote (tokens_of placed)
       speaking-next len none =
-          speaking public_of (held_in a) i.2 len (none-write public_of a i h seen len none) agreement v matches-in a.means.has_psks
+          speaking pairs (held_in a) i.2 len (none-write pairs a i h seen len none) v matches-in a.means.has_psks
           (take (length ds - a.used) (drop a.used ds)) (tokens_of placed) i.0 (items-from ds a.psks.items a.used f) here
 
     pub after-read : (xs : List (List ℕ)) (payload : List ℕ) (new : SymmetricState) (known : Remote) (laid : MessageLayout)
         → StateMatches new (after_payload a.means.has_psks v.history (tokens_of placed) xs payload) → known ≡ remote_after a.remote (tokens_of placed) xs
-        → ValueMatches public_of agreement
+        → ValueMatches pairs
         (held_in (record a { used = a.used + a.next.psks; passed = a.passed + 1; next = laid; state = new; remote = known }))
         (after_message v xs payload)
     after-read xs payload new known laid t k = search (rules, here, left-next)
 
     pub after-wrote : (len : ℕ) → write_fault h len ≡ None → (xs : List (List ℕ)) (payload : List ℕ) (new : SymmetricState) (laid : MessageLayout)
         → StateMatches new (after_payload a.means.has_psks v.history (tokens_of placed) xs payload)
-        → ValueMatches public_of agreement (held_in (record a { used = a.used + a.next.psks; passed = a.passed + 1; next = laid; state = new }))
+        → ValueMatches pairs (held_in (record a { used = a.used + a.next.psks; passed = a.passed + 1; next = laid; state = new }))
         (after_own v xs payload)
     after-wrote len none xs payload new laid t = search (rules, here, left-next)
 
     pub short-next : (len : ℕ) → write_fault h len ≡ None → overhead_of v.pattern (v.passed + 1) + len ≤ 65535
-    short-next len none = short-view public_of (held_in a) i.2 len (none-write public_of a i h seen len none) agreement v matches-in
+    short-next len none = short-view pairs (held_in a) i.2 len (none-write pairs a i h seen len none) v matches-in
 
 -- one message more has passed
-module _ {K : Type 0} (public_of : K → Own → Option (List ℕ)) (a : Inside K) (i : IsKept public_of a) (less : a.passed < length a.pattern.messages)
+module _ {K : Type 0} (pairs : K → KeyPairs) (a : Inside K) (i : IsKept pairs a) (less : a.passed < length a.pattern.messages)
     (h : HandshakeValue K) (seen : held_in a ≡ h) (has : HasPsks h) (going : a.ended ≡ false) (known : Remote) (new : SymmetricState) (laid : MessageLayout) where
   taken-count : length (take a.next.psks (drop a.used a.psks.items)) ≡ count_by is_psk (tokens_at a.pattern.messages a.passed)
   taken-count =

@@ -3,6 +3,7 @@ use Rattle.std.proofs.Common.{rules, ◌≡◌, ℕ, ◌+◌, ◌<◌, ◌≤◌
 use Rattle.std.specs.Prelude.{if◌then◌else◌}
 use Rattle.noise_handshake.proofs.Common.{Option, None, Some, count_by, ◌==◌, Token, Role, Initiator, is_psk, other, same_role, turn_from, Plan, has_psk, StateMatches, SymmetricState, Own, Remote, Cause, ReadFault, after_payload, Party, Reader, reader, Listens, Reads, Stops, Accepts, Refuses, remote_after, tokens_at, tokens_now, Listening, HandshakeValue, read_fault, is_turn, ValueMatches, DoesNotRead, after_not_read, after_message, ended_party, same_role-true}
 use Rattle.noise_handshake.specs.declared.faults.ReadFault.TheVariants as read
+use Rattle.noise_keys.specs.Keys.{KeyPairs}
 
 -- whose turn it is
 abbrev pub Reported : (ended all ours : Bool) → Option ReadFault → Type 0
@@ -34,8 +35,8 @@ due h w e = search rules
 pub reads-turn : {K : Type 0} (h : HandshakeValue K) → read_fault h ≡ None → turn_from Initiator h.passed ≡ other h.role
 reads-turn h e = search rules
 
-module _ {K : Type 0} (public_of : K → Own → Option (List ℕ)) (agreement : K → Own → List ℕ → Option (List ℕ)) (h : HandshakeValue K) (v : Party)
-    (s : ValueMatches public_of agreement h v) where
+module _ {K : Type 0} (pairs : K → KeyPairs) (h : HandshakeValue K) (v : Party)
+    (s : ValueMatches pairs h v) where
   going : h.ended ≡ false → v.ended ≡ false
   going e = sym s.ended ∙ e
 
@@ -58,12 +59,12 @@ module _ {K : Type 0} (public_of : K → Own → Option (List ℕ)) (agreement :
 
   -- where there is a fault the message is declined for it
   pub faulted : (fault : ReadFault) (m : List ℕ) → h.passed ≤ length h.pattern.messages → read_fault h ≡ Some fault
-      → DoesNotRead v m fault × ValueMatches public_of agreement h (after_not_read v fault)
+      → DoesNotRead v m fault × ValueMatches pairs h (after_not_read v fault)
   faulted fault m w e = search rules
     where
       declined : (fault : ReadFault) (m : List ℕ) → h.passed ≤ length h.pattern.messages
           → Reported h.ended (h.passed == length h.pattern.messages) (is_turn h.role h.passed) (Some fault)
-          → DoesNotRead v m fault × ValueMatches public_of agreement h (after_not_read v fault)
+          → DoesNotRead v m fault × ValueMatches pairs h (after_not_read v fault)
       declined read.Ended m w t = (going-to t, s) where
         going-to : h.ended ≡ true → v.ended ≡ true
         going-to e = sym s.ended ∙ e
@@ -83,7 +84,7 @@ module _ {K : Type 0} (public_of : K → Own → Option (List ℕ)) (agreement :
 
   pub listening : (has_psks : Bool) (psks : List (List ℕ)) (tokens : List Token) → Listens v → has_psks ≡ has_psk h.pattern → psks ≡ h.psks
       → tokens ≡ tokens_now v
-      → Listening v h.role has_psks (agreement h.keys) psks h.remote tokens
+      → Listening v h.role has_psks (pairs h.keys).agree psks h.remote tokens
   listening has_psks psks tokens l b d e = record {
     listens = l;
     role_is = s.role;
@@ -98,7 +99,7 @@ module _ {K : Type 0} (public_of : K → Own → Option (List ℕ)) (agreement :
       (psks : List (List ℕ)) (passed : ℕ) → has_psks ≡ has_psk h.pattern → tokens ≡ tokens_now v
       → psks ≡ drop (count_by is_psk tokens) h.psks → passed ≡ h.passed + 1 → StateMatches state (after_payload has_psks v.history tokens xs payload)
       → remote ≡ remote_after v.remote tokens xs
-      → ValueMatches public_of agreement (record h { state = state; remote = remote; psks = psks; passed = passed }) (after_message v xs payload)
+      → ValueMatches pairs (record h { state = state; remote = remote; psks = psks; passed = passed }) (after_message v xs payload)
   after has_psks tokens xs payload state remote psks passed b e u n k m = record {
     pattern = s.pattern;
     role = s.role;
@@ -113,7 +114,7 @@ module _ {K : Type 0} (public_of : K → Own → Option (List ℕ)) (agreement :
   }
 
   -- with other psks
-  pub with-psks : (u us : List (List ℕ)) → u ≡ us → ValueMatches public_of agreement (record h { psks = u }) (record v { psks = us })
+  pub with-psks : (u us : List (List ℕ)) → u ≡ us → ValueMatches pairs (record h { psks = u }) (record v { psks = us })
   with-psks u us e = record {
     pattern = s.pattern;
     role = s.role;
@@ -127,7 +128,7 @@ module _ {K : Type 0} (public_of : K → Own → Option (List ℕ)) (agreement :
   }
 
   -- it has ended
-  pub ends : (b : Bool) → b ≡ true → ValueMatches public_of agreement (record h { ended = b }) (ended_party v)
+  pub ends : (b : Bool) → b ≡ true → ValueMatches pairs (record h { ended = b }) (ended_party v)
   ends b e = record {
     pattern = s.pattern;
     role = s.role;

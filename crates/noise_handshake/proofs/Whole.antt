@@ -2,6 +2,7 @@
 use Rattle.std.proofs.Common.{◌≡◌, ℕ, List, Bool, true, false}
 use Rattle.std.specs.Prelude.{not}
 use Rattle.noise_handshake.proofs.Common.{and_from, and_parts, not-true, not_from_false, ◌&&◌, Option, has_key, keyed, nonce_now, Own, HandshakeValue, nonce_due, passed_places}
+use Rattle.noise_keys.specs.Keys.{KeyPairs}
 
 left : (a b : Bool) → (not a && not b) ≡ true → a ≡ false
 left a b e = not-true a (and_parts (not a) (not b) e).0
@@ -12,6 +13,6 @@ right a b e = not-true b (and_parts (not a) (not b) e).1
 both : (a b : Bool) → a ≡ false → b ≡ false → (not a && not b) ≡ true
 both a b e f = and_from (not a) (not b) (not_from_false a e) (not_from_false b f)
 
-module _ {K : Type 0} (public_of : K → Own → Option (List ℕ)) (h : HandshakeValue K) where
+module _ {K : Type 0} (pairs : K → KeyPairs) (h : HandshakeValue K) where
   abbrev pub Keyed : Type 0
   Keyed = (keyed h.state ≡ has_key h.pattern (passed_places h.pattern h.passed)) × (nonce_now h.state ≡ nonce_due h.pattern h.passed)

@@ -5,6 +5,7 @@ use Rattle.noise_handshake.proofs.Common.{nat_tests, Option, None, Some, count_b
 use Rattle.noise_handshake.proofs.Owned.{owned}
 use Rattle.noise_handshake.proofs.Places.{overhead-is}
 use Rattle.noise_handshake.specs.declared.faults.WriteFault.TheVariants as write
+use Rattle.noise_keys.specs.Keys.{KeyPairs}
 
 -- what no fault reports
 record Clear (ended all ours long : Bool) : Type 0 where
@@ -23,7 +24,7 @@ clear false false false long e = absurd (cc)
 clear false false true true e = absurd (cc)
 clear false false true false e = record { going = refl; more = refl; turn = refl; short = refl }
 
-module _ {K : Type 0} (public_of : K → Own → Option (List ℕ)) (h : HandshakeValue K) (s : IsSound public_of h) (len : ℕ) (none : write_fault h len ≡ None) where
+module _ {K : Type 0} (pairs : K → KeyPairs) (h : HandshakeValue K) (s : IsSound pairs h) (len : ℕ) (none : write_fault h len ≡ None) where
   clear-now : Clear h.ended (h.passed == length h.pattern.messages) (is_turn h.role h.passed) (nat_lt 65535 (length_now h len))
   clear-now = clear h.ended (h.passed == length h.pattern.messages) (is_turn h.role h.passed) (nat_lt 65535 (length_now h len)) none
 
@@ -49,12 +50,12 @@ module _ {K : Type 0} (public_of : K → Own → Option (List ℕ)) (h : Handsha
         ∙ sym (overhead-is h.pattern h.passed writes-due)
 
     -- with the keys of its own that it sends
-    pub writes-own : IsTrue (list_all (has_own (public_of h.keys)) tokens)
+    pub writes-own : IsTrue (list_all (has_own (pairs h.keys).public) tokens)
     writes-own =
-        subst (λ (ts : List Token). IsTrue (list_all (has_own (public_of h.keys)) ts)) (sym e)
-        (owned (public_of h.keys) h.pattern h.role h.passed writes-turn s.has_e s.has_s)
+        subst (λ (ts : List Token). IsTrue (list_all (has_own (pairs h.keys).public) ts)) (sym e)
+        (owned (pairs h.keys).public h.pattern h.role h.passed writes-turn s.has_e s.has_s)
 
-  module _ (agreement : K → Own → List ℕ → Option (List ℕ)) (v : Party) (t : ValueMatches public_of agreement h v) where
+  module _ (v : Party) (t : ValueMatches pairs h v) where
     speaks : Speaks v
     speaks = record {
       going = sym t.ended ∙ clear-now.going;
@@ -63,7 +64,7 @@ module _ {K : Type 0} (public_of : K → Own → Option (List ℕ)) (h : Handsha
     }
 
     pub speaking : (has_psks : Bool) (psks : List (List ℕ)) (tokens : List Token) → has_psks ≡ has_psk h.pattern → psks ≡ h.psks → tokens ≡ tokens_now v
-        → Speaking v h.role has_psks (public_of h.keys) (agreement h.keys) psks h.remote tokens
+        → Speaking v h.role has_psks (pairs h.keys).public (pairs h.keys).agree psks h.remote tokens
     speaking has_psks psks tokens b d e = record {
       speaks = speaks;
       role_is = t.role;
@@ -84,7 +85,7 @@ module _ {K : Type 0} (public_of : K → Own → Option (List ℕ)) (h : Handsha
     pub wrote : (has_psks : Bool) (tokens : List Token) (xs : List (List ℕ)) (payload : List ℕ) (state : SymmetricState) (psks : List (List ℕ))
         (passed : ℕ) → has_psks ≡ has_psk h.pattern → tokens ≡ tokens_now v
         → psks ≡ drop (count_by is_psk tokens) h.psks → passed ≡ h.passed + 1 → StateMatches state (after_payload has_psks v.history tokens xs payload)
-        → ValueMatches public_of agreement (record h { state = state; psks = psks; passed = passed }) (after_own v xs payload)
+        → ValueMatches pairs (record h { state = state; psks = psks; passed = passed }) (after_own v xs payload)
     wrote has_psks tokens xs payload state psks passed b e u n k = record {
       pattern = t.pattern;
       role = t.role;

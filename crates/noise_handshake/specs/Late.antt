@@ -11,6 +11,7 @@ use Rattle.noise_handshake.specs.Matching.{ValueMatches}
 use Rattle.noise_handshake.specs.Parts.{IsWholeValue}
 use Rattle.noise_handshake.specs.Party.{Party}
 use Rattle.noise_handshake.specs.Setup.{psks_of, setup_fault}
+use Rattle.noise_keys.specs.Keys.{KeyPairs}
 
 -- the handshake with these psks after those that were handed in
 abbrev pub with_later : {K : Type 0} → HandshakeValue K → List (List ℕ) → HandshakeValue K
@@ -22,10 +23,10 @@ late_fault p role own remote psks =
     setup_fault p role own remote (max psks (psks_of p.messages))
 
 -- A handshake may hold this and the missing psks.
-abbrev pub IsLateWhole : {K : Type 0} → (K → Own → Option (List ℕ)) → HandshakeValue K → Type 0
-IsLateWhole public_of h = (later : List (List ℕ)) × IsWholeValue public_of (with_later h later)
+abbrev pub IsLateWhole : {K : Type 0} → (K → KeyPairs) → HandshakeValue K → Type 0
+IsLateWhole pairs h = (later : List (List ℕ)) × IsWholeValue pairs (with_later h later)
 
 -- With these psks after those that were handed in, the handshake matches the party.
-module _ {K : Type 0} (public_of : K → Own → Option (List ℕ)) (agreement : K → Own → List ℕ → Option (List ℕ)) where
+module _ {K : Type 0} (pairs : K → KeyPairs) where
   abbrev pub MatchesWith : List (List ℕ) → HandshakeValue K → Party → Type 0
-  MatchesWith later h v = ValueMatches public_of agreement (with_later h later) v
+  MatchesWith later h v = ValueMatches pairs (with_later h later) v

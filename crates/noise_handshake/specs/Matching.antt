@@ -16,6 +16,7 @@ use Rattle.noise_handshake.specs.Party.{Party, Listens, Refuses, Speaks, remote_
 use Rattle.noise_handshake.specs.Setup.{psks_of}
 use Rattle.noise_handshake.specs.Writing.{LacksDhResult}
 use Rattle.noise_handshake.specs.HandshakeValue.{HandshakeValue}
+use Rattle.noise_keys.specs.Keys.{KeyPairs}
 
 -- the party after a message that was accepted
 abbrev pub after_message : Party → List (List ℕ) → List ℕ → Party
@@ -51,13 +52,13 @@ abbrev pub IsSupplied : {K : Type 0} → HandshakeValue K → Type 0
 IsSupplied h = length h.psks ≡ psks_of (drop h.passed h.pattern.messages)
 
 -- The handshake matches the party, by the meaning of its keys, and it has all psks.
-module _ {K : Type 0} (public_of : K → Own → Option (List ℕ)) (agreement : K → Own → List ℕ → Option (List ℕ)) where
+module _ {K : Type 0} (pairs : K → KeyPairs) where
   pub record Matches (h : HandshakeValue K) (v : Party) : Type 0 where
     pub pattern : h.pattern ≡ v.pattern
     pub role : h.role ≡ v.role
     pub psks : h.psks ≡ v.psks
-    pub own : public_of h.keys ≡ v.own
-    pub agree : agreement h.keys ≡ v.agree
+    pub own : (pairs h.keys).public ≡ v.own
+    pub agree : (pairs h.keys).agree ≡ v.agree
     pub remote : h.remote ≡ v.remote
     pub passed : h.passed ≡ v.passed
     pub ended : h.ended ≡ v.ended
@@ -69,8 +70,8 @@ module _ {K : Type 0} (public_of : K → Own → Option (List ℕ)) (agreement :
     pub pattern : h.pattern ≡ v.pattern
     pub role : h.role ≡ v.role
     pub psks : h.psks ≡ v.psks
-    pub own : public_of h.keys ≡ v.own
-    pub agree : agreement h.keys ≡ v.agree
+    pub own : (pairs h.keys).public ≡ v.own
+    pub agree : (pairs h.keys).agree ≡ v.agree
     pub remote : h.remote ≡ v.remote
     pub passed : h.passed ≡ v.passed
     pub ended : h.ended ≡ v.ended

@@ -13,6 +13,7 @@ use Rattle.noise_handshake.specs.HandshakeValue.{HandshakeValue}
 use Rattle.noise_handshake.specs.Nonces.{nonce_due}
 use Rattle.noise_handshake.specs.Setup.{lacks_own, psks_of}
 use Rattle.noise_handshake.specs.Passed.{passed_places}
+use Rattle.noise_keys.specs.Keys.{KeyPairs}
 
 -- what these parts and psks hold
 abbrev pub held_of : {K : Type 0} → Parts K → List (List ℕ) → HandshakeValue K
@@ -39,11 +40,11 @@ pub record HasProgress {K : Type 0} (h : HandshakeValue K) (g : Progress) : Type
 -- other party's are known whose tokens stand in its pre-message or in a message that has passed (5.3), there is a
 -- cipher key exactly where the pattern says so (5.2), and its nonce counts the texts that were encrypted under it
 -- (5.1), 0 without a key.
-pub record IsWholeValue {K : Type 0} (public_of : K → Own → Option (List ℕ)) (h : HandshakeValue K) : Type 0 where
+pub record IsWholeValue {K : Type 0} (pairs : K → KeyPairs) (h : HandshakeValue K) : Type 0 where
   pub within : h.passed ≤ length h.pattern.messages
   pub psks : length h.psks ≡ psks_of (drop h.passed h.pattern.messages)
-  pub own_e : lacks_own h.pattern h.role E (public_of h.keys Ephemeral) ≡ false
-  pub own_s : lacks_own h.pattern h.role S (public_of h.keys Static) ≡ false
+  pub own_e : lacks_own h.pattern h.role E ((pairs h.keys).public Ephemeral) ≡ false
+  pub own_s : lacks_own h.pattern h.role S ((pairs h.keys).public Static) ≡ false
   pub remote_e : is_some h.remote.e ≡ is_among (other h.role) E (passed_places h.pattern h.passed)
   pub remote_s : is_some h.remote.s ≡ is_among (other h.role) S (passed_places h.pattern h.passed)
   pub key : keyed h.state ≡ has_key h.pattern (passed_places h.pattern h.passed)

@@ -27,10 +27,10 @@ impl<K: Keys> Handshake<K> {
         requires due { read_fault self.now ≡ None }
         requires within { self.now.passed ≤ length self.now.pattern.messages }
         requires psk { IsPskAfter (tokens_at self.now.pattern.messages self.now.passed) (length self.now.psks) k }
-        ensures wants { (v : Party) (later : List (List ℕ)) → MatchesWith K.public_of K.agreement later self.now v
+        ensures wants { (v : Party) (later : List (List ℕ)) → MatchesWith K.pairs later self.now v
             → let leaves = LeavesUnread v (length self.now.psks) message.now in MatchResult result
             (λ want. leaves (Unread.Wants want)) (λ s. leaves (Unread.Declined (Refused s.token s.cause))) }
-        ensures asked { (v : Party) (later : List (List ℕ)) → MatchesWith K.public_of K.agreement later self.now v
+        ensures asked { (v : Party) (later : List (List ℕ)) → MatchesWith K.pairs later self.now v
             → (remote : Option (List ℕ)) → WantsPskToRead v (length self.now.psks) message.now remote
             → result ≡ Ok (Want.Psk remote) }
     {
@@ -61,10 +61,10 @@ impl<K: Keys> Handshake<K> {
             (λ fault. result ≡ Err (Unread.Declined fault)) }
         ensures state { MatchResult result (λ _. Advances self.old self.new)
             (λ unread. self.new ≡ after_unread self.old unread) }
-        ensures reads { (v : Party) (later : List (List ℕ)) → let matches = MatchesWith K.public_of K.agreement later in
+        ensures reads { (v : Party) (later : List (List ℕ)) → let matches = MatchesWith K.pairs later in
             matches self.old v → MatchResult result (HasReadAt matches v message.old message.new self.new)
             (IsLeftUnread matches v (length self.old.psks) message.old self.new) }
-        ensures asked { (v : Party) (later : List (List ℕ)) → MatchesWith K.public_of K.agreement later self.old v
+        ensures asked { (v : Party) (later : List (List ℕ)) → MatchesWith K.pairs later self.old v
             → (remote : Option (List ℕ)) → WantsPskToRead v (length self.old.psks) message.old remote
             → result ≡ Err (Unread.Wants (Want.Psk remote)) }
     {
@@ -98,10 +98,10 @@ impl<K: Keys> Handshake<K> {
     /// The DH result or psk that reading this message lacks now, as `read_or_ask` returns it. None where it lacks
     /// neither, and where no message is due. Nothing changes.
     pub fn wants_to_read(&self, message: &[u8]) -> Option<Want>
-        ensures wants { (v : Party) (later : List (List ℕ)) → MatchesWith K.public_of K.agreement later self.now v
+        ensures wants { (v : Party) (later : List (List ℕ)) → MatchesWith K.pairs later self.now v
             → MatchOption result ((token : ℕ) → Refuses v message.now token Agreement → ⊥)
             (λ want. LeavesUnread v (length self.now.psks) message.now (Unread.Wants want)) }
-        ensures asked { (v : Party) (later : List (List ℕ)) → MatchesWith K.public_of K.agreement later self.now v
+        ensures asked { (v : Party) (later : List (List ℕ)) → MatchesWith K.pairs later self.now v
             → (remote : Option (List ℕ)) → WantsPskToRead v (length self.now.psks) message.now remote
             → result ≡ Some (Want.Psk remote) }
     {
@@ -126,10 +126,10 @@ impl<K: Keys> Handshake<K> {
     /// The DH result or psk that writing a message lacks now. None where a message is due and lacks neither, and
     /// where none is due. Nothing changes.
     pub fn wants_to_write(&self) -> Option<Want>
-        ensures wants { (v : Party) (later : List (List ℕ)) → MatchesWith K.public_of K.agreement later self.now v
+        ensures wants { (v : Party) (later : List (List ℕ)) → MatchesWith K.pairs later self.now v
             → MatchOption result ((token : ℕ) → LacksDhResult v token → ⊥)
             (λ want. Wants v (length self.now.psks) want) }
-        ensures asked { (v : Party) (later : List (List ℕ)) → MatchesWith K.public_of K.agreement later self.now v
+        ensures asked { (v : Party) (later : List (List ℕ)) → MatchesWith K.pairs later self.now v
             → WantsPskToWrite v (length self.now.psks) → result ≡ Some (Want.Psk self.now.remote.s) }
         ensures psks { speaks_now self.now ≡ true → result ≡ None → HasPsks self.now }
     {
@@ -171,11 +171,11 @@ impl<K: Keys> Handshake<K> {
             (λ unwritten. self.new ≡ after_unwritten self.old unwritten) }
         ensures beyond { IfOk result (λ n. drop n out.new ≡ drop n out.old) }
         ensures asks { IfErr result (λ unwritten. IsWant unwritten → out.new ≡ out.old) }
-        ensures writes { (v : Party) (later : List (List ℕ)) → let matches = MatchesWith K.public_of K.agreement later in
+        ensures writes { (v : Party) (later : List (List ℕ)) → let matches = MatchesWith K.pairs later in
             matches self.old v → MatchResult result (HasWrittenTo matches v payload.now out.new self.new)
             (IsLeftUnwritten matches v (length self.old.psks) (length payload.now) self.new) }
         ensures asked { write_fault self.old (length payload.now) ≡ None → (v : Party) (later : List (List ℕ))
-            → MatchesWith K.public_of K.agreement later self.old v → WantsPskToWrite v (length self.old.psks)
+            → MatchesWith K.pairs later self.old v → WantsPskToWrite v (length self.old.psks)
             → result ≡ Err (Unwritten.Wants (Want.Psk self.old.remote.s)) }
     {
         if let Some(fault) = self.withheld(payload.len()) {

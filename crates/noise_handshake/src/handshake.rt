@@ -50,7 +50,7 @@ impl<K: Keys> Model for Handshake<K> {
 
     ghost view = { held_in };
 
-    ghost invariant = { IsKept K.public_of };
+    ghost invariant = { IsKept K.pairs };
 }
 
 impl<K: Keys> Handshake<K> {
@@ -88,11 +88,11 @@ impl<K: Keys> Handshake<K> {
         psks: &[[u8; 32]],
     ) -> Result<Handshake<K>, SetupFault>
         requires { length prologue.now ≤ 65535 }
-        ensures fault { MatchOption (setup_fault pattern role (K.public_of keys) remote (length psks.now))
+        ensures fault { MatchOption (setup_fault pattern role (K.pairs keys).public remote (length psks.now))
             (IsOk result) (λ fault. result ≡ Err fault) }
         ensures matches { IfOk result
-            (λ h. Matches K.public_of K.agreement h (party_at_start pattern role prologue.now (K.public_of keys)
-            (K.agreement keys) remote psks.now)) }
+            (λ h. Matches K.pairs h (party_at_start pattern role prologue.now (K.pairs keys).public
+            (K.pairs keys).agree remote psks.now)) }
         ensures parts { IfOk result (HasBegun pattern role keys) }
         ensures valid { IsPattern pattern × IsValid pattern }
     {
@@ -116,10 +116,10 @@ impl<K: Keys> Handshake<K> {
         psks: &[[u8; 32]],
     ) -> Result<Handshake<K>, SetupFault>
         requires { length prologue.now ≤ 65535 }
-        ensures fault { MatchOption (late_fault pattern role (K.public_of keys) remote (length psks.now)) (IsOk result)
+        ensures fault { MatchOption (late_fault pattern role (K.pairs keys).public remote (length psks.now)) (IsOk result)
             (λ fault. result ≡ Err fault) }
-        ensures matches { IfOk result (λ h. (later : List (List ℕ)) → MatchesWith K.public_of K.agreement later h
-            (party_at_start pattern role prologue.now (K.public_of keys) (K.agreement keys)
+        ensures matches { IfOk result (λ h. (later : List (List ℕ)) → MatchesWith K.pairs later h
+            (party_at_start pattern role prologue.now (K.pairs keys).public (K.pairs keys).agree
             remote (psks.now ++ later))) }
         ensures parts { IfOk result (HasBegun pattern role keys) }
         ensures psks { IfOk result (λ h. h.psks ≡ psks.now) }
@@ -145,10 +145,10 @@ impl<K: Keys> Handshake<K> {
         psks: ArrayVec<[u8; 32], 9>,
     ) -> Handshake<K>
         requires len { length prologue.now ≤ 65535 }
-        requires right { setup_fault pattern role (K.public_of keys) remote (psks_of pattern.messages) ≡ None }
+        requires right { setup_fault pattern role (K.pairs keys).public remote (psks_of pattern.messages) ≡ None }
         requires few { length psks.items ≤ psks_of pattern.messages }
-        ensures matches { ValueMatches K.public_of K.agreement result
-            (party_at_start pattern role prologue.now (K.public_of keys) (K.agreement keys) remote psks.items) }
+        ensures matches { ValueMatches K.pairs result
+            (party_at_start pattern role prologue.now (K.pairs keys).public (K.pairs keys).agree remote psks.items) }
         ensures parts { HasBegun pattern role keys result }
         ensures psks { result.psks ≡ psks.items }
     {
@@ -196,8 +196,8 @@ impl<K: Keys> Handshake<K> {
         ensures put { IsTrue result → self.new ≡ with_later self.old (psk ∷ []) }
         ensures unchanged { result ≡ false → self.new ≡ self.old }
         ensures matches { IsTrue result → (v : Party) (later : List (List ℕ))
-            → MatchesWith K.public_of K.agreement (psk ∷ later) self.old v
-            → MatchesWith K.public_of K.agreement later self.new v }
+            → MatchesWith K.pairs (psk ∷ later) self.old v
+            → MatchesWith K.pairs later self.new v }
     {
         let due = self.psks_to_come();
         let mut psks = ArrayVec::new();
@@ -217,7 +217,7 @@ impl<K: Keys> Handshake<K> {
     /// given up.
     pub fn progress(&self) -> Progress
         ensures value { HasProgress self.now result }
-        ensures whole { IsLateWhole K.public_of self.now }
+        ensures whole { IsLateWhole K.pairs self.now }
         ensures valid { IsValid self.now.pattern }
     {
         Progress {
@@ -232,7 +232,7 @@ impl<K: Keys> Handshake<K> {
     /// them before.
     pub fn into_parts(self) -> Parts<K>
         ensures value { held_of result self.psks ≡ self }
-        ensures whole { IsLateWhole K.public_of self }
+        ensures whole { IsLateWhole K.pairs self }
     {
         let progress = self.progress();
         Parts {
@@ -251,7 +251,7 @@ impl<K: Keys> Handshake<K> {
     ///
     /// A handshake that was taken apart is put together once: two of them would encrypt at the same nonce.
     pub fn from_parts(parts: Parts<K>, psks: &[[u8; 32]]) -> Option<Handshake<K>>
-        ensures whole { IsSome result ↔ IsLateWhole K.public_of (held_of parts psks.now) }
+        ensures whole { IsSome result ↔ IsLateWhole K.pairs (held_of parts psks.now) }
         ensures value { IfSome result (λ h. h ≡ held_of parts psks.now) }
     {
         if psks.len() > parts.psks_due()? {
@@ -264,7 +264,7 @@ impl<K: Keys> Handshake<K> {
 
     // The handshake that holds these parts and psks.
     fn of_parts(parts: Parts<K>, psks: ArrayVec<[u8; 32], 9>) -> Handshake<K>
-        requires whole { IsLateWhole K.public_of (held_of parts psks.items) }
+        requires whole { IsLateWhole K.pairs (held_of parts psks.items) }
         requires bound { parts.progress.state.nonce ≤ 11 * parts.progress.passed }
         ensures value { result ≡ held_of parts psks.items }
     {
@@ -400,8 +400,8 @@ impl<K: Keys> Handshake<K> {
         ensures beyond { IfOk result (IsSameAround message.old message.new) }
         ensures unchanged { OnErr result (message.new ≡ message.old) }
         ensures state { MatchResult result (λ _. Advances self.old self.new) (λ _. self.new ≡ self.old) }
-        ensures reads { (v : Party) → ValueMatches K.public_of K.agreement self.old v → MatchResult result
-            (HasReadAt (ValueMatches K.public_of K.agreement) v message.old message.new self.new)
+        ensures reads { (v : Party) → ValueMatches K.pairs self.old v → MatchResult result
+            (HasReadAt (ValueMatches K.pairs) v message.old message.new self.new)
             (λ stop. Refuses v message.old stop.token stop.cause × ReadingWants v message.old stop.want) }
     {
         let psks = &self.psks[self.used..];
@@ -440,9 +440,9 @@ impl<K: Keys> Handshake<K> {
         ensures fault { MatchOption (read_fault self.old) (IfErr result IsRefusal) (λ fault. result ≡ Err fault) }
         ensures state { MatchResult result (λ _. Advances self.old self.new)
             (λ fault. self.new ≡ after_read_fault self.old fault) }
-        ensures reads { (v : Party) → Matches K.public_of K.agreement self.old v → MatchResult result
-            (HasReadAt (Matches K.public_of K.agreement) v message.old message.new self.new)
-            (HasNotRead (Matches K.public_of K.agreement) v message.old self.new) }
+        ensures reads { (v : Party) → Matches K.pairs self.old v → MatchResult result
+            (HasReadAt (Matches K.pairs) v message.old message.new self.new)
+            (HasNotRead (Matches K.pairs) v message.old self.new) }
         ensures psks { IfOk result (λ _. HasPsks self.old) }
     {
         if let Some(fault) = self.read_fault() {
@@ -476,9 +476,9 @@ impl<K: Keys> Handshake<K> {
         ensures fault { MatchOption (read_fault self.old) (IfErr result IsRefusal) (λ fault. result ≡ Err fault) }
         ensures state { MatchResult result (λ _. Advances self.old self.new)
             (λ fault. self.new ≡ after_read_fault self.old fault) }
-        ensures reads { (v : Party) → Matches K.public_of K.agreement self.old v → MatchResult result
-            (λ payload. HasRead (Matches K.public_of K.agreement) v message.old payload.now self.new)
-            (HasNotRead (Matches K.public_of K.agreement) v message.old self.new) }
+        ensures reads { (v : Party) → Matches K.pairs self.old v → MatchResult result
+            (λ payload. HasRead (Matches K.pairs) v message.old payload.now self.new)
+            (HasNotRead (Matches K.pairs) v message.old self.new) }
         ensures psks { IfOk result (λ _. HasPsks self.old) }
     {
         let (from, to) = self.read_within(message)?;
@@ -490,7 +490,7 @@ impl<K: Keys> Handshake<K> {
     pub(crate) fn read_lacking(&self, message: &[u8]) -> Option<(Own, [u8; 32])>
         requires due { read_fault self.now ≡ None }
         requires psks { HasPsks self.now }
-        ensures wants { (v : Party) → ValueMatches K.public_of K.agreement self.now v
+        ensures wants { (v : Party) → ValueMatches K.pairs self.now v
             → ReadingWants v message.now result }
     {
         let psks = &self.psks[self.used..];
@@ -507,8 +507,8 @@ impl<K: Keys> Handshake<K> {
     /// The handshake hash (Noise, 11.2), 32 bytes, of the start and the messages that passed, also after the handshake
     /// has ended.
     pub fn hash(&self) -> [u8; 32]
-        ensures hash { (v : Party) → Matches K.public_of K.agreement self.now v → result ≡ hash v.history }
-        ensures late { (v : Party) (later : List (List ℕ)) → MatchesWith K.public_of K.agreement later self.now v
+        ensures hash { (v : Party) → Matches K.pairs self.now v → result ≡ hash v.history }
+        ensures late { (v : Party) (later : List (List ℕ)) → MatchesWith K.pairs later self.now v
             → result ≡ hash v.history }
     {
         self.state.hash()
@@ -537,7 +537,7 @@ impl<K: Keys> Handshake<K> {
     pub(crate) fn withheld(&self, payload_len: usize) -> Option<WriteFault>
         ensures value { result ≡ write_fault self.now payload_len }
         ensures due { result ≡ None → self.now.passed < length self.now.pattern.messages }
-        ensures withholds { (v : Party) → ValueMatches K.public_of K.agreement self.now v
+        ensures withholds { (v : Party) → ValueMatches K.pairs self.now v
             → IfSome result (λ fault. DoesNotWrite v payload_len fault) }
     {
         self.write_fault(payload_len)
@@ -568,9 +568,9 @@ impl<K: Keys> Handshake<K> {
         ensures state { MatchResult result (λ _. Advances self.old self.new)
             (λ fault. self.new ≡ after_write_fault self.old fault) }
         ensures beyond { IfOk result (λ n. drop n out.new ≡ drop n out.old) }
-        ensures writes { (v : Party) → Matches K.public_of K.agreement self.old v → MatchResult result
-            (HasWrittenTo (Matches K.public_of K.agreement) v payload.now out.new self.new)
-            (HasNotWritten (Matches K.public_of K.agreement) v (length payload.now) self.new) }
+        ensures writes { (v : Party) → Matches K.pairs self.old v → MatchResult result
+            (HasWrittenTo (Matches K.pairs) v payload.now out.new self.new)
+            (HasNotWritten (Matches K.pairs) v (length payload.now) self.new) }
         ensures psks { IfOk result (λ _. HasPsks self.old) }
     {
         if let Some(fault) = self.write_fault(payload.len()) {
@@ -594,9 +594,9 @@ impl<K: Keys> Handshake<K> {
         ensures state { MatchResult result (λ _. Advances self.old self.new)
             (λ fault. self.new ≡ after_write_fault self.old fault) }
         ensures beyond { IfOk result (λ n. drop n out.new ≡ drop n out.old) }
-        ensures writes { (v : Party) → ValueMatches K.public_of K.agreement self.old v → MatchResult result
-            (HasWrittenTo (ValueMatches K.public_of K.agreement) v payload.now out.new self.new)
-            (HasNotWritten (ValueMatches K.public_of K.agreement) v (length payload.now) self.new) }
+        ensures writes { (v : Party) → ValueMatches K.pairs self.old v → MatchResult result
+            (HasWrittenTo (ValueMatches K.pairs) v payload.now out.new self.new)
+            (HasNotWritten (ValueMatches K.pairs) v (length payload.now) self.new) }
     {
         let psks = &self.psks[self.used..];
         let mut state = self.state.for_trial();
@@ -639,7 +639,7 @@ impl<K: Keys> Handshake<K> {
     pub(crate) fn write_lacking(&self) -> Option<(Own, [u8; 32])>
         requires due { speaks_now self.now ≡ true }
         requires psks { HasPsks self.now }
-        ensures wants { (v : Party) → ValueMatches K.public_of K.agreement self.now v → WritingWants v result }
+        ensures wants { (v : Party) → ValueMatches K.pairs self.now v → WritingWants v result }
     {
         let psks = &self.psks[self.used..];
         write_lacking(&self.remote, &self.means, psks, &self.next.tokens)
@@ -659,7 +659,7 @@ impl<K: Keys> Handshake<K> {
         requires within { k ≤ length (tokens_at self.now.pattern.messages self.now.passed) }
         requires psks { count_by is_psk (take k (tokens_at self.now.pattern.messages self.now.passed))
             ≤ length self.now.psks }
-        ensures reads { (v : Party) → ValueMatches K.public_of K.agreement self.now v → MatchResult result
+        ensures reads { (v : Party) → ValueMatches K.pairs self.now v → MatchResult result
             (BeginsBefore (reader v) v.remote v.psks v.history (tokens_now v) message.now k)
             (StopsBefore v message.now k) }
     {
@@ -681,7 +681,7 @@ impl<K: Keys> Handshake<K> {
         requires within { k ≤ length (tokens_at self.now.pattern.messages self.now.passed) }
         requires psks { count_by is_psk (take k (tokens_at self.now.pattern.messages self.now.passed))
             ≤ length self.now.psks }
-        ensures wants { (v : Party) → ValueMatches K.public_of K.agreement self.now v
+        ensures wants { (v : Party) → ValueMatches K.pairs self.now v
             → Speaks v × WriterWants (writer v) v.remote v.psks (take k (tokens_now v)) result }
     {
         let psks = &self.psks[self.used..];
@@ -691,8 +691,8 @@ impl<K: Keys> Handshake<K> {
     /// What the handshake leaves once all messages have passed and it hasn't ended; else it comes back as it was.
     pub fn finish(self) -> Result<Opened, Handshake<K>>
         ensures when { IsOk result ↔ ((self.ended ≡ false) × (self.passed ≡ length self.pattern.messages)) }
-        ensures opened { (v : Party) → Matches K.public_of K.agreement self v → IfOk result (λ o. IsOpenedOf o v) }
-        ensures late { (v : Party) (later : List (List ℕ)) → MatchesWith K.public_of K.agreement later self v
+        ensures opened { (v : Party) → Matches K.pairs self v → IfOk result (λ o. IsOpenedOf o v) }
+        ensures late { (v : Party) (later : List (List ℕ)) → MatchesWith K.pairs later self v
             → IfOk result (λ o. IsOpenedOf o v) }
         ensures back { IfErr result (λ h. h ≡ self) }
     {

@@ -89,7 +89,7 @@ pub(crate) fn was_sent(pattern: &Pattern, passed: usize, role: Role, token: Toke
 
 /// The public keys of a party's own.
 pub fn public_keys<K: Keys>(keys: &K) -> Remote
-    ensures { result ≡ public_keys (K.public_of keys.now) }
+    ensures { result ≡ public_keys (K.pairs keys.now).public }
 {
     Remote {
         e: keys.public(Own::Ephemeral),
@@ -106,8 +106,8 @@ pub fn keys_of(party: Role, role: Role, own: &Remote, remote: &Remote) -> Remote
 
 /// Of a party's public keys those of its pre-message, which the other party knows before the first message.
 pub fn shown_before<K: Keys>(pattern: &ValidPattern, party: Role, keys: &K) -> Remote
-    ensures value { result ≡ shown_before pattern.now party (K.public_of keys.now) }
-    ensures len { (own : Own) (key : List ℕ) → K.public_of keys.now own ≡ Some key → length key ≡ 32 }
+    ensures value { result ≡ shown_before pattern.now party (K.pairs keys.now).public }
+    ensures len { (own : Own) (key : List ℕ) → (K.pairs keys.now).public own ≡ Some key → length key ≡ 32 }
 {
     let pre = pattern.pattern().pre(party);
     let own = public_keys(keys);

@@ -44,8 +44,8 @@ pub struct Parts<K> {
 impl<K: Keys> Parts<K> {
     // Whether the party has each key of its own that the pattern has a token for.
     fn has_own(&self) -> bool
-        ensures { result ≡ (not (lacks_own self.now.pattern self.now.role E (K.public_of self.now.keys Own.Ephemeral))
-            && not (lacks_own self.now.pattern self.now.role S (K.public_of self.now.keys Own.Static))) }
+        ensures { result ≡ (not (lacks_own self.now.pattern self.now.role E ((K.pairs self.now.keys).public Own.Ephemeral))
+            && not (lacks_own self.now.pattern self.now.role S ((K.pairs self.now.keys).public Own.Static))) }
     {
         let pattern = self.pattern.pattern();
         !lacks_own(pattern, self.role, &self.keys, Own::Ephemeral)
@@ -92,9 +92,9 @@ impl<K: Keys> Parts<K> {
 
     // How many psks a handshake that holds them has; None where none holds them.
     pub(crate) fn psks_due(&self) -> Option<usize>
-        ensures { MatchOption result ((psks : List (List ℕ)) → IsWholeValue K.public_of (held_of self.now psks) → ⊥)
+        ensures { MatchOption result ((psks : List (List ℕ)) → IsWholeValue K.pairs (held_of self.now psks) → ⊥)
             (λ n. (n ≤ 9) × (self.now.progress.state.nonce ≤ 11 * self.now.progress.passed)
-            × ((psks : List (List ℕ)) → IsWholeValue K.public_of (held_of self.now psks) ↔ (length psks ≡ n))) }
+            × ((psks : List (List ℕ)) → IsWholeValue K.pairs (held_of self.now psks) ↔ (length psks ≡ n))) }
     {
         let due = self.due()?;
         if !self.has_own() {

@@ -123,7 +123,7 @@ fn read_token<K: Keys>(
         ≡ keying_after means.now.has_psks (keying_of state.old known.old) placed.token) }
     ensures unchanged { OnErr result (known.new ≡ known.old) }
     ensures read { (r : History) → StateMatches state.old r
-        → ReadsToken (reader_of K.agreement means.now) r state.new known.old known.new psks.now placed.token
+        → ReadsToken (reader_of K.pairs means.now) r state.new known.old known.new psks.now placed.token
         message.now result }
 {
     match placed.token {
@@ -172,7 +172,7 @@ fn read_tokens<K: Keys>(
     ensures keying { OnOk result (keying_of state.new known.new
         ≡ keying_after_tokens means.now.has_psks (keying_of state.old known.old) (tokens_of placed.now)) }
     ensures read { (r : History) (place : ℕ) → StateMatches state.old r → place ≤ length message.now →
-        ArePlaced means.now.has_psks (keyed state.old) place placed.now → ReadsTokens (reader_of K.agreement means.now)
+        ArePlaced means.now.has_psks (keyed state.old) place placed.now → ReadsTokens (reader_of K.pairs means.now)
         r state.new known.old known.new psks.now (tokens_of placed.now) message.now place result }
 {
     let Some((first, later)) = placed.split_first() else {
@@ -238,7 +238,7 @@ pub(crate) fn read_lacking<K: Keys>(
     requires known { IsTrue (are_known means.now.role (is_some known.now.e) (is_some known.now.s)
         (tokens_of placed.now)) }
     ensures { (r : History) → StateMatches state.now r
-        → ReaderWants (reader_of K.agreement means.now) known.now psks.now r (tokens_of placed.now) message.now result }
+        → ReaderWants (reader_of K.pairs means.now) known.now psks.now r (tokens_of placed.now) message.now result }
 {
     let mut trial = state.for_trial();
     let mut remote_after = *known;
@@ -267,7 +267,7 @@ pub(crate) fn read_before<K: Keys>(
     requires within { k ≤ length placed.now }
     requires few { length placed.now ≤ 10 }
     ensures { (r : History) → StateMatches state.now r
-        → ReadsBefore (reader_of K.agreement means.now) r known.now psks.now (tokens_of placed.now) k
+        → ReadsBefore (reader_of K.pairs means.now) r known.now psks.now (tokens_of placed.now) k
         message.now result }
 {
     let mut trial = state.for_trial();
@@ -308,7 +308,7 @@ pub(crate) fn read_message<K: Keys>(
     ensures keying { OnOk result (keying_of state.new known.new
         ≡ keying_after_message means.now.has_psks (keying_of state.old known.old) (tokens_of placed.now)) }
     ensures read { (r : History) → StateMatches state.old r
-        → ReadsMessage (reader_of K.agreement means.now) r
+        → ReadsMessage (reader_of K.pairs means.now) r
         state.new known.old known.new psks.now (tokens_of placed.now) message.old message.new result }
     ensures unchanged { OnErr result (message.new ≡ message.old) }
 {

@@ -34,7 +34,7 @@ pub fn psk_total(messages: &[Message]) -> usize
 
 // Whether the role has such a key's token in the pattern, and not the key.
 pub(crate) fn lacks_own<K: Keys>(pattern: &Pattern, role: Role, keys: &K, own: Own) -> bool
-    ensures { result ≡ lacks_own pattern.now role (token_of own) (K.public_of keys.now own) }
+    ensures { result ≡ lacks_own pattern.now role (token_of own) ((K.pairs keys.now).public own) }
 {
     sends(pattern, role, token_of(own)) && keys.public(own).is_none()
 }
@@ -65,7 +65,7 @@ pub(crate) fn setup_fault<K: Keys>(
     remote: &Remote,
     psks: usize,
 ) -> Option<SetupFault>
-    ensures fault { result ≡ setup_fault pattern.now role (K.public_of keys.now) remote.now psks }
+    ensures fault { result ≡ setup_fault pattern.now role (K.pairs keys.now).public remote.now psks }
     ensures few { result ≡ None → psks ≤ 9 }
     ensures limits { IsPattern pattern.now }
 {

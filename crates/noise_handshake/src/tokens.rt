@@ -55,7 +55,7 @@ pub(crate) fn asked_at(role: Role, known: &Remote, token: Token) -> Option<(Own,
 
 /// The DH result at a DH token, where there is one.
 pub fn dh_result_at<K: Keys>(keys: &K, role: Role, known: &Remote, token: Token) -> Option<[u8; 32]>
-    ensures { result ≡ dh_result_of (K.agreement keys.now) (own_at role token) (remote_at role known.now token) }
+    ensures { result ≡ dh_result_of (K.pairs keys.now).agree (own_at role token) (remote_at role known.now token) }
 {
     match remote_at(role, known, token) {
         Some(key) => keys.agree(own_at(role, token), &key),

@@ -86,7 +86,7 @@ fn write_token<K: Keys>(
     out: &mut [u8],
 ) -> Option<usize>
     requires psk { token ≡ Token.Psk → 0 < length psks.now }
-    requires own { IsTrue (has_own (K.public_of means.now.keys) token) }
+    requires own { IsTrue (has_own (K.pairs means.now.keys).public token) }
     requires room { token_width (keyed state.old) token ≤ length out.old }
     requires nonces { nonce_now state.old < 2 ^ 64 - 1 }
     ensures width { IfSome result (λ n. n ≡ token_width (keyed state.old) token) }
@@ -95,7 +95,7 @@ fn write_token<K: Keys>(
     ensures counted { IfSome result
         (λ _. nonce_now state.new ≡ nonce_after means.now.has_psks (keyed state.old) (nonce_now state.old) token) }
     ensures written { (r : History) → StateMatches state.old r
-        → WritesToken (writer_of K.public_of K.agreement means.now) r state.new known.now psks.now token
+        → WritesToken (writer_of K.pairs means.now) r state.new known.now psks.now token
         out.new result }
 {
     match token {
@@ -129,7 +129,7 @@ fn write_tokens<K: Keys>(
     out: &mut [u8],
 ) -> Result<usize, usize>
     requires psks { count_by is_psk (tokens_of placed.now) ≤ length psks.now }
-    requires own { IsTrue (list_all (has_own (K.public_of means.now.keys)) (tokens_of placed.now)) }
+    requires own { IsTrue (list_all (has_own (K.pairs means.now.keys).public) (tokens_of placed.now)) }
     requires room { tokens_width means.now.has_psks (keyed state.old) (tokens_of placed.now) ≤ length out.old }
     requires nonces { nonce_now state.old + length (tokens_of placed.now) < 2 ^ 64 - 1 }
     ensures width { MatchResult result (λ n. n ≡ tokens_width means.now.has_psks (keyed state.old)
@@ -142,7 +142,7 @@ fn write_tokens<K: Keys>(
         (λ _. nonce_now state.new ≡ nonce_after_tokens means.now.has_psks (keyed state.old) (nonce_now state.old)
         (tokens_of placed.now)) }
     ensures written { (r : History) → StateMatches state.old r
-        → WritesTokens (writer_of K.public_of K.agreement means.now) r state.new known.now psks.now
+        → WritesTokens (writer_of K.pairs means.now) r state.new known.now psks.now
         (tokens_of placed.now) out.new result }
 {
     let Some((first, later)) = placed.split_first() else {
@@ -166,9 +166,9 @@ fn text_at<K: Keys>(
     token: Token,
 ) -> Option<[u8; 32]>
     requires psk { token ≡ Token.Psk → 0 < length psks.now }
-    requires own { IsTrue (has_own (K.public_of means.now.keys) token) }
+    requires own { IsTrue (has_own (K.pairs means.now.keys).public token) }
     requires known { IsTrue (is_known means.now.role (is_some known.now.e) (is_some known.now.s) token) }
-    ensures text { GivesOrNone (writer_of K.public_of K.agreement means.now) known.now psks.now token result }
+    ensures text { GivesOrNone (writer_of K.pairs means.now) known.now psks.now token result }
     ensures dh { result ≡ None
         → IsTrue (remote_known means.now.role (is_some known.now.e) (is_some known.now.s) token) }
 {
@@ -188,10 +188,10 @@ pub(crate) fn write_lacking<K: Keys>(
     placed: &[PlacedToken],
 ) -> Option<(Own, [u8; 32])>
     requires psks { count_by is_psk (tokens_of placed.now) ≤ length psks.now }
-    requires own { IsTrue (list_all (has_own (K.public_of means.now.keys)) (tokens_of placed.now)) }
+    requires own { IsTrue (list_all (has_own (K.pairs means.now.keys).public) (tokens_of placed.now)) }
     requires known { IsTrue (list_all (is_known means.now.role (is_some known.now.e) (is_some known.now.s))
         (tokens_of placed.now)) }
-    ensures { WriterWants (writer_of K.public_of K.agreement means.now) known.now psks.now (tokens_of placed.now)
+    ensures { WriterWants (writer_of K.pairs means.now) known.now psks.now (tokens_of placed.now)
         result }
 {
     let (first, later) = placed.split_first()?;
@@ -213,11 +213,11 @@ pub(crate) fn write_lacking_before<K: Keys>(
     k: usize,
 ) -> Option<(Own, [u8; 32])>
     requires psks { count_by is_psk (take k (tokens_of placed.now)) ≤ length psks.now }
-    requires own { IsTrue (list_all (has_own (K.public_of means.now.keys)) (tokens_of placed.now)) }
+    requires own { IsTrue (list_all (has_own (K.pairs means.now.keys).public) (tokens_of placed.now)) }
     requires known { IsTrue (list_all (is_known means.now.role (is_some known.now.e) (is_some known.now.s))
         (tokens_of placed.now)) }
     requires within { k ≤ length placed.now }
-    ensures { WriterWants (writer_of K.public_of K.agreement means.now) known.now psks.now
+    ensures { WriterWants (writer_of K.pairs means.now) known.now psks.now
         (take k (tokens_of placed.now)) result }
 {
     write_lacking(known, means, psks, &placed[..k])
@@ -235,7 +235,7 @@ pub(crate) fn write_message<K: Keys>(
     out: &mut [u8],
 ) -> Result<usize, usize>
     requires psks { count_by is_psk (tokens_of placed.now) ≤ length psks.now }
-    requires own { IsTrue (list_all (has_own (K.public_of means.now.keys)) (tokens_of placed.now)) }
+    requires own { IsTrue (list_all (has_own (K.pairs means.now.keys).public) (tokens_of placed.now)) }
     requires room { added_width means.now.has_psks (keyed state.old) (tokens_of placed.now) + length payload.now
         ≤ length out.old }
     requires most { added_width means.now.has_psks (keyed state.old)
@@ -251,7 +251,7 @@ pub(crate) fn write_message<K: Keys>(
         (λ _. nonce_now state.new ≡ nonce_after_message means.now.has_psks (keyed state.old) (nonce_now state.old)
         (tokens_of placed.now)) }
     ensures written { (r : History) → StateMatches state.old r
-        → WritesMessage (writer_of K.public_of K.agreement means.now) r state.new known.now psks.now
+        → WritesMessage (writer_of K.pairs means.now) r state.new known.now psks.now
         (tokens_of placed.now) payload.now out.new result }
 {
     let from = match write_tokens(state, known, means, psks, placed, out) {

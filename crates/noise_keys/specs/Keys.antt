@@ -7,6 +7,12 @@ use Rattle.std.proofs.lemmas.Option.{same_Some}
 use Rattle.noise_keys.specs.declared.keys.Own.{Own}
 use Rattle.noise_keys.specs.declared.keys.Own.TheVariants.{Ephemeral, Static}
 
+-- A party's key pairs, as a handshake sees them: the public key of each, and its DH result to the bytes of a remote
+-- public key, where there are any (Noise 4.1).
+pub record KeyPairs : Type 0 where
+  pub public : Own → Option (List ℕ)
+  pub agree : Own → List ℕ → Option (List ℕ)
+
 -- the one of an ephemeral and a static key that is meant
 abbrev pub key_of : Own → Option (List ℕ) → Option (List ℕ) → Option (List ℕ)
 key_of Ephemeral e s = e

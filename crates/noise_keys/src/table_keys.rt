@@ -98,9 +98,10 @@ impl Keys for TableKeys {
     ghost use Rattle.noise_keys.specs.Keys.{key_of};
     ghost use Rattle.noise_keys.specs.Table.{dh_result_in};
 
-    ghost public_of = { λ keys own. key_of own keys.e keys.s };
-
-    ghost agreement = { λ keys own remote. dh_result_in keys.entries own remote };
+    ghost pairs = { λ keys. record {
+        public = λ own. key_of own keys.e keys.s;
+        agree = λ own remote. dh_result_in keys.entries own remote;
+    } };
 
     fn public(&self, own: Own) -> Option<[u8; 32]> {
         match own {

@@ -19,9 +19,10 @@ pub struct XorKeys {
 impl Keys for XorKeys {
     ghost use Rattle.noise_keys.specs.Keys.{key_of, xor_dh_result};
 
-    ghost public_of = { λ keys own. key_of own keys.e keys.s };
-
-    ghost agreement = { λ keys own remote. xor_dh_result (key_of own keys.e keys.s) remote };
+    ghost pairs = { λ keys. record {
+        public = λ own. key_of own keys.e keys.s;
+        agree = λ own remote. xor_dh_result (key_of own keys.e keys.s) remote;
+    } };
 
     fn public(&self, own: Own) -> Option<[u8; 32]> {
         match own {

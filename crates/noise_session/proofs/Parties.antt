@@ -6,6 +6,7 @@ use Rattle.noise_keys.specs.declared.keys.Own.{Own}
 use Rattle.noise_session.specs.inner.Phases.{ended_in}
 use Rattle.std.proofs.lemmas.Bool.{eq-eqb}
 use Rattle.noise_session.specs.declared.phase.Phase.TheVariants as phase
+use Rattle.noise_keys.specs.Keys.{KeyPairs}
 
 pub progress-handshaking : (v : EndState) → v.party.ended ≡ false → v.party.passed ≢ length v.party.pattern.messages
     → progress_of v ≡ Handshaking v.party.pattern v.party.role v.party.passed
@@ -45,53 +46,53 @@ open-passed v opens =
 pub closed-yet : (v : EndState) → v.party.passed < length v.party.pattern.messages → IsTrue (is_open (progress_of v)) → ⊥
 closed-yet v more opens = let all = open-passed v opens in omega arith
 
-module _ {K : Type 0} (public_of : K → Own → Option (List ℕ)) (agreement : K → Own → List ℕ → Option (List ℕ)) where
-  pub phase-progress : (p : Phase K) (v : EndState) → PhaseMatches public_of agreement p v → progress_in p ≡ progress_of v
+module _ {K : Type 0} (pairs : K → KeyPairs) where
+  pub phase-progress : (p : Phase K) (v : EndState) → PhaseMatches pairs p v → progress_in p ≡ progress_of v
   phase-progress (phase.Handshaking h every) v s = search progress-handshaking
   phase-progress (phase.Open t) v s = search progress-open
   phase-progress (phase.Ended role reported) v s = ap HasEnded s.role ∙ sym (progress-ended_session v s.ended)
 
   -- its step where it takes no bytes now
-  pub phase-idle : (p : Phase K) (v : EndState) (step : Option StepValue) → PhaseMatches public_of agreement p v → idle_step (progress_in p) ≡ step
+  pub phase-idle : (p : Phase K) (v : EndState) (step : Option StepValue) → PhaseMatches pairs p v → idle_step (progress_in p) ≡ step
       → idle_step (progress_of v) ≡ step
   phase-idle p v step s idle = ap idle_step (sym (phase-progress p v s)) ∙ idle
 
   -- the phase of a handshake, and of a transport
-  pub as-handshake : (p : Phase K) (h : HandshakeValue K) (every : ℕ) (v : EndState) → p ≡ phase.Handshaking h every → PhaseMatches public_of agreement p v
-      → HandshakeMatches public_of agreement h every v
-  as-handshake p h every v is s = subst (λ (q : Phase K). PhaseMatches public_of agreement q v) is s
+  pub as-handshake : (p : Phase K) (h : HandshakeValue K) (every : ℕ) (v : EndState) → p ≡ phase.Handshaking h every → PhaseMatches pairs p v
+      → HandshakeMatches pairs h every v
+  as-handshake p h every v is s = subst (λ (q : Phase K). PhaseMatches pairs q v) is s
 
-  pub as-open : (p : Phase K) (t : TransportValue) (v : EndState) → p ≡ phase.Open t → PhaseMatches public_of agreement p v → OpenMatches t v
-  as-open p t v is s = subst (λ (q : Phase K). PhaseMatches public_of agreement q v) is s
+  pub as-open : (p : Phase K) (t : TransportValue) (v : EndState) → p ≡ phase.Open t → PhaseMatches pairs p v → OpenMatches t v
+  as-open p t v is s = subst (λ (q : Phase K). PhaseMatches pairs q v) is s
 
   -- why nothing is written in this phase
-  pub refused-by : (p q : Phase K) (v : EndState) (n : ℕ) (why : Option SendFault) → PhaseMatches public_of agreement p v → p ≡ q
+  pub refused-by : (p q : Phase K) (v : EndState) (n : ℕ) (why : Option SendFault) → PhaseMatches pairs p v → p ≡ q
       → refusal (progress_in q) n ≡ why → refusal (progress_of v) n ≡ why
   refused-by p q v n why s is e = search rules
 
   -- its hash, and the other party's static key
-  phase-hash : (p : Phase K) (v : EndState) → PhaseMatches public_of agreement p v → hash_in p ≡ session_hash v
+  phase-hash : (p : Phase K) (v : EndState) → PhaseMatches pairs p v → hash_in p ≡ session_hash v
   phase-hash (phase.Handshaking h every) v s = sym (no-hash v s.more)
   phase-hash (phase.Open t) v s = ap (λ (h : List ℕ). Some h) s.transport.hash ∙ sym (whole-hash v s.all)
   phase-hash (phase.Ended role reported) v s = s.hash
 
-  phase-remote : (p : Phase K) (v : EndState) → PhaseMatches public_of agreement p v → remote_static_in p ≡ session_remote_static v
+  phase-remote : (p : Phase K) (v : EndState) → PhaseMatches pairs p v → remote_static_in p ≡ session_remote_static v
   phase-remote (phase.Handshaking h every) v s = rw (s.going, s.party.remote) refl
   phase-remote (phase.Open t) v s = rw (s.going, s.transport.remote_static) refl
   phase-remote (phase.Ended role reported) v s = rw s.ended refl
 
-  pub end-reported : (e : EndValue K) (v : EndState) → EndMatches public_of agreement e v → IsReportedBy v e
+  pub end-reported : (e : EndValue K) (v : EndState) → EndMatches pairs e v → IsReportedBy v e
   end-reported e v s = search (phase-progress, phase-hash, phase-remote)
 
   -- what is held of a frame doesn't count
-  pub phase-partial : (p : Phase K) (v : EndState) (partial : List ℕ) → PhaseMatches public_of agreement p v
-      → PhaseMatches public_of agreement p (record v { partial = partial })
+  pub phase-partial : (p : Phase K) (v : EndState) (partial : List ℕ) → PhaseMatches pairs p v
+      → PhaseMatches pairs p (record v { partial = partial })
   phase-partial (phase.Handshaking h every) v partial s = search
   phase-partial (phase.Open t) v partial s = record { going = s.going; all = s.all; transport = s.transport }
   phase-partial (phase.Ended role reported) v partial s = record { ended = s.ended; role = s.role; hash = s.hash }
 
   -- what is left of it where the session ends
-  pub phase-ended : (p : Phase K) (v : EndState) → PhaseMatches public_of agreement p v → PhaseMatches public_of agreement (ended_in p) (ended_session v)
+  pub phase-ended : (p : Phase K) (v : EndState) → PhaseMatches pairs p v → PhaseMatches pairs (ended_in p) (ended_session v)
   phase-ended (phase.Handshaking h every) v s = record { ended = refl; role = s.party.role; hash = sym (no-hash v s.more) }
   phase-ended (phase.Open t) v s = search whole-hash
   phase-ended (phase.Ended role reported) v s = record { ended = refl; role = s.role; hash = s.hash }

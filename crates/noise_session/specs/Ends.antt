@@ -12,6 +12,7 @@ use Rattle.noise_session.specs.declared.phase.Phase.TheVariants as phase
 use Rattle.noise_session.specs.TransportValue.{TransportValue, TransportState, TransportMatches, transport_of}
 use Rattle.noise_session.specs.Progress.{Progress}
 use Rattle.noise_session.specs.Progress.Progress.{Handshaking, Open, HasEnded}
+use Rattle.noise_keys.specs.Keys.{KeyPairs}
 
 -- an end as contracts see it: a handshake, with the interval of the transport that it leads to; its transport; or what
 -- is left of it
@@ -93,10 +94,10 @@ pub record EndedMatches (left : Role) (reported : Option (List ℕ)) (v : EndSta
   pub hash : reported ≡ session_hash v
 
 -- The end matches the state, by the meaning of its keys.
-module _ {K : Type 0} (public_of : K → Own → Option (List ℕ)) (agreement : K → Own → List ℕ → Option (List ℕ)) where
+module _ {K : Type 0} (pairs : K → KeyPairs) where
   -- its handshake, of which messages are to come
   pub record HandshakeMatches (h : HandshakeValue K) (every : ℕ) (v : EndState) : Type 0 where
-    pub party : Matches public_of agreement h v.party
+    pub party : Matches pairs h v.party
     pub interval : every ≡ v.interval
     pub going : v.party.ended ≡ false
     pub more : v.party.passed ≢ length v.party.pattern.messages

@@ -11,6 +11,7 @@ use Rattle.noise_session.specs.Steps.StepValue.{More}
 use Rattle.noise_session.specs.Progress.{idle_step}
 use Rattle.noise_session.specs.Ends.{EndValue, EndState, EndMatches, progress_of}
 use Rattle.noise_session.specs.Taking.{Takes}
+use Rattle.noise_keys.specs.Keys.{KeyPairs}
 
 -- An end reads these bytes: none where it doesn't listen, else the missing ones of one frame. Where the input ends, or
 -- a read fails, it keeps those that came; an end of the input between frames is none of a frame.
@@ -37,11 +38,11 @@ after_receiving failures (Ok x) = failures
 after_receiving failures (Err CutShort) = failures
 after_receiving failures (Err Input) = one_more failures
 
-module _ {K : Type 0} (public_of : K → Own → Option (List ℕ)) (agreement : K → Own → List ℕ → Option (List ℕ)) where
+module _ {K : Type 0} (pairs : K → KeyPairs) where
   -- An end reads bytes of a reader, with what the reader has left before and after: as every state receives them that
   -- the end matches, and then it matches the state after them.
   abbrev pub EndReceives : EndValue K → Option (List ℕ) → Result (Option StepValue) ReceiveFault → Option (List ℕ)
       → EndValue K → Type 0
-  EndReceives old before result after new = (v : EndState) → EndMatches public_of agreement old v
+  EndReceives old before result after new = (v : EndState) → EndMatches pairs old v
       → (bytes : List ℕ) × (next : EndState) × Receives v bytes result next × Consumes before after bytes
-      × EndMatches public_of agreement new next
+      × EndMatches pairs new next

@@ -7,6 +7,7 @@ use Rattle.noise_session.specs.declared.faults.SendFault.TheVariants as fault
 use Rattle.noise_session.specs.Counting.{one_more}
 use Rattle.noise_session.specs.Ends.{EndValue, EndState, EndMatches, ended_session}
 use Rattle.noise_session.specs.Sending.{Sends}
+use Rattle.noise_keys.specs.Keys.{KeyPairs}
 
 -- The bytes that a writer takes of a payload: its whole frame, or the first bytes of it where a write fails, which ends
 -- the session; none where the payload isn't written.
@@ -24,11 +25,11 @@ abbrev pub after_output : ℕ → Result ℕ SendFault → ℕ
 after_output failures (Err (fault.Output written)) = one_more failures
 after_output failures _ = failures
 
-module _ {K : Type 0} (public_of : K → Own → Option (List ℕ)) (agreement : K → Own → List ℕ → Option (List ℕ)) where
+module _ {K : Type 0} (pairs : K → KeyPairs) where
   -- An end puts out a payload to a writer, with what the writer has before and after: as every state does that the end
   -- matches, and then it matches the state after it.
   abbrev pub EndPuts : EndValue K → List ℕ → Option (List ℕ) → Result ℕ SendFault → Option (List ℕ) → EndValue K
       → Type 0
-  EndPuts old payload before result after new = (v : EndState) → EndMatches public_of agreement old v
+  EndPuts old payload before result after new = (v : EndState) → EndMatches pairs old v
       → (bytes : List ℕ) × (next : EndState) × Puts v payload result bytes next × Appends before after bytes
-      × EndMatches public_of agreement new next
+      × EndMatches pairs new next

@@ -10,6 +10,7 @@ use Rattle.noise_session.specs.Transport.{transport_message}
 use Rattle.noise_session.specs.Progress.{Progress, is_open, refusal, frame_len_of}
 use Rattle.noise_session.specs.Faults.{ends}
 use Rattle.noise_session.specs.Ends.{EndValue, EndState, EndMatches, progress, progress_of, ended_session}
+use Rattle.noise_keys.specs.Keys.{KeyPairs}
 
 -- what a fault leaves: some end the session, the others change nothing
 abbrev pub after_fault : EndState → SendFault → EndState
@@ -41,14 +42,14 @@ abbrev pub IsRefused : Progress → List ℕ → List ℕ → Result ℕ SendFau
 IsRefused p payload out result written =
     MatchOption (refusal p (length payload)) ⊤ (λ why. (result ≡ Err why) × (written ≡ out))
 
-module _ {K : Type 0} (public_of : K → Own → Option (List ℕ)) (agreement : K → Own → List ℕ → Option (List ℕ)) where
+module _ {K : Type 0} (pairs : K → KeyPairs) where
   -- An end makes a frame of a payload, or a fault: as every state does that the end matches, and then it matches
   -- the state after it.
   abbrev pub EndSends : EndValue K → List ℕ → Result (List ℕ) SendFault → EndValue K → Type 0
-  EndSends old payload (Ok frame) new = (v : EndState) → EndMatches public_of agreement old v
-      → (next : EndState) × Sends v payload (Ok frame) next × EndMatches public_of agreement new next
-  EndSends old payload (Err why) new = (v : EndState) → EndMatches public_of agreement old v
-      → Sends v payload (Err why) (after_fault v why) × EndMatches public_of agreement new (after_fault v why)
+  EndSends old payload (Ok frame) new = (v : EndState) → EndMatches pairs old v
+      → (next : EndState) × Sends v payload (Ok frame) next × EndMatches pairs new next
+  EndSends old payload (Err why) new = (v : EndState) → EndMatches pairs old v
+      → Sends v payload (Err why) (after_fault v why) × EndMatches pairs new (after_fault v why)
 
   -- An end writes a payload as a frame into the first bytes of a buffer `out`, which is `written` after it.
   pub record WritesInto (old : EndValue K) (payload out : List ℕ) (result : Result ℕ SendFault) (written : List ℕ)

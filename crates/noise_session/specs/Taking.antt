@@ -12,6 +12,7 @@ use Rattle.noise_session.specs.Steps.StepValue.{More, Payload, Dropped, Refused,
 use Rattle.noise_session.specs.Progress.{is_open, idle_step}
 use Rattle.noise_keys.specs.declared.keys.Own.{Own}
 use Rattle.noise_session.specs.Ends.{EndValue, EndState, EndMatches, progress_of, ended_session}
+use Rattle.noise_keys.specs.Keys.{KeyPairs}
 
 -- A whole message comes to an end that listens. A refused handshake message ends the session; a refused transport
 -- message is dropped.
@@ -42,9 +43,9 @@ pub data Takes : EndState → List ℕ → ℕ → StepValue → EndState → Ty
       → v.partial ++ piece ≡ frame message ++ rest → length message ≤ 65535 → taken + length rest ≡ length piece
       → Judges v message step next → Takes v piece taken step next
 
-module _ {K : Type 0} (public_of : K → Own → Option (List ℕ)) (agreement : K → Own → List ℕ → Option (List ℕ)) where
+module _ {K : Type 0} (pairs : K → KeyPairs) where
   -- An end takes so many bytes of a piece, with this step: as every state takes them that the end matches, and then
   -- it matches the state after them.
   abbrev pub EndTakes : EndValue K → List ℕ → ℕ → StepValue → EndValue K → Type 0
-  EndTakes old piece taken step new = (v : EndState) → EndMatches public_of agreement old v
-      → (next : EndState) × Takes v piece taken step next × EndMatches public_of agreement new next
+  EndTakes old piece taken step new = (v : EndState) → EndMatches pairs old v
+      → (next : EndState) × Takes v piece taken step next × EndMatches pairs new next

@@ -67,8 +67,8 @@ impl<K: Keys> End<K> {
     /// It reserves two buffers of 65537 bytes, which no later call grows. At Err the handshake is gone.
     pub fn new(alloc: Global, handshake: Handshake<K>, interval: u64) -> Result<End<K>, AllocError>
         requires going { handshake.ended ≡ false }
-        ensures matches { (v : Party) → Matches K.public_of K.agreement handshake v
-            → IfOk result (λ end. EndMatches K.public_of K.agreement end (end_of v interval)) }
+        ensures matches { (v : Party) → Matches K.pairs handshake v
+            → IfOk result (λ end. EndMatches K.pairs end (end_of v interval)) }
     {
         let phase = Phase::after(handshake, interval);
         End::begin(alloc, phase)
@@ -141,7 +141,7 @@ impl<K: Keys> End<K> {
         ensures partial { IsPartial self.old.partial }
         ensures count { result.0 ≤ length piece.now }
         ensures* takes { sem 𝓛 (Lends K.row K.Keys self.entry (λ next.
-            EndTakes K.public_of K.agreement self.old piece.now result.0 (step_value result.1) next)) }
+            EndTakes K.pairs self.old piece.now result.0 (step_value result.1) next)) }
     {
         let (count, outcome) = self.state.take(piece);
         (count, step_in(self.state.incoming.message(), outcome))
@@ -159,7 +159,7 @@ impl<K: Keys> End<K> {
         ensures end { is_end result ≡ true → IsAtEnd (R.remaining (inner_of from.new)) }
         ensures failures { failures_of from.new ≡ after_receiving (failures_of from.old) result }
         ensures* receives { sem 𝓛 (Lends K.row K.Keys self.entry (λ next.
-            EndReceives K.public_of K.agreement self.old (R.remaining (inner_of from.old)) (step_value_of result)
+            EndReceives K.pairs self.old (R.remaining (inner_of from.old)) (step_value_of result)
             (R.remaining (inner_of from.new)) next)) }
     {
         match self.state.receive(from)? {
@@ -182,7 +182,7 @@ impl<K: Keys> End<K> {
     /// and leaves open what `out` holds; an exhausted nonce ends the session; the other faults change nothing.
     pub fn write_into(&mut self, payload: &[u8], out: &mut [u8]) -> Result<usize, SendFault>
         requires room { ForSome (frame_len_of (progress self.old) (length payload.now)) (λ n. n ≤ length out.old) }
-        ensures writes { WritesInto K.public_of K.agreement self.old payload.now out.old result out.new self.new }
+        ensures writes { WritesInto K.pairs self.old payload.now out.old result out.new self.new }
     {
         self.state.send(payload, out)
     }
@@ -198,7 +198,7 @@ impl<K: Keys> End<K> {
         out: &mut Counted<W>,
     ) -> Result<usize, SendFault>
         ensures failures { failures_of out.new ≡ after_output (failures_of out.old) result }
-        ensures writes { EndPuts K.public_of K.agreement self.old payload.now (W.contents (inner_of out.old)) result
+        ensures writes { EndPuts K.pairs self.old payload.now (W.contents (inner_of out.old)) result
             (W.contents (inner_of out.new)) self.new }
     {
         let len = self.state.send(payload, &mut self.outgoing)?;
@@ -229,7 +229,7 @@ impl<K: Keys> End<K> {
     /// rekeyed, whatever its interval is.
     pub fn into_datagrams(self, window: Window) -> Datagrams
         requires ready { is_datagram_ready self ≡ true }
-        ensures matches { (v : EndState) → EndMatches K.public_of K.agreement self v
+        ensures matches { (v : EndState) → EndMatches K.pairs self v
             → DatagramsMatch result (datagrams_of v.party window) }
     {
         let state = self.state;

@@ -86,7 +86,7 @@ pub fn written_is_received()
 
 /// A party's stage, hash and remote static key are those of every state that it matches.
 pub fn end_is_reported<K: Keys>()
-    ensures { (e : EndValue K) (v : EndState) → EndMatches K.public_of K.agreement e v → IsReportedBy v e }
+    ensures { (e : EndValue K) (v : EndState) → EndMatches K.pairs e v → IsReportedBy v e }
 {}
 
 /// Over every list of calls each nonce is opened at most once.

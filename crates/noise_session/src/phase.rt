@@ -37,9 +37,9 @@ impl<K: Keys> Phase<K> {
         requires going { handshake.ended ≡ false }
         ensures due { IsTrue (is_due result) }
         ensures going { is_ended result ≡ false }
-        ensures matches { (v : EndState) → Matches K.public_of K.agreement handshake v.party → interval ≡ v.interval
+        ensures matches { (v : EndState) → Matches K.pairs handshake v.party → interval ≡ v.interval
             → v.sent ≡ 0 → v.received ≡ 0
-            → PhaseMatches K.public_of K.agreement result v }
+            → PhaseMatches K.pairs result v }
     {
         match handshake.finish() {
             Ok(opened) => Phase::Open(Transport::new(opened, interval)),
@@ -55,8 +55,8 @@ impl<K: Keys> Phase<K> {
         requires handshake { IsHandshake self.old }
         ensures due { IsTrue (is_due self.new) }
         ensures going { is_ended self.new ≡ false }
-        ensures matches { (v : EndState) → GoesOnAs K.public_of K.agreement self.old v
-            → PhaseMatches K.public_of K.agreement self.new v }
+        ensures matches { (v : EndState) → GoesOnAs K.pairs self.old v
+            → PhaseMatches K.pairs self.new v }
     {
         let ended = self.ended();
         match mem::replace(self, ended) {
@@ -167,9 +167,9 @@ impl<K: Keys> Phase<K> {
         requires short { length message.old ≤ 65535 }
         ensures due { IsTrue (is_due self.new) }
         ensures place { MatchesIn message.new result }
-        ensures judges { (v : EndState) → PhaseMatches K.public_of K.agreement self.old v
+        ensures judges { (v : EndState) → PhaseMatches K.pairs self.old v
             → (next : EndState) × Judges v message.old (reported_in message.new result) next
-            × PhaseMatches K.public_of K.agreement self.new next × (next.partial ≡ []) }
+            × PhaseMatches K.pairs self.new next × (next.partial ≡ []) }
     {
         match self {
             Phase::Handshaking { handshake, .. } => match handshake.read_within(message) {

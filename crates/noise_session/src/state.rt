@@ -61,7 +61,7 @@ impl<K: Keys> State<K> {
         ensures partial { IsPartial (partial_of self.old.incoming) }
         ensures count { result.0 ≤ length piece.now }
         ensures place { MatchesIn (message_in self.new) result.1 }
-        ensures takes { EndTakes K.public_of K.agreement (end_in self.old) piece.now result.0
+        ensures takes { EndTakes K.pairs (end_in self.old) piece.now result.0
             (reported_in (message_in self.new) result.1) (end_in self.new) }
     {
         if let Some(step) = self.phase.idle() {
@@ -82,7 +82,7 @@ impl<K: Keys> State<K> {
         ensures unread { IsSome (idle_step (progress_in self.old.phase)) → from.new ≡ from.old }
         ensures end { is_end result ≡ true → IsAtEnd (R.remaining (inner_of from.new)) }
         ensures failures { failures_of from.new ≡ after_receiving (failures_of from.old) result }
-        ensures receives { EndReceives K.public_of K.agreement (end_in self.old) (R.remaining (inner_of from.old))
+        ensures receives { EndReceives K.pairs (end_in self.old) (R.remaining (inner_of from.old))
             (received_in (message_in self.new) result) (R.remaining (inner_of from.new)) (end_in self.new) }
     {
         if let Some(step) = self.phase.idle() {
@@ -111,7 +111,7 @@ impl<K: Keys> State<K> {
         ensures beyond { IfOk result (λ n. drop n out.new ≡ drop n out.old) }
         ensures refused { IsRefused (progress_in self.old.phase) payload.now out.old result out.new }
         ensures failures { IfErr result (λ fault. (failures : ℕ) → after_output failures (Err fault) ≡ failures) }
-        ensures sends { EndSends K.public_of K.agreement (end_in self.old) payload.now (framed_in out.new result)
+        ensures sends { EndSends K.pairs (end_in self.old) payload.now (framed_in out.new result)
             (end_in self.new) }
     {
         match &mut self.phase {
@@ -148,7 +148,7 @@ impl<K: Keys> State<K> {
         requires room { ForSome (frame_len_of (progress_in self.old.phase) (length payload.now))
             (λ n. n ≤ length out.old) }
         ensures failures { IfErr result (λ fault. (failures : ℕ) → after_output failures (Err fault) ≡ failures) }
-        ensures writes { WritesInto K.public_of K.agreement (end_in self.old) payload.now out.old result out.new
+        ensures writes { WritesInto K.pairs (end_in self.old) payload.now out.old result out.new
             (end_in self.new) }
     {
         let start = out.len().min(2);
@@ -169,9 +169,9 @@ fn read<K: Keys>(phase: &mut Phase<K>, incoming: &mut Frame) -> Outcome
     ensures place { MatchesIn (drop 2 incoming.new.buffer.items) result }
     ensures spelled { partial_of incoming.old ≡ frame (drop 2 (partial_of incoming.old)) }
     ensures short { length (drop 2 (partial_of incoming.old)) ≤ 65535 }
-    ensures judges { (v : EndState) → PhaseMatches K.public_of K.agreement phase.old v → (next : EndState)
+    ensures judges { (v : EndState) → PhaseMatches K.pairs phase.old v → (next : EndState)
         × Judges v (drop 2 (partial_of incoming.old)) (reported_in (drop 2 incoming.new.buffer.items) result) next
-        × PhaseMatches K.public_of K.agreement phase.new next × (next.partial ≡ []) }
+        × PhaseMatches K.pairs phase.new next × (next.partial ≡ []) }
 {
     let end = incoming.clear();
     phase.read(&mut incoming.buffer[2..end])

@@ -12,13 +12,14 @@ use Rattle.noise_duel.specs.Networks.{HaveOneHistory, HaveClash, PayloadsAgree}
 use Rattle.noise_duel.specs.Sides.{Sides}
 use Rattle.noise_theorems.specs.Agreement.{HaveAgreed}
 use Rattle.noise_theorems.specs.Entries.{EntriesAgree, KeysMeet}
+use Rattle.noise_keys.specs.Keys.{KeyPairs}
 
-module _ {K : Type 0} (public_of : K → Own → Option (List ℕ)) (agreement : K → Own → List ℕ → Option (List ℕ)) where
+module _ {K : Type 0} (pairs : K → KeyPairs) where
   pub all-agreed : (p : Plan) (interval : ℕ) (events : List Event) (duel : DuelValue K K) (report : Report) (last : Sides)
       → (HaveOneHistory last ⊎ HaveClash last) → (PayloadsAgree interval last ⊎ HaveClash last)
       → (EntriesAgree p interval events (notes_of report.entries.items) (bytes_of report.initiator.items) (bytes_of report.responder.items) last
       ⊎ HaveClash last) → (KeysMeet events (notes_of report.entries.items) duel ⊎ HaveClash last)
-      → HaveAgreed public_of agreement p interval events duel report last ⊎ HaveClash last
+      → HaveAgreed pairs p interval events duel report last ⊎ HaveClash last
   all-agreed p interval events duel report last (inl one) (inl same) (inl all) (inl keys) =
       inl (record { history = one; payloads = same; entries = all; keys = keys })
   all-agreed p interval events duel report last (inr clash) f g h = inr clash

@@ -13,6 +13,7 @@ use Rattle.noise_theorems.specs.Entries.{turns_of, ForgedFrame, PrefixOrForgedFr
 use Rattle.noise_theorems.proofs.Payloads.{Unchanged, ends-unchanged, payloads-are-reported}
 use Rattle.noise_theorems.proofs.Places.{placed}
 use Rattle.noise_session.specs.declared.phase.Phase.TheVariants as phase
+use Rattle.noise_keys.specs.Keys.{KeyPairs}
 
 -- ---- lists
 
@@ -180,13 +181,13 @@ module _ (framed : EndsFrame) (one : PsksMakeOne) (come : PayloadsCome) where
 
 -- ---- keys
 
-module _ {K : Type 0} (public_of : K → Own → Option (List ℕ)) (agreement : K → Own → List ℕ → Option (List ℕ)) where
-  sending-key : (x : Phase K) (v : EndState) (k : List ℕ) → PhaseMatches public_of agreement x v → send_key_in x ≡ Some k
+module _ {K : Type 0} (pairs : K → KeyPairs) where
+  sending-key : (x : Phase K) (v : EndState) (k : List ℕ) → PhaseMatches pairs x v → send_key_in x ≡ Some k
       → k ≡ transport_key v.party.history v.party.role v.interval v.sent
   sending-key (phase.Open t) v k s e = let is = s.transport.sender.key in cc
   sending-key _ v k s e = absurd (cc)
 
-  receiving-key : (x : Phase K) (v : EndState) (k : List ℕ) → PhaseMatches public_of agreement x v → receive_key_in x ≡ Some k
+  receiving-key : (x : Phase K) (v : EndState) (k : List ℕ) → PhaseMatches pairs x v → receive_key_in x ≡ Some k
       → k ≡ transport_key v.party.history (other v.party.role) v.interval v.received
   receiving-key (phase.Open t) v k s e = let is = s.transport.receiver.key in cc
   receiving-key _ v k s e = absurd (cc)
@@ -201,9 +202,9 @@ keys-same : (v w : EndState) (k l : List ℕ) → k ≡ transport_key v.party.hi
     → w.party.history ≡ v.party.history → other w.party.role ≡ v.party.role → w.interval ≡ v.interval → w.received ≡ v.sent → l ≡ k
 keys-same v w k l e f history role interval count = cc
 
-module _ {A B : Type 0} (public_a : A → Own → Option (List ℕ)) (agreement_a : A → Own → List ℕ → Option (List ℕ))
-    (public_b : B → Own → Option (List ℕ)) (agreement_b : B → Own → List ℕ → Option (List ℕ)) (stand : EndsComeOfMessages) (one : PsksMakeOne) where
-  pub keys-come : KeysCome public_a agreement_a public_b agreement_b
+module _ {A B : Type 0} (pairs_a : A → KeyPairs)
+    (pairs_b : B → KeyPairs) (stand : EndsComeOfMessages) (one : PsksMakeOne) where
+  pub keys-come : KeysCome pairs_a pairs_b
   keys-come p a b interval events notes d duel run matches hashes psks =
       elim (one p a b interval interval events notes d run hashes psks) [
         | inr clash ↦ inr clash
@@ -218,16 +219,16 @@ module _ {A B : Type 0} (public_a : A → Own → Option (List ℕ)) (agreement_
           let same : d.responder.state.interval ≡ d.initiator.state.interval = s.1.interval_is ∙ sym s.0.interval_is in
           record {
             there = λ e k l f g. keys-same d.initiator.state d.responder.state k l
-                (sending-key public_a agreement_a duel.initiator.phase d.initiator.state k matches.initiator.phase f)
-                (receiving-key public_b agreement_b duel.responder.phase d.responder.state l matches.responder.phase g)
+                (sending-key pairs_a duel.initiator.phase d.initiator.state k matches.initiator.phase f)
+                (receiving-key pairs_b duel.responder.phase d.responder.state l matches.responder.phase g)
                 (sym history.history) (ap other n.1.role_is ∙ sym n.0.role_is) same
                 (as-many (own_payloads Initiator 0 d.initiator.passed) (written_by Initiator events notes) (reported_to Responder notes)
                 d.initiator.sent d.responder.received d.initiator.state.sent d.responder.state.received t.0.written
                 (t.1.reported ∙ ap (λ (ms : List HandshakeMessage). own_payloads Initiator 0 ms ++ contents d.responder.received) (sym history.passed))
                 e s.0.sending s.1.receiving);
             back = λ e k l f g. keys-same d.responder.state d.initiator.state k l
-                (sending-key public_b agreement_b duel.responder.phase d.responder.state k matches.responder.phase f)
-                (receiving-key public_a agreement_a duel.initiator.phase d.initiator.state l matches.initiator.phase g)
+                (sending-key pairs_b duel.responder.phase d.responder.state k matches.responder.phase f)
+                (receiving-key pairs_a duel.initiator.phase d.initiator.state l matches.initiator.phase g)
                 history.history (ap other n.0.role_is ∙ sym n.1.role_is) (sym same)
                 (as-many (own_payloads Responder 0 d.responder.passed) (written_by Responder events notes) (reported_to Initiator notes)
                 d.responder.sent d.initiator.received d.responder.state.sent d.initiator.state.received t.1.written

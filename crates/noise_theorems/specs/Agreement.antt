@@ -17,8 +17,9 @@ use Rattle.noise_theorems.specs.declared.fault.ConversationFault.{ConversationFa
 use Rattle.noise_theorems.specs.Entries.{EntriesAgree, KeysMeet}
 use Rattle.noise_theorems.specs.Payloads.{ReportsPayloads}
 use Rattle.noise_theorems.specs.Setup.{BothStarts, IsReportedFault, fault_of}
+use Rattle.noise_keys.specs.Keys.{KeyPairs}
 
-module _ {K : Type 0} (public_of : K → Own → Option (List ℕ)) (agreement : K → Own → List ℕ → Option (List ℕ)) where
+module _ {K : Type 0} (pairs : K → KeyPairs) where
   -- Two ends have one history after a run; what each accepted is the first of what the other wrote, up to a forged
   -- message, in the run and by the report's own entries and frames; and the ends left hold the keys of the next
   -- messages.
@@ -34,7 +35,7 @@ module _ {K : Type 0} (public_of : K → Own → Option (List ℕ)) (agreement :
   -- report one hash, they agree on all of it; or two texts that they hashed clash.
   pub record AgreeOverNetwork (p : Plan) (s : BothStarts) (interval : ℕ) (events : List Event) (duel : DuelValue K K)
       (report : Report) : Type 0 where
-    pub reports : Reports public_of agreement public_of agreement
+    pub reports : Reports pairs pairs
         (sides_at_start p s.initiator s.responder interval interval) events duel report
     -- by the report each role wrote and accepted the payloads that it wrote and accepted in the run, whatever the
     -- hashes are
@@ -52,9 +53,9 @@ module _ {K : Type 0} (public_of : K → Own → Option (List ℕ)) (agreement :
   RunsOverNetwork p s interval events (Err fault) = IsReportedFault (fault_of p s) fault
 
 -- Two ends that report one hash match states that have one hash: the one that agreement speaks of.
-module _ {A B : Type 0} (public_a : A → Own → Option (List ℕ)) (agreement_a : A → Own → List ℕ → Option (List ℕ))
-    (public_b : B → Own → Option (List ℕ)) (agreement_b : B → Own → List ℕ → Option (List ℕ)) where
+module _ {A B : Type 0} (pairs_a : A → KeyPairs)
+    (pairs_b : B → KeyPairs) where
   abbrev pub HashIsReported : Type 0
   HashIsReported = (duel : DuelValue A B) (d : Sides) (hash : List ℕ)
-      → DuelMatches public_a agreement_a public_b agreement_b duel d
+      → DuelMatches pairs_a pairs_b duel d
       → hash_in duel.initiator.phase ≡ Some hash → hash_in duel.responder.phase ≡ Some hash → HaveOneHash d

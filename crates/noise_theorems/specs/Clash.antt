@@ -12,6 +12,7 @@ use Rattle.noise_duel.specs.DuelValue.{DuelValue, DuelMatches}
 use Rattle.noise_duel.specs.Messages.{Start}
 use Rattle.noise_duel.specs.Reports.{Reports}
 use Rattle.noise_duel.specs.Sides.{Sides}
+use Rattle.noise_keys.specs.Keys.{KeyPairs}
 
 -- The texts that the two ends hashed clash: `clash_position` names the first position at which they differ with one
 -- digest.
@@ -19,18 +20,18 @@ abbrev pub HistoriesClash : Sides → Type 0
 HistoriesClash d = (k : ℕ) × (clash_position d.initiator.state.party.history d.responder.state.party.history ≡ Some k)
     × ClashAt d.initiator.state.party.history d.responder.state.party.history k
 
-module _ {A B : Type 0} (public_a : A → Own → Option (List ℕ)) (agreement_a : A → Own → List ℕ → Option (List ℕ))
-    (public_b : B → Own → Option (List ℕ)) (agreement_b : B → Own → List ℕ → Option (List ℕ)) where
+module _ {A B : Type 0} (pairs_a : A → KeyPairs)
+    (pairs_b : B → KeyPairs) where
   -- The report is the run's, and where both ends report one hash, there is a first position at which the texts that
   -- they hashed differ with one digest.
   pub record ClashOverNetwork (p : Plan) (a b : Start) (i j : ℕ) (events : List Event) (duel : DuelValue A B)
       (report : Report) : Type 0 where
-    pub reports : Reports public_a agreement_a public_b agreement_b (sides_at_start p a b i j) events duel report
+    pub reports : Reports pairs_a pairs_b (sides_at_start p a b i j) events duel report
     pub clash : (hash : List ℕ) → hash_in duel.initiator.phase ≡ Some hash → hash_in duel.responder.phase ≡ Some hash
         → HistoriesClash reports.last
 
   -- Of two new ends of one pattern, with different prologues, it is so at the end of the run of these events.
   abbrev pub ClashesInRun : {E : Type 0} → List Event → DuelValue A B → Result (DuelValue A B × Report) E → Type 0
   ClashesInRun events duel result = (p : Plan) (a b : Start) (i j : ℕ)
-      → DuelMatches public_a agreement_a public_b agreement_b duel (sides_at_start p a b i j) → a.prologue ≢ b.prologue
+      → DuelMatches pairs_a pairs_b duel (sides_at_start p a b i j) → a.prologue ≢ b.prologue
       → IfOk result (λ r. ClashOverNetwork p a b i j events r.0 r.1)

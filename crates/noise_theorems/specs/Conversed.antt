@@ -14,8 +14,9 @@ use Rattle.noise_duel.specs.Reports.{receive_key_in, send_key_in}
 use Rattle.noise_theorems.specs.declared.fault.ConversationFault.{ConversationFault}
 use Rattle.noise_theorems.specs.FittingMessages.{bytes_not_received}
 use Rattle.noise_theorems.specs.Setup.{AreAfter, BothStarts, IsReportedFault, fault_of, hash_of_messages, transcript_of}
+use Rattle.noise_keys.specs.Keys.{KeyPairs}
 
-module _ {K : Type 0} (public_of : K → Own → Option (List ℕ)) (agreement : K → Own → List ℕ → Option (List ℕ)) where
+module _ {K : Type 0} (pairs : K → KeyPairs) where
   pub record HaveConversed (p : Plan) (s : BothStarts) (interval : ℕ) (lines : List (Role × List ℕ))
       (duel : DuelValue K K) (report : Report) : Type 0 where
     pub initiator_frames : bytes_of report.initiator.items ≡ frames_by Initiator (transcript_of p s interval lines)
@@ -23,7 +24,7 @@ module _ {K : Type 0} (public_of : K → Own → Option (List ℕ)) (agreement :
     pub payloads : notes_of report.entries.items ≡ notes_of_messages 0 0 lines
     pub taken : ((role : Role) → bytes_not_received role (notes_of report.entries.items) ≡ 0)
         × (duel.initiator.partial ≡ []) × (duel.responder.partial ≡ [])
-    pub ends : AreAfter public_of agreement p s interval lines duel
+    pub ends : AreAfter pairs p s interval lines duel
     pub hash : (hash_in duel.initiator.phase ≡ hash_of_messages p s lines)
         × (hash_in duel.responder.phase ≡ hash_of_messages p s lines)
     pub keys_there : receive_key_in duel.responder.phase ≡ send_key_in duel.initiator.phase

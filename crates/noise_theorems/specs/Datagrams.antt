@@ -27,6 +27,7 @@ use Rattle.noise_duel.specs.Notes.{Note}
 use Rattle.noise_duel.specs.Runs.{Run}
 use Rattle.noise_duel.specs.Sides.{Sides, TransportMessage}
 use Rattle.noise_theorems.specs.Clash.{HistoriesClash}
+use Rattle.noise_keys.specs.Keys.{KeyPairs}
 
 -- the nonce of the datagram that comes in an event: the datagram's number, or the nonce that the bytes name (Noise
 -- 11.4)
@@ -127,13 +128,13 @@ pub record DatagramsOverNetwork (v w : DatagramState) (events : List DatagramEve
 
 -- ---- the ends of a duel that go over to datagrams
 
-module _ {A B : Type 0} (public_a : A → Own → Option (List ℕ)) (agreement_a : A → Own → List ℕ → Option (List ℕ))
-    (public_b : B → Own → Option (List ℕ)) (agreement_b : B → Own → List ℕ → Option (List ℕ)) where
+module _ {A B : Type 0} (pairs_a : A → KeyPairs)
+    (pairs_b : B → KeyPairs) where
   -- Whatever the states of the two ends, the report and the parties left are those of the run of these events.
   abbrev pub ReportsDatagramRun : {E : Type 0} → Window → List DatagramEvent → DuelValue A B
       → Result (DatagramDuelValue × DatagramReport) E → Type 0
   ReportsDatagramRun window events duel result = (v w : EndState)
-      → DuelMatches public_a agreement_a public_b agreement_b duel (both_sides v w)
+      → DuelMatches pairs_a pairs_b duel (both_sides v w)
       → IfOk result (λ r. DatagramReports (datagram_sides_of v w window) events r.0 r.1)
 
   -- Where a run over frames left these two ends of two new ones of one pattern, with one history, they agree.
@@ -141,7 +142,7 @@ module _ {A B : Type 0} (public_a : A → Own → Option (List ℕ)) (agreement_
       → Result (DatagramDuelValue × DatagramReport) E → Type 0
   OneHistoryAgrees window events duel result =
       (p : Plan) (a b : Start) (i j : ℕ) (opening : List Event) (notes : List (Role × Note)) (d : Sides)
-      → Run (sides_at_start p a b i j) opening notes d → DuelMatches public_a agreement_a public_b agreement_b duel d
+      → Run (sides_at_start p a b i j) opening notes d → DuelMatches pairs_a pairs_b duel d
       → HaveOneHistory d
       → IfOk result (λ r. DatagramsOverNetwork (datagrams_of d.initiator.state.party window)
       (datagrams_of d.responder.state.party window) events r.0 r.1)
@@ -152,7 +153,7 @@ module _ {A B : Type 0} (public_a : A → Own → Option (List ℕ)) (agreement_
   OneHashAgrees window events duel result =
       (p : Plan) (a b : Start) (i j : ℕ) (opening : List Event) (notes : List (Role × Note)) (d : Sides)
       (hash : List ℕ)
-      → Run (sides_at_start p a b i j) opening notes d → DuelMatches public_a agreement_a public_b agreement_b duel d
+      → Run (sides_at_start p a b i j) opening notes d → DuelMatches pairs_a pairs_b duel d
       → SharePsks p a b d
       → hash_in duel.initiator.phase ≡ Some hash → hash_in duel.responder.phase ≡ Some hash
       → IfOk result (λ r. DatagramsOverNetwork (datagrams_of d.initiator.state.party window)

@@ -19,6 +19,7 @@ use Rattle.noise_duel.specs.Reports.{receive_key_in, send_key_in}
 use Rattle.noise_duel.specs.Runs.{Run}
 use Rattle.noise_duel.specs.Sides.{Sides, TransportMessage}
 use Rattle.noise_theorems.specs.Payloads.{reported_to, written_by}
+use Rattle.noise_keys.specs.Keys.{KeyPairs}
 
 -- how many of the first n handshake messages a role writes (Noise 5.3: the initiator writes first, then they take
 -- turns)
@@ -84,12 +85,12 @@ pub record KeysMeet {A B : Type 0} (events : List Event) (notes : List (Role × 
   pub back : length (reported_to Initiator notes) ≡ length (written_by Responder events notes) → (k l : List ℕ)
       → send_key_in duel.responder.phase ≡ Some k → receive_key_in duel.initiator.phase ≡ Some l → l ≡ k
 
-module _ {A B : Type 0} (public_a : A → Own → Option (List ℕ)) (agreement_a : A → Own → List ℕ → Option (List ℕ))
-    (public_b : B → Own → Option (List ℕ)) (agreement_b : B → Own → List ℕ → Option (List ℕ)) where
+module _ {A B : Type 0} (pairs_a : A → KeyPairs)
+    (pairs_b : B → KeyPairs) where
   -- With equal hashes, the same psks and equal intervals so it is, or two texts that they hashed clash.
   abbrev pub KeysCome : Type 0
   KeysCome = (p : Plan) (a b : Start) (interval : ℕ) (events : List Event) (notes : List (Role × Note)) (d : Sides)
       (duel : DuelValue A B)
       → Run (sides_at_start p a b interval interval) events notes d
-      → DuelMatches public_a agreement_a public_b agreement_b duel d
+      → DuelMatches pairs_a pairs_b duel d
       → HaveOneHash d → SharePsks p a b d → KeysMeet events notes duel ⊎ HaveClash d

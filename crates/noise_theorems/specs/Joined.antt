@@ -15,6 +15,7 @@ use Rattle.noise_duel.specs.Notes.{Note, Wrote, Judged, Held, noted_by}
 use Rattle.noise_duel.specs.Reports.{Reports}
 use Rattle.noise_duel.specs.Runs.{SideWrites, SideReceives}
 use Rattle.noise_duel.specs.Sides.{Side, Sides, side}
+use Rattle.noise_keys.specs.Keys.{KeyPairs}
 
 -- A side writes payloads, one after another, each as a frame.
 pub data WritesAll : Side → List (List ℕ) → Side → Type 0 where
@@ -73,20 +74,20 @@ is_held _ = false
 abbrev pub without_held : List (Role × Note) → List (Role × Note)
 without_held notes = flat_map (λ n. if is_held n.1 then [] else n ∷ []) notes
 
-module _ {A B : Type 0} (public_a : A → Own → Option (List ℕ)) (agreement_a : A → Own → List ℕ → Option (List ℕ))
-    (public_b : B → Own → Option (List ℕ)) (agreement_b : B → Own → List ℕ → Option (List ℕ)) where
+module _ {A B : Type 0} (pairs_a : A → KeyPairs)
+    (pairs_b : B → KeyPairs) where
   -- The report is the run's. Bytes that are held aside, it says that these payloads were accepted, in order, and no
   -- more; and the role's end has come as far as the writer.
   pub record HaveArrived (d : Sides) (events : List Event) (role : Role) (payloads : List (List ℕ)) (writer : Side)
       (duel : DuelValue A B) (report : Report) : Type 0 where
-    pub reports : Reports public_a agreement_a public_b agreement_b d events duel report
+    pub reports : Reports pairs_a pairs_b d events duel report
     pub accepted : without_held (notes_of report.entries.items) ≡ noted_by role (accepted_notes payloads)
     pub ends : EndCounterparts writer.state (side reports.last role).state
 
   -- So it is where the pieces that come to a role are the frames of a side that it was equally far with, joined.
   abbrev pub ChunksArrive : {E : Type 0} → List Event → DuelValue A B → Result (DuelValue A B × Report) E → Type 0
   ChunksArrive events duel result = (v w : EndState) (role : Role) (s last : Side) (payloads pieces : List (List ℕ))
-      → DuelMatches public_a agreement_a public_b agreement_b duel (both_sides v w) → events ≡ raw_events role pieces
+      → DuelMatches pairs_a pairs_b duel (both_sides v w) → events ≡ raw_events role pieces
       → IsValid s.state.party.pattern → EndCounterparts s.state (side (both_sides v w) role).state
       → WritesAll s payloads last → concat pieces ≡ bytes_since s last
       → IfOk result (λ r. HaveArrived (both_sides v w) events role payloads last r.0 r.1)

@@ -21,20 +21,21 @@ use Rattle.noise_duel.specs.DuelValue.{DuelValue}
 use Rattle.noise_duel.specs.SetUpAlike.{material_of}
 use Rattle.noise_theorems.specs.declared.fault.ConversationFault.{ConversationFault}
 use Rattle.noise_theorems.specs.declared.fault.ConversationFault.TheVariants.{Setup, Memory}
+use Rattle.noise_keys.specs.Keys.{KeyPairs}
 
 -- what both parties start from
 pub record BothStarts : Type 0 where
   pub initiator : Start
   pub responder : Start
 
-module _ {K : Type 0} (public_of : K → Own → Option (List ℕ)) (agreement : K → Own → List ℕ → Option (List ℕ)) where
+module _ {K : Type 0} (pairs : K → KeyPairs) where
   -- a role starts from the prologue, the psks, its own keys, and the public keys of the other party's pre-message
   abbrev pub start_by : Plan → Role → List ℕ → List (List ℕ) → K → K → Start
   start_by p role prologue psks keys theirs = record {
     prologue = prologue;
-    own = public_of keys;
-    agree = agreement keys;
-    remote = shown_before p (other role) (public_of theirs);
+    own = (pairs keys).public;
+    agree = (pairs keys).agree;
+    remote = shown_before p (other role) (pairs theirs).public;
     psks = psks;
   }
 
@@ -47,7 +48,7 @@ module _ {K : Type 0} (public_of : K → Own → Option (List ℕ)) (agreement :
   -- whether a role has a result at a DH token, with the other party's public keys
   abbrev pub has_dh_result : Role → K → K → Token → Bool
   has_dh_result role keys theirs t =
-      is_some (dh_result_of (agreement keys) (own_at role t) (remote_at role (public_keys (public_of theirs)) t))
+      is_some (dh_result_of (pairs keys).agree (own_at role t) (remote_at role (public_keys (pairs theirs).public) t))
 
   -- both parties have a result at each DH token of the pattern
   abbrev pub HaveDhResults : Plan → K → K → Type 0
@@ -69,14 +70,14 @@ abbrev pub hash_of_messages : Plan → BothStarts → List (Role × List ℕ) �
 hash_of_messages p s lines =
     if nat_le (length p.messages) (length lines) then Some (hash (history_of p s lines)) else None
 
-module _ {K : Type 0} (public_of : K → Own → Option (List ℕ)) (agreement : K → Own → List ℕ → Option (List ℕ)) where
+module _ {K : Type 0} (pairs : K → KeyPairs) where
   -- The two ends are those after the lines: they hold the pattern, the roles, the keys and the psks to come, the
   -- counts, the interval and the history.
   pub record AreAfter (p : Plan) (s : BothStarts) (interval : ℕ) (lines : List (Role × List ℕ))
       (duel : DuelValue K K) : Type 0 where
-    pub initiator : EndMatches public_of agreement duel.initiator
+    pub initiator : EndMatches pairs duel.initiator
         (end_after p Initiator s.initiator s.responder interval (history_of p s lines) lines)
-    pub responder : EndMatches public_of agreement duel.responder
+    pub responder : EndMatches pairs duel.responder
         (end_after p Responder s.responder s.initiator interval (history_of p s lines) lines)
 
 -- the first of two faults

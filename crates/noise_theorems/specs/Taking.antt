@@ -13,6 +13,7 @@ use Rattle.noise_session.specs.Progress.{idle_step}
 use Rattle.noise_session.specs.Steps.{StepValue}
 use Rattle.noise_session.specs.Steps.StepValue.{Payload}
 use Rattle.noise_session.specs.Taking.{Takes}
+use Rattle.noise_keys.specs.Keys.{KeyPairs}
 
 -- What reading leaves of a message. It is as it was; or a payload stands in its place there, the bytes around it are
 -- unchanged, and the result is whether it is this payload.
@@ -22,7 +23,7 @@ LeavesMessage old new payload returned =
     ⊎ ((place : ℕ × ℕ) × IsPlaceIn new place × IsSameAround old new place
     × (returned ≡ true ↔ slice_range new place.0 place.1 ≡ payload))
 
-module _ {K : Type 0} (public_of : K → Own → Option (List ℕ)) (agreement : K → Own → List ℕ → Option (List ℕ)) where
+module _ {K : Type 0} (pairs : K → KeyPairs) where
   -- The end takes so many of the bytes, once, and matches the state after them; the result is whether the step is
   -- this payload.
   pub record IsReceivedAs (v : EndState) (bytes payload : List ℕ) (end : EndValue K) (returned : Bool) : Type 0 where
@@ -30,13 +31,13 @@ module _ {K : Type 0} (public_of : K → Own → Option (List ℕ)) (agreement :
     pub step : StepValue
     pub next : EndState
     pub takes : Takes v bytes taken step next
-    pub matches : EndMatches public_of agreement end next
+    pub matches : EndMatches pairs end next
     pub is : returned ≡ true ↔ step ≡ Payload payload
 
   -- Where the end listens, and the bytes end the frame of a message of at most 65535 bytes, the result is whether the
   -- message is one of this payload there.
   abbrev pub ComesExactly : EndValue K → List ℕ → List ℕ → Bool → Type 0
-  ComesExactly end bytes payload returned = (v : EndState) (message : List ℕ) → EndMatches public_of agreement end v
+  ComesExactly end bytes payload returned = (v : EndState) (message : List ℕ) → EndMatches pairs end v
       → idle_step (progress_of v) ≡ None → v.partial ++ bytes ≡ frame message → length message ≤ 65535
       → (returned ≡ true ↔ Encodes v message payload)
 
@@ -47,6 +48,6 @@ module _ {K : Type 0} (public_of : K → Own → Option (List ℕ)) (agreement :
     pub read : Result (List ℕ) ReadFault
     pub reads : MatchResult read
         (λ given. (xs : List (List ℕ)) × Accepts v message xs given
-        × Matches public_of agreement handshake (after_message v xs given))
-        (λ fault. DoesNotRead v message fault × Matches public_of agreement handshake (after_not_read v fault))
+        × Matches pairs handshake (after_message v xs given))
+        (λ fault. DoesNotRead v message fault × Matches pairs handshake (after_not_read v fault))
     pub is : returned ≡ true ↔ read ≡ Ok payload

@@ -18,9 +18,9 @@ pub fn run_chunks<A: Keys, B: Keys>(
     duel: Duel<A, B>,
     events: &[Event],
 ) -> Result<(Duel<A, B>, Report), AllocError>
-    ensures reports { ReportsRun A.public_of A.agreement B.public_of B.agreement
+    ensures reports { ReportsRun A.pairs B.pairs
         (events_of events.now) duel result }
-    ensures come { ChunksArrive A.public_of A.agreement B.public_of B.agreement
+    ensures come { ChunksArrive A.pairs B.pairs
         (events_of events.now) duel result }
 {
     joined_frames_come();

@@ -34,9 +34,9 @@ pub fn converse<K: Agreeing>(
 ) -> Result<(Duel<K, K>, Report), ConversationFault>
     requires short { length prologue.now ≤ 65535 }
     requires lines { messages_fit_from pattern 0 (roles_and_payloads lines.now) ≡ true }
-    requires dh_results { HaveDhResults K.public_of K.agreement pattern initiator responder }
-    ensures reports { Converses K.public_of K.agreement pattern
-        (starts K.public_of K.agreement pattern prologue.now psks.now initiator responder)
+    requires dh_results { HaveDhResults K.pairs pattern initiator responder }
+    ensures reports { Converses K.pairs pattern
+        (starts K.pairs pattern prologue.now psks.now initiator responder)
         interval (roles_and_payloads lines.now) result }
 {
     let duel = make_ends(
@@ -52,7 +52,7 @@ fn say_messages<K: Agreeing>(
     duel: Duel<K, K>,
     lines: &[(Role, Vec<u8>, Cuts)],
 ) -> Result<(Duel<K, K>, Report), AllocError>
-    ensures { SaysMessages K.public_of K.agreement (roles_and_payloads lines.now) duel result }
+    ensures { SaysMessages K.pairs (roles_and_payloads lines.now) duel result }
 {
     alike_are_parts();
     end_is_reported::<K>();

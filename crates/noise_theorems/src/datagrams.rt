@@ -32,11 +32,11 @@ pub fn run_datagrams<A: Keys, B: Keys>(
 ) -> Result<(DatagramDuel, DatagramReport), AllocError>
     requires initiator { is_datagram_ready duel.initiator ≡ true }
     requires responder { is_datagram_ready duel.responder ≡ true }
-    ensures reports { ReportsDatagramRun A.public_of A.agreement B.public_of B.agreement
+    ensures reports { ReportsDatagramRun A.pairs B.pairs
         window (datagram_events_of events.now) duel result }
-    ensures agrees { OneHistoryAgrees A.public_of A.agreement B.public_of B.agreement
+    ensures agrees { OneHistoryAgrees A.pairs B.pairs
         window (datagram_events_of events.now) duel result }
-    ensures hashes { OneHashAgrees A.public_of A.agreement B.public_of B.agreement
+    ensures hashes { OneHashAgrees A.pairs B.pairs
         window (datagram_events_of events.now) duel result }
 {
     hash_is_reported::<A, B>();
@@ -53,7 +53,7 @@ pub fn run_datagrams<A: Keys, B: Keys>(
 fn go_over<A: Keys, B: Keys>(duel: Duel<A, B>, window: Window) -> DatagramDuel
     requires initiator { is_datagram_ready duel.initiator ≡ true }
     requires responder { is_datagram_ready duel.responder ≡ true }
-    ensures matches { (v w : EndState) → DuelMatches A.public_of A.agreement B.public_of B.agreement duel (both_sides v w)
+    ensures matches { (v w : EndState) → DuelMatches A.pairs B.pairs duel (both_sides v w)
         → DatagramDuelMatches result (datagram_sides_of v w window) }
 {
     match duel.into_datagrams(window) {

@@ -30,8 +30,8 @@ pub(crate) fn make_ends<K: Agreeing>(
     interval: u64,
 ) -> Result<Duel<K, K>, ConversationFault>
     requires short { length prologue.now ≤ 65535 }
-    ensures made { MakesEnds K.public_of K.agreement pattern
-        (starts K.public_of K.agreement pattern prologue.now psks.now initiator responder) interval result }
+    ensures made { MakesEnds K.pairs pattern
+        (starts K.pairs pattern prologue.now psks.now initiator responder) interval result }
 {
     let of_initiator = shown_before(&pattern, Role::Initiator, &initiator);
     let of_responder = shown_before(&pattern, Role::Responder, &responder);
@@ -71,11 +71,11 @@ fn make_end<K: Keys>(
     interval: u64,
 ) -> Result<End<K>, ConversationFault>
     requires short { length prologue.now ≤ 65535 }
-    ensures fault { let found = setup_fault pattern role (K.public_of keys) remote (length psks.now) in
+    ensures fault { let found = setup_fault pattern role (K.pairs keys).public remote (length psks.now) in
         MatchResult result (λ _. found ≡ None) (λ fault. IsReportedFault found fault) }
-    ensures matches { IfOk result (λ end. EndMatches K.public_of K.agreement end
-        (end_of (party_at_start pattern role prologue.now (K.public_of keys)
-        (K.agreement keys) remote psks.now) interval)) }
+    ensures matches { IfOk result (λ end. EndMatches K.pairs end
+        (end_of (party_at_start pattern role prologue.now (K.pairs keys).public
+        (K.pairs keys).agree remote psks.now) interval)) }
     ensures role { IfOk result (λ end. role_of (progress end) ≡ role) }
     ensures valid { IfOk result (λ _. IsPattern pattern × IsValid pattern) }
 {

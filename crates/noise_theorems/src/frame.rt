@@ -15,9 +15,9 @@ use noise_session::{End, Step};
 /// Where the party listens, that is so exactly if the frame's message is one of the payload there. The party is left as
 /// `End::take` leaves it.
 pub fn comes_as<K: Keys>(end: &mut End<K>, bytes: &[u8], payload: &[u8]) -> bool
-    ensures exactly { ComesExactly K.public_of K.agreement end.old bytes.now payload.now result }
-    ensures takes { (v : EndState) → EndMatches K.public_of K.agreement end.old v
-        → IsReceivedAs K.public_of K.agreement v bytes.now payload.now end.new result }
+    ensures exactly { ComesExactly K.pairs end.old bytes.now payload.now result }
+    ensures takes { (v : EndState) → EndMatches K.pairs end.old v
+        → IsReceivedAs K.pairs v bytes.now payload.now end.new result }
 {
     reported_exactly();
     let (_, step) = end.take(bytes);

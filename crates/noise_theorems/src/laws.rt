@@ -65,7 +65,7 @@ pub fn joined_frames_come()
 
 /// Where both ends of a duel report one hash, they have the one hash that the laws on agreement speak of.
 pub fn hash_is_reported<A: Keys, B: Keys>()
-    ensures { HashIsReported A.public_of A.agreement B.public_of B.agreement }
+    ensures { HashIsReported A.pairs B.pairs }
 {
     end_is_reported::<A>();
     end_is_reported::<B>();
@@ -89,7 +89,7 @@ pub fn entries_agree()
 /// Where two such ends are open, and a role received as many payloads as the other wrote, it opens the next message by
 /// the key that the other seals it by; or two texts that they hashed collide.
 pub fn keys_meet<A: Keys, B: Keys>()
-    ensures { KeysCome A.public_of A.agreement B.public_of B.agreement }
+    ensures { KeysCome A.pairs B.pairs }
 {
     ends_match();
     ends_agree();

@@ -14,10 +14,10 @@ use noise_handshake::{Handshake, Keys};
 /// The handshake and the message are left as `Handshake::read` leaves them.
 pub fn reads_as<K: Keys>(handshake: &mut Handshake<K>, message: &mut [u8], payload: &[u8]) -> bool
     requires short { length message.old ≤ 65535 }
-    ensures exactly { (v : Party) → Matches K.public_of K.agreement handshake.old v → Listens v
+    ensures exactly { (v : Party) → Matches K.pairs handshake.old v → Listens v
         → (result ≡ true ↔ ((xs : List (List ℕ)) × Accepts v message.old xs payload.now)) }
-    ensures reads { (v : Party) → Matches K.public_of K.agreement handshake.old v
-        → IsReadAs K.public_of K.agreement v message.old payload.now handshake.new result }
+    ensures reads { (v : Party) → Matches K.pairs handshake.old v
+        → IsReadAs K.pairs v message.old payload.now handshake.new result }
     ensures message { LeavesMessage message.old message.new payload.now result }
 {
     read_exactly();

@@ -35,8 +35,8 @@ pub fn run_events<K: Agreeing>(
     events: &[Event],
 ) -> Result<(Duel<K, K>, Report), ConversationFault>
     requires short { length prologue.now ≤ 65535 }
-    ensures reports { RunsOverNetwork K.public_of K.agreement pattern
-        (starts K.public_of K.agreement pattern prologue.now psks.now initiator responder)
+    ensures reports { RunsOverNetwork K.pairs pattern
+        (starts K.pairs pattern prologue.now psks.now initiator responder)
         interval (events_of events.now) result }
 {
     let duel = make_ends(

@@ -19,9 +19,9 @@ pub fn run_apart<A: Keys, B: Keys>(
     duel: Duel<A, B>,
     events: &[Event],
 ) -> Result<(Duel<A, B>, Report), AllocError>
-    ensures reports { ReportsRun A.public_of A.agreement B.public_of B.agreement
+    ensures reports { ReportsRun A.pairs B.pairs
         (events_of events.now) duel result }
-    ensures clash { ClashesInRun A.public_of A.agreement B.public_of B.agreement
+    ensures clash { ClashesInRun A.pairs B.pairs
         (events_of events.now) duel result }
 {
     hash_is_reported::<A, B>();

@@ -12,6 +12,7 @@ use Rattle.noise_trace.specs.KeyUses.{KeyUseValue}
 use Rattle.noise_tool.specs.declared.trace_lines.About.{About}
 use Rattle.noise_tool.specs.declared.trace_lines.Act.{Act}
 use Rattle.noise_tool.specs.declared.trace_lines.Act.TheVariants.{Writes as Writing}
+use Rattle.noise_vectors.specs.FileKeys.{pairs_of}
 
 -- ---- the pattern stays
 
@@ -87,7 +88,7 @@ pub wrote-whole : {E : Type 0} (selection : Selection) (t u : TracedEnd) (end : 
     (s next : Side) (payload : List ℕ) (note : Note) (w : SideWrites s payload note next) (result : Result (Vec (Vec ℕ Global) Global) E)
     → TracedMatches t s.state → noted ≡ note → bytes ≡ written_frame s next payload note w → message ≡ drop 2 bytes
     → given ≡ about t.role s.state Writing
-    → (EndFollows public_of agreement_of t.end s.state → noted ≡ note → message ≡ written_message s next payload note w
+    → (EndFollows pairs_of t.end s.state → noted ≡ note → message ≡ written_message s next payload note w
     → Used m (written_use s next payload note w) end next.state)
     → u.role ≡ t.role → u.psks ≡ t.psks → u.end ≡ end → u.partial.items ≡ (if note_ends noted then [] else t.partial.items)
     → (HasLaterNonce m → IfOk result (λ lines. bytes_of lines.items ≡ key_use_lines selection given message m))
@@ -100,7 +101,7 @@ wrote-whole selection t u end given message bytes m noted s next payload note w 
       record {
         shows = record {
           psks = psks ∙ h.1.psks;
-          follows = subst (λ (z : EndTrace FileKeys). EndFollows public_of agreement_of z next.state) (sym ends) h.1.follows;
+          follows = subst (λ (z : EndTrace FileKeys). EndFollows pairs_of z next.state) (sym ends) h.1.follows;
         };
         partial = partial ∙ ap (λ (n : Note). if note_ends n then [] else t.partial.items) reported ∙ written-partial s next payload note w t.partial.items matches.partial;
       },

@@ -4,6 +4,7 @@ use Rattle.noise_tool.proofs.Common.{Role, Event, Entry, notes_of, DuelMatches, 
 use Rattle.noise_duel.specs.declared.report.Report.{Report}
 use Rattle.noise_duel.specs.OneEvent.{HasHappened}
 use Rattle.noise_duel.specs.Runs.Run.{ends, begins}
+use Rattle.noise_vectors.specs.FileKeys.{pairs_of}
 
 abbrev Traces : Type 0
 Traces = List (List (List ℕ))
@@ -37,7 +38,7 @@ GoesOn selection d events report traces now rest = (notes : Noted) (last : Sides
 
 -- before the first event
 pub none-traced : (selection : Selection) (d : Sides) (events : List Event) (duel : Duel) (report : Report) (traced : TracedEnds) (traces : Traces)
-    → DuelMatches public_of agreement_of public_of agreement_of duel d → IsNewSides d → EndsTraced traced d → traces ≡ []
+    → DuelMatches pairs_of pairs_of duel d → IsNewSides d → EndsTraced traced d → traces ≡ []
     → report.initiator.items ≡ [] → report.responder.items ≡ [] → report.entries.items ≡ []
     → HasTracedTo selection d events events duel report traced traces
 none-traced selection d events duel report traced traces matches new follows none first second entries = record {
@@ -57,7 +58,7 @@ none-traced selection d events duel report traced traces matches new follows non
 pub one-traced : (selection : Selection) (d : Sides) (events rest later : List Event) (event : Event) (duel after : Duel) (report reported : Report)
     (traced followed : TracedEnds) (traces grown : Traces) → rest ≡ event ∷ later
     → (h : HasTracedTo selection d events rest duel report traced traces)
-    → (e : HasHappened public_of agreement_of public_of agreement_of h.now event after report reported)
+    → (e : HasHappened pairs_of pairs_of h.now event after report reported)
     → (grown ≡ traces ++ happened_traces selection h.now e.next event e.notes e.happens) × EndsTraced followed e.next
     → HasTracedTo selection d events later after reported followed grown
 one-traced selection d events rest later event duel after report reported traced followed traces grown is h e made =

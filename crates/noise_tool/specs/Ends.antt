@@ -23,6 +23,7 @@ use Rattle.noise_lines.specs.declared.faults.Fault.{Fault}
 use Rattle.noise_lines.specs.declared.faults.Fault.TheVariants.{Rule, Setup, Memory}
 use Rattle.noise_vectors.specs.declared.file_keys.FileKeys.{FileKeys}
 use Rattle.noise_vectors.specs.declared.vector.VectorFile.{VectorFile}
+use Rattle.noise_vectors.specs.FileKeys.{pairs_of}
 
 -- the pattern is the one that a file spells, or else that of its protocol's name
 abbrev pub IsFilePattern : Option Plan → Section → Plan → Type 0
@@ -54,10 +55,10 @@ file_start file plan role = record {
 
 -- a party with a file's keys, and two of them
 abbrev pub FileMatches : HandshakeValue FileKeys → Party → Type 0
-FileMatches h v = Matches public_of agreement_of h v
+FileMatches h v = Matches pairs_of h v
 
 abbrev pub FileDuelMatches : DuelValue FileKeys FileKeys → Sides → Type 0
-FileDuelMatches duel d = DuelMatches public_of agreement_of public_of agreement_of duel d
+FileDuelMatches duel d = DuelMatches pairs_of pairs_of duel d
 
 -- both ends before the first message, by this pattern
 abbrev pub sides_of_file : VectorFile → Plan → Sides

@@ -27,10 +27,11 @@ use Rattle.noise_tool.specs.declared.key_use_lines.Selection.{Selection}
 use Rattle.noise_tool.specs.declared.traced_end.TracedEnd.{TracedEnd}
 use Rattle.noise_tool.specs.declared.traced_ends.TracedEnds.{TracedEnds}
 use Rattle.noise_tool.specs.declared.traced_ends.TracedStart.{TracedStart}
+use Rattle.noise_vectors.specs.FileKeys.{pairs_of}
 
 -- the key schedule of the end of this state
 abbrev pub Follow : EndTrace FileKeys → EndState → Type 0
-Follow t v = EndFollows public_of agreement_of t v
+Follow t v = EndFollows pairs_of t v
 
 -- a call used these keys as it was to, and leaves the key schedule of this state
 abbrev pub Used : KeyUseValue → KeyUseValue → EndTrace FileKeys → EndState → Type 0

@@ -8,7 +8,7 @@ ghost use Rattle.noise_duel.specs.Notes.{WriteFault};
 ghost use Rattle.noise_duel.specs.DuelValue.{HasFrames};
 ghost use Rattle.noise_duel.specs.Sides.{Side, Sides, side};
 ghost use Rattle.noise_names.specs.Lists.{bytes_of};
-ghost use Rattle.noise_vectors.specs.FileKeys.{agreement_of, public_of};
+ghost use Rattle.noise_vectors.specs.FileKeys.{agreement_of, pairs_of, public_of};
 ghost use Rattle.noise_lines.specs.Lines.{text_in};
 ghost use Rattle.noise_tool.specs.Ends.{FileDuelMatches};
 ghost use Rattle.noise_tool.specs.Printed as print;
@@ -124,7 +124,7 @@ pub fn fault_line(
 
 // The state of a party.
 fn state_line(alloc: Global, role: Role, end: &End<FileKeys>) -> Result<Line, AllocError>
-    ensures { (v : EndState) → EndMatches public_of agreement_of end.now v
+    ensures { (v : EndState) → EndMatches pairs_of end.now v
         → IfOk result (λ line. text_in line ≡ print.state_line role v) }
 {
     end_is_reported::<FileKeys>();

@@ -10,6 +10,7 @@ use Rattle.noise_trace.specs.declared.key_use.KeyUse.{KeyUse}
 use Rattle.noise_trace.specs.declared.end_trace.EndTrace.{EndTrace}
 use Rattle.noise_trace.specs.Directions.{direction}
 use Rattle.noise_trace.specs.KeyUses.{KeyUseValue, use_value}
+use Rattle.noise_keys.specs.Keys.{KeyPairs}
 
 -- the directions of an end: that of the messages that it writes, and that of those that it opens
 abbrev pub directions_of : EndState → Directions
@@ -31,9 +32,9 @@ accepted_view v xs payload = record v { party = after_message v.party xs payload
 
 -- It is that of the end of this party, by the meaning of its keys. The bytes of the next frame don't matter, nor
 -- whether the session has ended.
-module _ {K : Type 0} (public_of : K → Own → Option (List ℕ)) (agreement : K → Own → List ℕ → Option (List ℕ)) where
+module _ {K : Type 0} (pairs : K → KeyPairs) where
   pub record EndFollows (t : EndTrace K) (v : EndState) : Type 0 where
-    pub party : Follows public_of agreement t.following v.party
+    pub party : Follows pairs t.following v.party
     pub interval : t.interval ≡ v.interval
     pub directions : t.directions ≡ directions_in v
     -- no transport message passes before the opening

@@ -75,7 +75,7 @@ impl BeforeMessage {
     /// A handshake before its next message, that lacks no psk.
     pub fn new<K: Keys>(handshake: &Handshake<K>) -> BeforeMessage
         requires supplied { IsSupplied handshake.now }
-        ensures { (v : Party) → Matches K.public_of K.agreement handshake.now v → MatchesBefore result v }
+        ensures { (v : Party) → Matches K.pairs handshake.now v → MatchesBefore result v }
     {
         BeforeMessage::of_handshake(handshake)
     }
@@ -83,7 +83,7 @@ impl BeforeMessage {
     // The same, with the number of that message.
     pub(crate) fn of_handshake<K: Keys>(handshake: &Handshake<K>) -> BeforeMessage
         requires supplied { IsSupplied handshake.now }
-        ensures matches { (v : Party) → Matches K.public_of K.agreement handshake.now v → MatchesBefore result v }
+        ensures matches { (v : Party) → Matches K.pairs handshake.now v → MatchesBefore result v }
         ensures before { IsBefore handshake.now.pattern handshake.now.passed result }
     {
         let progress = handshake.progress();
@@ -155,7 +155,7 @@ impl BeforeMessage {
         ensures many { length result.steps.items ≤ count }
         ensures range { IfSome result.end (λ end. end.0 ≤ length message.now) }
         ensures front { (v : Party) (xs : List (List ℕ)) (more : List ℕ) → let ts = take count (tokens_now v) in
-            MatchesBefore self.now v → K.agreement keys.now ≡ v.agree → CarriesNext v ts xs
+            MatchesBefore self.now v → (K.pairs keys.now).agree ≡ v.agree → CarriesNext v ts xs
             → message.now ≡ before_payload (has_psk v.pattern) v.history ts xs ++ more → IsFront result v ts xs }
     {
         let means = Means {
@@ -183,7 +183,7 @@ impl BeforeMessage {
     pub(crate) fn whole<K: Keys>(&self, keys: &K, message: &[u8]) -> Whole
         ensures nonce { IfSome result.left (λ left. nonce_now left.1 ≤ nonce_now self.now.state + 11) }
         ensures whole { (v : Party) (xs : List (List ℕ)) (payload : List ℕ) → MatchesBefore self.now v
-            → K.agreement keys.now ≡ v.agree → IsNextMessage v xs payload message.now
+            → (K.pairs keys.now).agree ≡ v.agree → IsNextMessage v xs payload message.now
             → IsWholeFront result v xs payload }
     {
         let Front {
@@ -212,7 +212,7 @@ impl BeforeMessage {
     ///
     /// `keys` are those of the handshake. Of other keys, messages or tokens the steps may end early.
     pub fn refused_steps<K: Keys>(&self, keys: &K, message: &[u8], token: u8) -> ArrayVec<Step, 11>
-        ensures refused { (v : Party) (cause : Cause) → MatchesBefore self.now v → K.agreement keys.now ≡ v.agree
+        ensures refused { (v : Party) (cause : Cause) → MatchesBefore self.now v → (K.pairs keys.now).agree ≡ v.agree
             → (refused : Refuses v message.now token cause)
             → result.items ≡ steps_before v token refused.stops.carried }
     {
@@ -226,8 +226,8 @@ impl BeforeMessage {
     ///
     /// `keys` are those of the handshake. Of other keys or tokens the steps may end early.
     pub fn withheld_steps<K: Keys>(&self, keys: &K, token: u8) -> ArrayVec<Step, 11>
-        ensures lacks { (v : Party) → MatchesBefore self.now v → K.public_of keys.now ≡ v.own
-            → K.agreement keys.now ≡ v.agree → (lacks : LacksDhResult v token)
+        ensures lacks { (v : Party) → MatchesBefore self.now v → (K.pairs keys.now).public ≡ v.own
+            → (K.pairs keys.now).agree ≡ v.agree → (lacks : LacksDhResult v token)
             → result.items ≡ steps_before v token lacks.lacks.before }
     {
         let count = self.tokens.len().min(token as usize);

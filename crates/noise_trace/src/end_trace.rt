@@ -32,8 +32,8 @@ impl<K: Keys> EndTrace<K> {
 
     /// The key schedule of a new party, whose handshake is at the place of this one; `interval` is that of the party.
     pub fn new(following: Following<K>, interval: u64) -> EndTrace<K>
-        ensures { (party : Party) → Follows K.public_of K.agreement following party
-            → EndFollows K.public_of K.agreement result (end_of party interval) }
+        ensures { (party : Party) → Follows K.pairs following party
+            → EndFollows K.pairs result (end_of party interval) }
     {
         let directions = match Opening::after(&following) {
             Some(opening) => Some(Directions::new(following.role(), &opening)),
@@ -50,14 +50,14 @@ impl<K: Keys> EndTrace<K> {
     /// 1, which no message has, nothing is shown and nothing changes.
     pub fn wrote(&mut self, message: &[u8]) -> KeyUse
         ensures handshake { (v : EndState) (xs : List (List ℕ)) (payload : List ℕ)
-            → EndFollows K.public_of K.agreement self.old v → Writes v.party payload xs message.now
-            → IsShown K.public_of K.agreement self.new result (message_use v xs payload) (written_view v xs payload) }
-        ensures transport { (v : EndState) (payload : List ℕ) → EndFollows K.public_of K.agreement self.old v
+            → EndFollows K.pairs self.old v → Writes v.party payload xs message.now
+            → IsShown K.pairs self.new result (message_use v xs payload) (written_view v xs payload) }
+        ensures transport { (v : EndState) (payload : List ℕ) → EndFollows K.pairs self.old v
             → refusal (progress_of v) (length payload) ≡ None → IsTrue (is_open (progress_of v))
-            → IsShown K.public_of K.agreement self.new result (sent_use v) (record v { sent = v.sent + 1 }) }
-        ensures exhausted { (v : EndState) → EndFollows K.public_of K.agreement self.old v
+            → IsShown K.pairs self.new result (sent_use v) (record v { sent = v.sent + 1 }) }
+        ensures exhausted { (v : EndState) → EndFollows K.pairs self.old v
             → IsTrue (is_open (progress_of v)) → v.sent ≡ last_nonce
-            → IsShown K.public_of K.agreement self.new result Nothing v }
+            → IsShown K.pairs self.new result Nothing v }
     {
         if let Some(directions) = &mut self.directions {
             return directions.sending.pass(self.interval);
@@ -70,14 +70,14 @@ impl<K: Keys> EndTrace<K> {
     /// which no message has, nothing is shown and nothing changes.
     pub fn took(&mut self, message: &[u8]) -> KeyUse
         ensures handshake { (v : EndState) (xs : List (List ℕ)) (payload : List ℕ)
-            → EndFollows K.public_of K.agreement self.old v → Accepts v.party message.now xs payload
-            → IsShown K.public_of K.agreement self.new result (message_use v xs payload) (accepted_view v xs payload) }
-        ensures transport { (v : EndState) → EndFollows K.public_of K.agreement self.old v
-            → IsTrue (is_open (progress_of v)) → v.received ≢ last_nonce → IsShown K.public_of K.agreement
+            → EndFollows K.pairs self.old v → Accepts v.party message.now xs payload
+            → IsShown K.pairs self.new result (message_use v xs payload) (accepted_view v xs payload) }
+        ensures transport { (v : EndState) → EndFollows K.pairs self.old v
+            → IsTrue (is_open (progress_of v)) → v.received ≢ last_nonce → IsShown K.pairs
             self.new result (opened_use v) (record v { received = v.received + 1; partial = [] }) }
-        ensures exhausted { (v : EndState) → EndFollows K.public_of K.agreement self.old v
+        ensures exhausted { (v : EndState) → EndFollows K.pairs self.old v
             → IsTrue (is_open (progress_of v)) → v.received ≡ last_nonce
-            → IsShown K.public_of K.agreement self.new result Nothing v }
+            → IsShown K.pairs self.new result Nothing v }
     {
         if let Some(directions) = &mut self.directions {
             return directions.receiving.pass(self.interval);
@@ -90,9 +90,9 @@ impl<K: Keys> EndTrace<K> {
     fn passed(&mut self, steps: ArrayVec<Step, 11>) -> KeyUse
         ensures value { self.new.following ≡ self.old.following }
         ensures interval { self.new.interval ≡ self.old.interval }
-        ensures shown { (v : Party) → Follows K.public_of K.agreement self.old.following v
+        ensures shown { (v : Party) → Follows K.pairs self.old.following v
             → use_value result ≡ Message steps.items (opening_in v) }
-        ensures opened { (v : EndState) → Follows K.public_of K.agreement self.old.following v.party
+        ensures opened { (v : EndState) → Follows K.pairs self.old.following v.party
             → self.old.directions ≡ None → v.sent ≡ 0 → v.received ≡ 0 → self.new.directions ≡ directions_in v }
     {
         let opening = Opening::after(&self.following);
@@ -105,7 +105,7 @@ impl<K: Keys> EndTrace<K> {
     /// A handshake message that the party didn't write for want of a DH result at this token, counted from 0: the steps
     /// of the tokens before it.
     pub fn withheld(&self, token: u8) -> KeyUse
-        ensures { (v : EndState) → EndFollows K.public_of K.agreement self.now v → (lacks : LacksDhResult v.party token)
+        ensures { (v : EndState) → EndFollows K.pairs self.now v → (lacks : LacksDhResult v.party token)
             → use_value result ≡ stopped_use v token lacks.lacks.before }
     {
         KeyUse::Message {
@@ -116,7 +116,7 @@ impl<K: Keys> EndTrace<K> {
 
     /// A handshake message that the party refused at this token, counted from 0: the steps of the tokens before it.
     pub fn refused(&self, message: &[u8], token: u8) -> KeyUse
-        ensures { (v : EndState) (cause : Cause) → EndFollows K.public_of K.agreement self.now v
+        ensures { (v : EndState) (cause : Cause) → EndFollows K.pairs self.now v
             → (refused : Refuses v.party message.now token cause)
             → use_value result ≡ stopped_use v token refused.stops.carried }
     {
@@ -129,9 +129,9 @@ impl<K: Keys> EndTrace<K> {
     /// A transport message that the party dropped: the nonce and the key that it was tried with. Before the opening
     /// nothing.
     pub fn tried(&self) -> KeyUse
-        ensures opened { (v : EndState) → EndFollows K.public_of K.agreement self.now v
+        ensures opened { (v : EndState) → EndFollows K.pairs self.now v
             → IsTrue (is_open (progress_of v)) → use_value result ≡ tried_use v }
-        ensures before { (v : EndState) → EndFollows K.public_of K.agreement self.now v
+        ensures before { (v : EndState) → EndFollows K.pairs self.now v
             → v.party.passed ≢ length v.party.pattern.messages → use_value result ≡ Nothing }
     {
         match &self.directions {
@@ -142,7 +142,7 @@ impl<K: Keys> EndTrace<K> {
 
     /// The two keys that the session opened with, the initiator's first, once it has: those of datagrams too.
     pub fn keys(&self) -> Option<([u8; 32], [u8; 32])>
-        ensures { (v : EndState) → EndFollows K.public_of K.agreement self.now v → result ≡ keys_in v.party }
+        ensures { (v : EndState) → EndFollows K.pairs self.now v → result ≡ keys_in v.party }
     {
         let Opening {
             initiator,
@@ -154,7 +154,7 @@ impl<K: Keys> EndTrace<K> {
 
     /// How many handshake messages have passed.
     pub fn messages_passed(&self) -> u8
-        ensures { (v : EndState) → EndFollows K.public_of K.agreement self.now v → result ≡ v.party.passed }
+        ensures { (v : EndState) → EndFollows K.pairs self.now v → result ≡ v.party.passed }
     {
         self.following.passed()
     }

@@ -38,8 +38,8 @@ pub fn steps_make_messages()
 
 /// The key schedule of a party is the same whatever has come of its next frame, and also once the session has ended.
 pub fn end_is_followed<K: Keys>()
-    ensures partial { (t : EndTrace K) (v : EndState) (bytes : List ℕ) → EndFollows K.public_of K.agreement t v
-        → EndFollows K.public_of K.agreement t (record v { partial = bytes }) }
-    ensures ended { (t : EndTrace K) (v : EndState) → EndFollows K.public_of K.agreement t v
-        → EndFollows K.public_of K.agreement t (ended_session v) }
+    ensures partial { (t : EndTrace K) (v : EndState) (bytes : List ℕ) → EndFollows K.pairs t v
+        → EndFollows K.pairs t (record v { partial = bytes }) }
+    ensures ended { (t : EndTrace K) (v : EndState) → EndFollows K.pairs t v
+        → EndFollows K.pairs t (ended_session v) }
 {}

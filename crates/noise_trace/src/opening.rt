@@ -23,7 +23,7 @@ impl Opening {
 
     // Once all handshake messages of a party have passed.
     pub(crate) fn after<K: Keys>(following: &Following<K>) -> Option<Opening>
-        ensures { (v : Party) → Follows K.public_of K.agreement following.now v → result ≡ opening_in v }
+        ensures { (v : Party) → Follows K.pairs following.now v → result ≡ opening_in v }
     {
         if !following.is_complete() {
             return None;

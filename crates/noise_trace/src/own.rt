@@ -60,7 +60,7 @@ fn give_token<K: Keys>(
     requires nonces { nonce_now state.old < 2 ^ 64 - 1 }
     ensures nonce { nonce_now state.new ≤ nonce_now state.old + 1 }
     ensures width { IfSome result (λ n. n ≤ 48) }
-    ensures given { GivesToken K.public_of K.agreement means.now psks.now token state.old state.new result }
+    ensures given { GivesToken K.pairs means.now psks.now token state.old state.new result }
 {
     match token {
         Token::E => {
@@ -97,7 +97,7 @@ pub(crate) fn give<K: Keys>(
     requires nonces { nonce_now state.old + length tokens.now < 2 ^ 64 - 1 }
     requires room { length steps.old.items + length tokens.now ≤ 11 }
     requires within { from + 48 * length tokens.now ≤ 65535 }
-    ensures given { GivesTokens K.public_of K.agreement means.now psks.now tokens.now from state.old
+    ensures given { GivesTokens K.pairs means.now psks.now tokens.now from state.old
         steps.old.items steps.new.items }
 {
     let Some((token, later)) = tokens.split_first() else {

@@ -54,8 +54,8 @@ impl<K: Keys> Following<K> {
     /// Of other keys its steps may end early.
     pub fn new(handshake: &Handshake<K>, keys: K) -> Following<K>
         requires supplied { IsSupplied handshake.now }
-        ensures { (v : Party) → Matches K.public_of K.agreement handshake.now v → K.public_of keys ≡ v.own
-            → K.agreement keys ≡ v.agree → Follows K.public_of K.agreement result v }
+        ensures { (v : Party) → Matches K.pairs handshake.now v → (K.pairs keys).public ≡ v.own
+            → (K.pairs keys).agree ≡ v.agree → Follows K.pairs result v }
     {
         Following {
             pattern: copy(handshake.pattern()),
@@ -67,9 +67,9 @@ impl<K: Keys> Following<K> {
 
     // Follows the next message. One whose tokens don't fit leaves everything as it was, and so does one after the last.
     fn advance(&mut self, message: &[u8]) -> ArrayVec<Step, 11>
-        ensures { (v : Party) (xs : List (List ℕ)) (payload : List ℕ) → Follows K.public_of K.agreement self.old v
+        ensures { (v : Party) (xs : List (List ℕ)) (payload : List ℕ) → Follows K.pairs self.old v
             → IsNextMessage v xs payload message.now → (result.items ≡ next_steps v xs payload)
-            × Follows K.public_of K.agreement self.new (after_carried v xs payload) }
+            × Follows K.pairs self.new (after_carried v xs payload) }
     {
         let messages = self.pattern.pattern().messages();
         if self.passed as usize >= messages.len() {
@@ -92,9 +92,9 @@ impl<K: Keys> Following<K> {
     ///
     /// Of another message the steps may end early.
     pub fn written(&mut self, message: &[u8]) -> ArrayVec<Step, 11>
-        ensures { (v : Party) (xs : List (List ℕ)) (payload : List ℕ) → Follows K.public_of K.agreement self.old v
+        ensures { (v : Party) (xs : List (List ℕ)) (payload : List ℕ) → Follows K.pairs self.old v
             → Writes v payload xs message.now → (result.items ≡ next_steps v xs payload)
-            × Follows K.public_of K.agreement self.new (after_own v xs payload) }
+            × Follows K.pairs self.new (after_own v xs payload) }
     {
         self.advance(message)
     }
@@ -104,9 +104,9 @@ impl<K: Keys> Following<K> {
     ///
     /// Of another message the steps may end early.
     pub fn accepted(&mut self, message: &[u8]) -> ArrayVec<Step, 11>
-        ensures { (v : Party) (xs : List (List ℕ)) (payload : List ℕ) → Follows K.public_of K.agreement self.old v
+        ensures { (v : Party) (xs : List (List ℕ)) (payload : List ℕ) → Follows K.pairs self.old v
             → Accepts v message.now xs payload → (result.items ≡ next_steps v xs payload)
-            × Follows K.public_of K.agreement self.new (after_message v xs payload) }
+            × Follows K.pairs self.new (after_message v xs payload) }
     {
         self.advance(message)
     }
@@ -116,7 +116,7 @@ impl<K: Keys> Following<K> {
     ///
     /// Of another message or token the steps may end early.
     pub fn refused(&self, message: &[u8], token: u8) -> ArrayVec<Step, 11>
-        ensures { (v : Party) (cause : Cause) → Follows K.public_of K.agreement self.now v
+        ensures { (v : Party) (cause : Cause) → Follows K.pairs self.now v
             → (refused : Refuses v message.now token cause)
             → result.items ≡ steps_before v token refused.stops.carried }
     {
@@ -128,7 +128,7 @@ impl<K: Keys> Following<K> {
     ///
     /// Of another token the steps may end early.
     pub fn withheld(&self, token: u8) -> ArrayVec<Step, 11>
-        ensures { (v : Party) → Follows K.public_of K.agreement self.now v → (lacks : LacksDhResult v token)
+        ensures { (v : Party) → Follows K.pairs self.now v → (lacks : LacksDhResult v token)
             → result.items ≡ steps_before v token lacks.lacks.before }
     {
         self.before.withheld_steps(&self.keys, token)
@@ -136,14 +136,14 @@ impl<K: Keys> Following<K> {
 
     /// Whether all messages have passed.
     pub fn is_complete(&self) -> bool
-        ensures { (v : Party) → Follows K.public_of K.agreement self.now v → result ≡ is_complete v }
+        ensures { (v : Party) → Follows K.pairs self.now v → result ≡ is_complete v }
     {
         self.passed as usize == self.pattern.pattern().messages().len()
     }
 
     /// The two keys of the transport, if all messages have passed, the initiator's first (Split).
     pub fn transport_keys(&self) -> ([u8; 32], [u8; 32])
-        ensures { (v : Party) → Follows K.public_of K.agreement self.now v
+        ensures { (v : Party) → Follows K.pairs self.now v
             → result ≡ (initiator_key v.history, responder_key v.history) }
     {
         self.values().transport_keys()
@@ -151,21 +151,21 @@ impl<K: Keys> Following<K> {
 
     /// The hash, the chaining key, the key and the nonce after the messages that have passed.
     pub fn values(&self) -> StateValues
-        ensures { (v : Party) → Follows K.public_of K.agreement self.now v → result ≡ values_of v.history }
+        ensures { (v : Party) → Follows K.pairs self.now v → result ≡ values_of v.history }
     {
         self.before.values()
     }
 
     /// How many messages have passed.
     pub fn passed(&self) -> u8
-        ensures { (v : Party) → Follows K.public_of K.agreement self.now v → result ≡ v.passed }
+        ensures { (v : Party) → Follows K.pairs self.now v → result ≡ v.passed }
     {
         self.passed
     }
 
     /// The role of the party.
     pub fn role(&self) -> Role
-        ensures { (v : Party) → Follows K.public_of K.agreement self.now v → result ≡ v.role }
+        ensures { (v : Party) → Follows K.pairs self.now v → result ≡ v.role }
     {
         self.before.role()
     }

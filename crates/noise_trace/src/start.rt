@@ -94,8 +94,8 @@ pub fn start_steps<K: Keys>(
     keys: &K,
     remote: &Remote,
 ) -> ArrayVec<StartStep, 6>
-    ensures { (psks : ℕ) → setup_fault pattern.now role (K.public_of keys.now) remote.now psks ≡ None
-        → result.items ≡ start_steps pattern.now role prologue.now (public_keys (K.public_of keys.now)) remote.now }
+    ensures { (psks : ℕ) → setup_fault pattern.now role (K.pairs keys.now).public remote.now psks ≡ None
+        → result.items ≡ start_steps pattern.now role prologue.now (public_keys (K.pairs keys.now).public) remote.now }
 {
     setup_is_whole();
     tokens_match();

@@ -108,7 +108,7 @@ fn follow_token<K: Keys>(
     requires nonces { nonce_now state.old < 2 ^ 64 - 1 }
     ensures nonce { nonce_now state.new ≤ nonce_now state.old + 1 }
     ensures range { IfSome result (λ taken. taken.0 ≤ length rest.now) }
-    ensures followed { FollowsToken K.agreement means.now known.now psks.now token rest.now
+    ensures followed { FollowsToken K.pairs means.now known.now psks.now token rest.now
         state.old state.new result }
 {
     match token {
@@ -177,7 +177,7 @@ fn follow_one<K: Keys>(
     ensures nonce { nonce_now state.new ≤ nonce_now state.old + 1 }
     ensures many { length steps.new.items ≤ length steps.old.items + 1 }
     ensures range { IfSome result (λ next. next.0 ≤ length means.now.message.now) }
-    ensures followed { FollowsOne K.agreement means.now known.now psks.now token from
+    ensures followed { FollowsOne K.pairs means.now known.now psks.now token from
         state.old state.new result steps.old.items steps.new.items }
 {
     let rest = bytes_from(means.message, from);
@@ -211,7 +211,7 @@ pub(crate) fn follow<K: Keys>(
     ensures nonce { nonce_now state.new ≤ nonce_now state.old + length tokens.now }
     ensures many { length steps.new.items ≤ length steps.old.items + length tokens.now }
     ensures range { IfSome result (λ end. end.0 ≤ length means.now.message.now) }
-    ensures followed { FollowsTokens K.agreement means.now known.now psks.now tokens.now from
+    ensures followed { FollowsTokens K.pairs means.now known.now psks.now tokens.now from
         state.old state.new result steps.old.items steps.new.items }
 {
     let Some((token, later)) = tokens.split_first() else {

@@ -10,11 +10,9 @@ pub enum FileKeys {
 }
 
 impl Keys for FileKeys {
-    ghost use Rattle.noise_vectors.specs.FileKeys.{agreement_of, public_of};
+    ghost use Rattle.noise_vectors.specs.FileKeys.{pairs_of};
 
-    ghost public_of = { public_of };
-
-    ghost agreement = { agreement_of };
+    ghost pairs = { pairs_of };
 
     fn public(&self, own: Own) -> Option<[u8; 32]> {
         match self {

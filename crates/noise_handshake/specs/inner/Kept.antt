@@ -3,7 +3,7 @@ use Rattle.std.specs.Prelude.{◌≡◌, ◌≤◌, ℕ, List, Option, length, d
 use Rattle.noise_names.specs.Plan.{has_psk}
 use Rattle.noise_names.specs.Validity.{IsValid}
 use Rattle.noise_names.specs.Limits.{IsPattern}
-use Rattle.noise_keys.specs.declared.keys.Own.{Own}
+use Rattle.noise_keys.specs.Keys.{KeyPairs}
 use Rattle.noise_handshake.specs.declared.handshake.Handshake.TheInside.{Inside}
 use Rattle.noise_handshake.specs.HandshakeValue.{HandshakeValue}
 use Rattle.noise_handshake.specs.inner.Known.{KnowsRemote}
@@ -24,7 +24,7 @@ held_in a = record {
 }
 
 -- What holds of them between two calls.
-abbrev pub IsKept : {K : Type 0} → (K → Own → Option (List ℕ)) → Inside K → Type 0
-IsKept public_of a = (a.means.has_psks ≡ has_psk a.pattern) × (a.used ≤ length a.psks.items)
-    × IsSound public_of (held_in a) × KnowsRemote (held_in a) × LaysNext a.pattern a.passed a.next × IsValid a.pattern
+abbrev pub IsKept : {K : Type 0} → (K → KeyPairs) → Inside K → Type 0
+IsKept pairs a = (a.means.has_psks ≡ has_psk a.pattern) × (a.used ≤ length a.psks.items)
+    × IsSound pairs (held_in a) × KnowsRemote (held_in a) × LaysNext a.pattern a.passed a.next × IsValid a.pattern
     × IsPattern a.pattern

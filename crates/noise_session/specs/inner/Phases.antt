@@ -6,6 +6,7 @@ use Rattle.noise_session.specs.declared.phase.Phase.{Phase}
 use Rattle.noise_session.specs.declared.phase.Phase.TheVariants as phase
 use Rattle.noise_session.specs.Progress.{role_of}
 use Rattle.noise_session.specs.Ends.{EndState, progress_in, hash_in}
+use Rattle.noise_keys.specs.Keys.{KeyPairs}
 
 -- whether messages are to come, where it is a handshake, and it hasn't ended
 abbrev pub is_due : {K : Type 0} → Phase K → Bool
@@ -22,8 +23,8 @@ IsHandshake (phase.Handshaking h interval) = h.ended ≡ false
 IsHandshake _ = ⊥
 
 -- The handshake matches the state, whether messages are to come or not.
-module _ {K : Type 0} (public_of : K → Own → Option (List ℕ)) (agreement : K → Own → List ℕ → Option (List ℕ)) where
+module _ {K : Type 0} (pairs : K → KeyPairs) where
   abbrev pub GoesOnAs : Phase K → EndState → Type 0
-  GoesOnAs (phase.Handshaking h interval) v = Matches public_of agreement h v.party × (interval ≡ v.interval)
+  GoesOnAs (phase.Handshaking h interval) v = Matches pairs h v.party × (interval ≡ v.interval)
       × (v.sent ≡ 0) × (v.received ≡ 0)
   GoesOnAs _ v = ⊥

@@ -13,11 +13,12 @@ use Rattle.noise_theorems.specs.declared.fault.ConversationFault.{ConversationFa
 use Rattle.noise_theorems.specs.Conversed.{HaveConversed}
 use Rattle.noise_theorems.specs.FittingMessages.{messages_fit_from}
 use Rattle.noise_theorems.specs.Setup.{BothStarts, IsReportedFault, fault_of}
+use Rattle.noise_keys.specs.Keys.{KeyPairs}
 
-module _ {K : Type 0} (public_of : K → Own → Option (List ℕ)) (agreement : K → Own → List ℕ → Option (List ℕ)) where
+module _ {K : Type 0} (pairs : K → KeyPairs) where
   -- two new ends that are set up alike, for a valid pattern
   pub record AreNewEnds (p : Plan) (s : BothStarts) (interval : ℕ) (duel : DuelValue K K) : Type 0 where
-    pub matches : DuelMatches public_of agreement public_of agreement duel
+    pub matches : DuelMatches pairs pairs duel
         (sides_at_start p s.initiator s.responder interval interval)
     pub alike : AreSetUpAlike p s.initiator.prologue s.initiator s.responder
     pub initiator_keys : HasLongKeys s.initiator
@@ -35,4 +36,4 @@ module _ {K : Type 0} (public_of : K → Own → Option (List ℕ)) (agreement :
       → Type 0
   SaysMessages lines duel result = (p : Plan) (s : BothStarts) (interval : ℕ)
       → AreNewEnds p s interval duel → messages_fit_from p 0 lines ≡ true → HasDhResults p s.initiator s.responder
-      → IfOk result (λ r. HaveConversed public_of agreement p s interval lines r.0 r.1)
+      → IfOk result (λ r. HaveConversed pairs p s interval lines r.0 r.1)

@@ -15,6 +15,7 @@ use Rattle.noise_trace.specs.declared.own.OwnMeans.{OwnMeans}
 use Rattle.noise_trace.specs.declared.tokens.Means.{Means}
 use Rattle.noise_trace.specs.inner.Carried.{CarriesAll, known_next, known_through}
 use Rattle.noise_trace.specs.Steps.{step, token_steps}
+use Rattle.noise_keys.specs.Keys.{KeyPairs}
 
 -- what following tokens makes: where the bytes after them begin, the keys that are known then, the state, and the steps
 abbrev pub IsFollowed : Bool → History → Bool → Remote → List Token → List (List ℕ) → ℕ → SymmetricState
@@ -31,9 +32,9 @@ IsFollowedOne has_psks r reads known t x from state result old new =
     × StateMatches state (after_token has_psks r t x)
     × (new ≡ old ++ step (part.Token t) from (length (token_bytes r t x)) (after_token has_psks r t x) ∷ [])
 
-module _ {K : Type 0} (agreement : K → Own → List ℕ → Option (List ℕ)) where
+module _ {K : Type 0} (pairs : K → KeyPairs) where
   abbrev pub reader_in : Means K → Reader
-  reader_in m = record { role = m.role; has_psks = m.has_psks; agree = agreement m.keys.now }
+  reader_in m = record { role = m.role; has_psks = m.has_psks; agree = (pairs m.keys.now).agree }
 
   -- A token is followed, from these bytes on: one that carries a text there takes so many of them.
   abbrev pub FollowsToken : Means K → Remote → List (List ℕ) → Token → List ℕ → SymmetricState → SymmetricState
@@ -58,10 +59,10 @@ module _ {K : Type 0} (agreement : K → Own → List ℕ → Option (List ℕ))
       → drop from m.message.now ≡ before_payload m.has_psks r ts xs ++ more
       → IsFollowed m.has_psks r m.reads known ts xs from after result old new
 
-module _ {K : Type 0} (public_of : K → Own → Option (List ℕ)) (agreement : K → Own → List ℕ → Option (List ℕ)) where
+module _ {K : Type 0} (pairs : K → KeyPairs) where
   abbrev pub writer_in : OwnMeans K → Writer
   writer_in m =
-      record { role = m.role; has_psks = m.has_psks; own = public_of m.keys.now; agree = agreement m.keys.now }
+      record { role = m.role; has_psks = m.has_psks; own = (pairs m.keys.now).public; agree = (pairs m.keys.now).agree }
 
   -- A token of the party's own is followed: one for which the party has a text takes so many bytes.
   abbrev pub GivesToken : OwnMeans K → List (List ℕ) → Token → SymmetricState → SymmetricState → Option ℕ → Type 0

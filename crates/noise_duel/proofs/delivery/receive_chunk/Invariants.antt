@@ -6,8 +6,8 @@ abbrev pub invariant-loop-rest : goal.invariant-loop-rest
 invariant-loop-rest g l =
     record {
       most : length l.rest ≤ length l.piece;
-      some : (s : Side) → EndMatches g.K.Keys.public_of g.K.Keys.agreement l.fn.end s.state
-          → HasReceivedSome g.K.Keys.public_of g.K.Keys.agreement s l.role l.piece l.rest l.end l.fn.entries.items l.entries.items;
+      some : (s : Side) → EndMatches g.K.Keys.pairs l.fn.end s.state
+          → HasReceivedSome g.K.Keys.pairs s l.role l.piece l.rest l.end l.fn.entries.items l.entries.items;
     }
 
 abbrev pub decreases-loop-rest : goal.decreases-loop-rest

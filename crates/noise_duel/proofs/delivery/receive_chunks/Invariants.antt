@@ -7,8 +7,8 @@ invariant-loop-rest g l =
     record {
       most : length l.rest ≤ length l.bytes;
       index : l.index + length l.rest ≤ 8 + length l.bytes;
-      some : (s : Side) → EndMatches g.K.Keys.public_of g.K.Keys.agreement l.fn.end s.state
-          → HasReceivedSome g.K.Keys.public_of g.K.Keys.agreement s l.role l.bytes l.rest l.end l.fn.entries.items l.entries.items;
+      some : (s : Side) → EndMatches g.K.Keys.pairs l.fn.end s.state
+          → HasReceivedSome g.K.Keys.pairs s l.role l.bytes l.rest l.end l.fn.entries.items l.entries.items;
     }
 
 abbrev pub decreases-loop-rest : goal.decreases-loop-rest

@@ -16,7 +16,7 @@ returns-in_ok-push-in-Ok g c s matches frames =
     record {
       next = wrote.after;
       writes = subst (λ (n : ℕ). SideWrites s c.args.payload.now (Wrote n) wrote.after) number wrote.writes;
-      matches = subst (λ (v : EndState). EndMatches g.K.Keys.public_of g.K.Keys.agreement c.write_into.new.self v) (sym wrote.state) sent.2;
+      matches = subst (λ (v : EndState). EndMatches g.K.Keys.pairs c.write_into.new.self v) (sym wrote.state) sent.2;
       frames_are = frames-unchanged c.args.frames.now.items c.push.new.self.items c.truncate.new.self bytes s.frames wrote.after.frames
           c.in_ok-push-in-Ok.ensures.items written frames wrote.frames;
     }

@@ -7,7 +7,7 @@ use Rattle.noise_handshake.proofs.reader.+read_tokens.Goals as goal
 
 pub returns-in-Err-clause-read : goal.returns-in-Err-clause-read
 returns-in-Err-clause-read g t c r place s within are =
-    let v : Reader = reader_of g.K.Keys.agreement c.args.means.now in
+    let v : Reader = reader_of g.K.Keys.pairs c.args.means.now in
     let first : PlacedToken = c.in-Some.first.now in
     let token : Token = first.token in
     let later : List Token = tokens_of c.in-Some.later.now in
@@ -21,7 +21,7 @@ returns-in-Err-clause-read g t c r place s within are =
 
 pub returns-in-Ok-read_tokens-clause-read : goal.returns-in-Ok-read_tokens-clause-read
 returns-in-Ok-read_tokens-clause-read g t c r place s within are =
-    let v : Reader = reader_of g.K.Keys.agreement c.args.means.now in
+    let v : Reader = reader_of g.K.Keys.pairs c.args.means.now in
     let has_psks : Bool = c.args.means.now.has_psks in
     let first : PlacedToken = c.in-Some.first.now in
     let token : Token = first.token in
@@ -55,7 +55,7 @@ returns-in-Ok-read_tokens-clause-read g t c r place s within are =
 
 pub returns-in-Err-read_tokens-clause-read : goal.returns-in-Err-read_tokens-clause-read
 returns-in-Err-read_tokens-clause-read g t c r place s within are =
-    let v : Reader = reader_of g.K.Keys.agreement c.args.means.now in
+    let v : Reader = reader_of g.K.Keys.pairs c.args.means.now in
     let first : PlacedToken = c.in-Some.first.now in
     let token : Token = first.token in
     let later : List Token = tokens_of c.in-Some.later.now in

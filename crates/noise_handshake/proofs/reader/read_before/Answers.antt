@@ -27,7 +27,7 @@ returns-in-Ok g c r s = search (rules, placed-take, tokens-take)
 
 pub returns-in-Err : goal.returns-in-Err
 returns-in-Err g c r s =
-    let v : Reader = reader_of g.K.Keys.agreement c.args.means.now in
+    let v : Reader = reader_of g.K.Keys.pairs c.args.means.now in
     let trial : StateMatches c.for_trial-trial.result r = subst (λ (z : SymmetricState). StateMatches z r) (sym c.for_trial-trial.ensures) s in
     let placed : ArePlaced c.args.means.now.has_psks (keyed c.for_trial-trial.result) 0 (take c.args.k c.args.placed.now) =
     search (rules, placed-take) in

@@ -12,7 +12,7 @@ read_tokens-requires-clause-placed g c = (
 
 pub returns-in-Ok : goal.returns-in-Ok
 returns-in-Ok g c r s k stops =
-    let v : Reader = reader_of g.K.Keys.agreement c.args.means.now in
+    let v : Reader = reader_of g.K.Keys.pairs c.args.means.now in
     let trial : StateMatches c.for_trial-trial.result r = subst (λ (z : SymmetricState). StateMatches z r) (sym c.for_trial-trial.ensures) s in
     let placed : ArePlaced c.args.means.now.has_psks (keyed c.for_trial-trial.result) 0 c.args.placed.now =
     subst (λ (z : SymmetricState). ArePlaced c.args.means.now.has_psks (keyed z) 0 c.args.placed.now) (sym c.for_trial-trial.ensures) c.requires.placed in

@@ -18,7 +18,7 @@ returns-in-Ok-decrypt_and_hash-clause-beyond g c = search (rules, take-put_mid_b
 
 pub returns-in-Ok-decrypt_and_hash-clause-read : goal.returns-in-Ok-decrypt_and_hash-clause-read
 returns-in-Ok-decrypt_and_hash-clause-read g c r s =
-    let v : Reader = reader_of g.K.Keys.agreement c.args.means.now in
+    let v : Reader = reader_of g.K.Keys.pairs c.args.means.now in
     let m : List ℕ = c.args.message.now in
     let n : ℕ = c.in-Ok.from in
     let len : ℕ = c.in-Ok-decrypt_and_hash.len in
@@ -46,7 +46,7 @@ returns-in-Err-Short-clause-stop g c = omega (arith, length-tokens_of c.args.pla
 
 pub returns-in-Err-Short-clause-read : goal.returns-in-Err-Short-clause-read
 returns-in-Err-Short-clause-read g c r s =
-    let v : Reader = reader_of g.K.Keys.agreement c.args.means.now in
+    let v : Reader = reader_of g.K.Keys.pairs c.args.means.now in
     let m : List ℕ = c.args.message.now in
     let n : ℕ = c.in-Ok.from in
     let start = c.in-Ok.ensures.read r 0 s (omega arith) c.requires.placed in

@@ -10,7 +10,7 @@ returns-in-Some g t c = search (rules, asked-later)
 
 pub returns-in-None : goal.returns-in-None
 returns-in-None g t c =
-    let w : Writer = writer_of g.K.Keys.public_of g.K.Keys.agreement c.args.means.now in
+    let w : Writer = writer_of g.K.Keys.pairs c.args.means.now in
     asked-first w c.args.known.now c.args.psks.now (tokens_of c.args.placed.now) (tokens_of c.in_ok-first.later.now) c.in_ok-first.first.now.token
     (ap tokens_of c.in_ok-first.ensures.cases.0) c.in-None.ensures.text (c.in-None.ensures.dh refl) c.asked_at.result c.asked_at.ensures
 
@@ -18,7 +18,7 @@ pub text_at-requires-clause-psk : goal.text_at-requires-clause-psk
 text_at-requires-clause-psk g t c = psk-due (tokens_of c.args.placed.now) (tokens_of c.in_ok-first.later.now) c.in_ok-first.first.now.token (ap tokens_of c.in_ok-first.ensures.cases.0) (length c.args.psks.now) c.requires.psks
 
 pub text_at-requires-clause-own : goal.text_at-requires-clause-own
-text_at-requires-clause-own g t c = all-first (tokens_of c.args.placed.now) (tokens_of c.in_ok-first.later.now) c.in_ok-first.first.now.token (ap tokens_of c.in_ok-first.ensures.cases.0) (has_own (g.K.Keys.public_of c.args.means.now.keys)) c.requires.own
+text_at-requires-clause-own g t c = all-first (tokens_of c.args.placed.now) (tokens_of c.in_ok-first.later.now) c.in_ok-first.first.now.token (ap tokens_of c.in_ok-first.ensures.cases.0) (has_own (g.K.Keys.pairs c.args.means.now.keys).public) c.requires.own
 
 pub text_at-requires-clause-known : goal.text_at-requires-clause-known
 text_at-requires-clause-known g t c = all-first (tokens_of c.args.placed.now) (tokens_of c.in_ok-first.later.now) c.in_ok-first.first.now.token (ap tokens_of c.in_ok-first.ensures.cases.0) (is_known c.args.means.now.role (is_some c.args.known.now.e) (is_some c.args.known.now.s)) c.requires.known

@@ -10,7 +10,7 @@ returns-in-Ok-clause-beyond g t c = search (rules, widths, length-take, length-d
 
 pub returns-in-Ok-clause-written : goal.returns-in-Ok-clause-written
 returns-in-Ok-clause-written g t c r s =
-    let w : Writer = writer_of g.K.Keys.public_of g.K.Keys.agreement c.args.means.now in
+    let w : Writer = writer_of g.K.Keys.pairs c.args.means.now in
     let n : ℕ = c.in-Some-write_token.n in
     let k : ℕ = c.in-Ok.more in
     let token : Token = c.in-Some.first.now.token in
@@ -38,7 +38,7 @@ returns-in-Ok-clause-written g t c r s =
 
 pub returns-in-Err-clause-written : goal.returns-in-Err-clause-written
 returns-in-Err-clause-written g t c r s =
-    let w : Writer = writer_of g.K.Keys.public_of g.K.Keys.agreement c.args.means.now in
+    let w : Writer = writer_of g.K.Keys.pairs c.args.means.now in
     let token : Token = c.in-Some.first.now.token in
     let a = c.in-Some-write_token.ensures.written r s in
     let next : History = after_token c.args.means.now.has_psks r token a.0 in

@@ -9,8 +9,8 @@ returns g c =
     let p = c.args.pattern in
     let text = c.args.prologue.now in
     let i : ℕ = c.args.interval in
-    let a : Start = start_by g.K.Keys.public_of g.K.Keys.agreement p Initiator text c.args.psks.now c.args.initiator c.args.responder in
-    let b : Start = start_by g.K.Keys.public_of g.K.Keys.agreement p Responder text c.args.psks.now c.args.responder c.args.initiator in
+    let a : Start = start_by g.K.Keys.pairs p Initiator text c.args.psks.now c.args.initiator c.args.responder in
+    let b : Start = start_by g.K.Keys.pairs p Responder text c.args.psks.now c.args.responder c.args.initiator in
     let new = c.in_ok-duel.ensures.made.1 in
     let alike = new.alike in
     let reported = c.in_ok-made.ensures.agrees p a b i i new.matches in
@@ -28,7 +28,7 @@ returns g c =
           psks = inr psks;
           agreed = λ hash e f.
               let one = hashes hash reported.0.matches e f in
-              all-agreed g.K.Keys.public_of g.K.Keys.agreement p i (events_of c.args.events.now) c.in_ok-made.made.0 c.in_ok-made.made.1 last
+              all-agreed g.K.Keys.pairs p i (events_of c.args.events.now) c.in_ok-made.made.0 c.in_ok-made.made.1 last
               (reported.1.one one (inr psks)) (reported.1.payloads refl one (inr psks))
               (rw (reported.0.frames.initiator, reported.0.frames.responder)
               (c.entries_agree.ensures p a b i (events_of c.args.events.now) notes last reported.0.run one (inr psks)))

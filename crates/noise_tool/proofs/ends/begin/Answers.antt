@@ -4,6 +4,7 @@ use Rattle.noise_handshake.specs.Party.{Party}
 use Rattle.noise_handshake.specs.Matching.{Matches}
 use Rattle.noise_tool.proofs.EndLemmas.{begun-same, both-set-up, setup-same, none-reported, reported-first, reported-second}
 use Rattle.noise_tool.proofs.ends.begin.Goals as goal
+use Rattle.noise_vectors.specs.FileKeys.{pairs_of}
 
 pub returns-in_err-first-clause-fault : goal.returns-in_err-first-clause-fault
 returns-in_err-first-clause-fault c =
@@ -44,6 +45,6 @@ returns-clause-made c =
         set_up = both-set-up file plan (sym setup ∙ none-reported Initiator _ c.in_ok-first.ensures.fault)
             (sym setup-2 ∙ none-reported Responder _ c.in_ok-second.ensures.fault);
       };
-      initiator = subst (λ (v : Party). Matches public_of agreement_of c.in_ok-first.first v) start c.in_ok-first.ensures.matches;
-      responder = subst (λ (v : Party). Matches public_of agreement_of c.in_ok-second.second v) start-2 c.in_ok-second.ensures.matches;
+      initiator = subst (λ (v : Party). Matches pairs_of c.in_ok-first.first v) start c.in_ok-first.ensures.matches;
+      responder = subst (λ (v : Party). Matches pairs_of c.in_ok-second.second v) start-2 c.in_ok-second.ensures.matches;
     }

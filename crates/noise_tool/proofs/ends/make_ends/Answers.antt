@@ -2,6 +2,7 @@ use Rattle.std.proofs.Common.{ℕ, subst}
 use Rattle.noise_tool.proofs.Common.{Initiator, Responder, DuelMatches, both_sides, end_of, public_of, agreement_of, file_start}
 use Rattle.noise_duel.specs.Messages.{begun_as}
 use Rattle.noise_tool.proofs.ends.make_ends.Goals as goal
+use Rattle.noise_vectors.specs.FileKeys.{pairs_of}
 
 pub returns-clause-ends : goal.returns-clause-ends
 returns-clause-ends c =
@@ -10,7 +11,7 @@ returns-clause-ends c =
     record {
       plan = a.plan;
       of_file = a.of_file;
-      matches = subst (λ (i : ℕ). DuelMatches public_of agreement_of public_of agreement_of c.in_ok-duel.duel
+      matches = subst (λ (i : ℕ). DuelMatches pairs_of pairs_of c.in_ok-duel.duel
           (both_sides (end_of (begun_as a.plan Initiator (file_start file a.plan Initiator)) i)
           (end_of (begun_as a.plan Responder (file_start file a.plan Responder)) i)))
           c.in_ok-initiator.ensures.value.0 (c.in_ok-duel.ensures.matches _ _ a.initiator a.responder);

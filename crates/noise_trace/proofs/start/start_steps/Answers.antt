@@ -10,7 +10,7 @@ use Rattle.noise_trace.proofs.start.start_steps.Goals as goal
 pub returns : goal.returns
 returns g c n none =
     let p : Plan = c.pattern-plan.result.now in
-    let own = g.K.Keys.public_of c.args.keys.now in
+    let own = (g.K.Keys.pairs c.args.keys.now).public in
     let known : Remote = c.args.remote.now in
     let same : p ≡ c.args.pattern.now = c.pattern-plan.ensures.value in
     let fault : setup_fault p c.args.role own known n ≡ None =

@@ -5,7 +5,7 @@ use Rattle.noise_trace.proofs.tokens.+follow.Goals as goal
 
 pub returns-clause-followed : goal.returns-clause-followed
 returns-clause-followed g t c r xs more s carries spelled =
-    let v : Reader = reader_in g.K.Keys.agreement c.args.means.now in
+    let v : Reader = reader_in g.K.Keys.pairs c.args.means.now in
     let m : List ℕ = c.args.means.now.message.now in
     let from : ℕ = c.args.from in
     let reads : Bool = c.args.means.now.reads in

@@ -5,7 +5,7 @@ use Rattle.noise_trace.proofs.tokens.follow_token.Goals as goal
 
 pub returns-in_err-width-in-E-clause-followed : goal.returns-in_err-width-in-E-clause-followed
 returns-in_err-width-in-E-clause-followed g c r x more s f e =
-    let v : Reader = reader_in g.K.Keys.agreement c.args.means.now in
+    let v : Reader = reader_in g.K.Keys.pairs c.args.means.now in
     let long : length x ≡ 32 = subst (λ (t : Token). Fits v c.args.known.now c.args.psks.now t x) c.in-E.is f in
     let here : c.args.rest.now ≡ x ++ more = subst (λ (t : Token). c.args.rest.now ≡ token_bytes r t x ++ more) c.in-E.is e in
     let reported = (c.take_e.ensures.taken r x more s long here).0 in
@@ -13,7 +13,7 @@ returns-in_err-width-in-E-clause-followed g c r x more s f e =
 
 pub returns-in_ok-width-in-E-clause-followed : goal.returns-in_ok-width-in-E-clause-followed
 returns-in_ok-width-in-E-clause-followed g c r x more s f e =
-    let v : Reader = reader_in g.K.Keys.agreement c.args.means.now in
+    let v : Reader = reader_in g.K.Keys.pairs c.args.means.now in
     let long : length x ≡ 32 = subst (λ (t : Token). Fits v c.args.known.now c.args.psks.now t x) c.in-E.is f in
     let here : c.args.rest.now ≡ x ++ more = subst (λ (t : Token). c.args.rest.now ≡ token_bytes r t x ++ more) c.in-E.is e in
     let reported = c.take_e.ensures.taken r x more s long here in

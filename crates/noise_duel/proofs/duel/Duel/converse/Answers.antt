@@ -8,7 +8,7 @@ use Rattle.noise_duel.proofs.duel.Duel.converse.Goals as goal
 pub loop-role-preserved : goal.loop-role-preserved
 loop-role-preserved g c v w st =
     let h = c.loop-role.invariant v w st in
-    one-more g.A.Keys.public_of g.A.Keys.agreement g.B.Keys.public_of g.B.Keys.agreement (both_sides v w) (say_events (roles_and_payloads c.args.lines.now))
+    one-more g.A.Keys.pairs g.B.Keys.pairs (both_sides v w) (say_events (roles_and_payloads c.args.lines.now))
     (say_events (roles_and_payloads (drop c.loop-role.role-index c.args.lines.now))) (say_events (roles_and_payloads (drop (c.loop-role.role-index + 1) c.args.lines.now)))
     (Say c.loop-role-item.result.0 c.as_slice.result.now) c.loop-role.self c.say.new.self c.loop-role.report c.say.new.report
     (ap (λ xs. say_events (roles_and_payloads xs))
@@ -21,7 +21,7 @@ loop-role-preserved g c v w st =
 pub returns-clause-reports : goal.returns-clause-reports
 returns-clause-reports g c v w st =
     let none : length c.args.lines.now ≤ c.loop-role.role-index = omega arith in
-    all-come g.A.Keys.public_of g.A.Keys.agreement g.B.Keys.public_of g.B.Keys.agreement (both_sides v w) (say_events (roles_and_payloads c.args.lines.now))
+    all-come g.A.Keys.pairs g.B.Keys.pairs (both_sides v w) (say_events (roles_and_payloads c.args.lines.now))
     (say_events (roles_and_payloads (drop c.loop-role.role-index c.args.lines.now))) c.loop-role.self c.loop-role.report
     (ap (λ xs. say_events (roles_and_payloads xs)) (drop_all c.loop-role.role-index c.args.lines.now none)) (c.loop-role.invariant v w st)
 

@@ -7,7 +7,7 @@ use Rattle.noise_duel.proofs.duel.Duel.run.Goals as goal
 pub loop-event-preserved : goal.loop-event-preserved
 loop-event-preserved g c v w st =
     let h = c.loop-event.invariant v w st in
-    one-more g.A.Keys.public_of g.A.Keys.agreement g.B.Keys.public_of g.B.Keys.agreement (both_sides v w) (events_of c.args.events.now)
+    one-more g.A.Keys.pairs g.B.Keys.pairs (both_sides v w) (events_of c.args.events.now)
     (events_of (drop c.loop-event.event-index c.args.events.now)) (events_of (drop (c.loop-event.event-index + 1) c.args.events.now))
     (event_of c.event-item.result) c.loop-event.self c.apply.new.self c.loop-event.report c.apply.new.report
     (ap events_of
@@ -18,7 +18,7 @@ loop-event-preserved g c v w st =
 pub returns-clause-reports : goal.returns-clause-reports
 returns-clause-reports g c v w st =
     let none : length c.args.events.now ≤ c.loop-event.event-index = omega arith in
-    all-come g.A.Keys.public_of g.A.Keys.agreement g.B.Keys.public_of g.B.Keys.agreement (both_sides v w) (events_of c.args.events.now)
+    all-come g.A.Keys.pairs g.B.Keys.pairs (both_sides v w) (events_of c.args.events.now)
     (events_of (drop c.loop-event.event-index c.args.events.now)) c.loop-event.self c.loop-event.report
     (ap events_of (drop_all c.loop-event.event-index c.args.events.now none)) (c.loop-event.invariant v w st)
 

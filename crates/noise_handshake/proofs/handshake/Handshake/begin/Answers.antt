@@ -10,7 +10,7 @@ use Rattle.noise_handshake.proofs.handshake.Handshake.begin.Goals as goal
 pub start-state-requires-clause-initiator : goal.start-state-requires-clause-initiator
 start-state-requires-clause-initiator g c =
     let plan : Plan = c.pattern-plan.result.now in
-    let own = g.K.Keys.public_of c.args.keys in
+    let own = (g.K.Keys.pairs c.args.keys).public in
     let n : ℕ = psks_of c.args.pattern.messages in
     let none : setup_fault plan c.args.role own c.args.remote n ≡ None =
     ap (λ (z : Plan). setup_fault z c.args.role own c.args.remote n) c.pattern-plan.ensures.value ∙ c.requires.right in
@@ -20,7 +20,7 @@ start-state-requires-clause-initiator g c =
 pub start-state-requires-clause-responder : goal.start-state-requires-clause-responder
 start-state-requires-clause-responder g c =
     let plan : Plan = c.pattern-plan.result.now in
-    let own = g.K.Keys.public_of c.args.keys in
+    let own = (g.K.Keys.pairs c.args.keys).public in
     let n : ℕ = psks_of c.args.pattern.messages in
     let none : setup_fault plan c.args.role own c.args.remote n ≡ None =
     ap (λ (z : Plan). setup_fault z c.args.role own c.args.remote n) c.pattern-plan.ensures.value ∙ c.requires.right in
@@ -30,8 +30,8 @@ start-state-requires-clause-responder g c =
 pub invariant_of-result : goal.invariant_of-result
 invariant_of-result g c =
     let plan : Plan = c.pattern-plan.result.now in
-    let P = g.K.Keys.public_of in
-    let own = g.K.Keys.public_of c.args.keys in
+    let P = g.K.Keys.pairs in
+    let own = (g.K.Keys.pairs c.args.keys).public in
     let n : ℕ = psks_of c.args.pattern.messages in
     let none : setup_fault plan c.args.role own c.args.remote n ≡ None =
     ap (λ (z : Plan). setup_fault z c.args.role own c.args.remote n) c.pattern-plan.ensures.value ∙ c.requires.right in

@@ -13,7 +13,7 @@ returns-in-Some g c =
     subst (λ (z : HandshakeValue g.row.K.Denot). z.passed < length z.pattern.messages) (sym c.self.view_is) c.requires.due in
     let len : c.len.result ≡ length c.self.inside.psks.items = search rules in
     record {
-      lacks = lacks-next g.K.Keys.public_of c.self.inside c.self.invariant less c.deref.result.now c.deref.ensures.0 c.args.self.now c.self.view_is
+      lacks = lacks-next g.K.Keys.pairs c.self.inside c.self.invariant less c.deref.result.now c.deref.ensures.0 c.args.self.now c.self.view_is
           c.len.result c.in-Some.k len c.in-Some.ensures;
     }
 

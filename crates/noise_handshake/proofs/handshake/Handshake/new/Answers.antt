@@ -6,7 +6,7 @@ use Rattle.noise_handshake.proofs.handshake.Handshake.new.Goals as goal
 
 pub begin-requires-clause-right : goal.begin-requires-clause-right
 begin-requires-clause-right g c =
-    let own = g.K.Keys.public_of c.args.keys in
+    let own = (g.K.Keys.pairs c.args.keys).public in
     let n : ℕ = length c.args.psks.now in
     let none : setup_fault c.args.pattern c.args.role own c.args.remote n ≡ None =
     ap (λ (z : Plan). setup_fault z c.args.role own c.args.remote n) (sym c.pattern-plan.ensures.value) ∙ sym c.setup_fault.ensures.fault ∙ c.in_default.is in
@@ -14,7 +14,7 @@ begin-requires-clause-right g c =
 
 pub begin-requires-clause-few : goal.begin-requires-clause-few
 begin-requires-clause-few g c =
-    let own = g.K.Keys.public_of c.args.keys in
+    let own = (g.K.Keys.pairs c.args.keys).public in
     let n : ℕ = length c.args.psks.now in
     let none : setup_fault c.args.pattern c.args.role own c.args.remote n ≡ None =
     ap (λ (z : Plan). setup_fault z c.args.role own c.args.remote n) (sym c.pattern-plan.ensures.value) ∙ sym c.setup_fault.ensures.fault ∙ c.in_default.is in
@@ -24,9 +24,8 @@ begin-requires-clause-few g c =
 
 pub returns-clause-matches : goal.returns-clause-matches
 returns-clause-matches g c =
-    let P = g.K.Keys.public_of in
-    let A = g.K.Keys.agreement in
-    let own = P c.args.keys in
+    let P = g.K.Keys.pairs in
+    let own = (P c.args.keys).public in
     let p = c.args.pattern in
     let n : ℕ = length c.args.psks.now in
     let none : setup_fault p c.args.role own c.args.remote n ≡ None =
@@ -37,6 +36,6 @@ returns-clause-matches g c =
     let all : IsSupplied c.begin.result =
     ap length (c.begin.ensures.psks ∙ same) ∙ counted p c.args.role own c.args.remote n none
     ∙ sym (ap (λ (z : Plan). psks_of (drop c.begin.result.passed z.messages)) begun.0 ∙ ap (λ (k : ℕ). psks_of (drop k p.messages)) begun.3) in
-    matches-of P A c.begin.result _
-    (subst (λ (z : List (List ℕ)). ValueMatches P A c.begin.result (party_at_start p c.args.role c.args.prologue.now own (A c.args.keys) c.args.remote z)) same
+    matches-of P c.begin.result _
+    (subst (λ (z : List (List ℕ)). ValueMatches P c.begin.result (party_at_start p c.args.role c.args.prologue.now own (P c.args.keys).agree c.args.remote z)) same
     c.begin.ensures.matches) all

@@ -11,7 +11,7 @@ read_before-requires-clause-placed g c = search (rules, reads-next, places-next)
 
 pub read_before-requires-clause-psks : goal.read_before-requires-clause-psks
 read_before-requires-clause-psks g c =
-    psks-before g.K.Keys.public_of c.self.inside c.self.invariant (reads-next g.K.Keys.public_of c.self.inside c.self.invariant c.args.self.now c.self.view_is c.requires.due)
+    psks-before g.K.Keys.pairs c.self.inside c.self.invariant (reads-next g.K.Keys.pairs c.self.inside c.self.invariant c.args.self.now c.self.view_is c.requires.due)
     c.deref-2.result.now c.deref-2.ensures.0 c.args.self.now c.self.view_is c.args.k c.requires.psks c.deref.result.now c.deref.ensures.0
 
 pub read_before-requires-clause-nonces : goal.read_before-requires-clause-nonces
@@ -22,21 +22,21 @@ read_before-requires-clause-known g c = search (rules, reads-next, known-next)
 
 pub read_before-requires-clause-within : goal.read_before-requires-clause-within
 read_before-requires-clause-within g c =
-    let less = reads-next g.K.Keys.public_of c.self.inside c.self.invariant c.args.self.now c.self.view_is c.requires.due in
+    let less = reads-next g.K.Keys.pairs c.self.inside c.self.invariant c.args.self.now c.self.view_is c.requires.due in
     let all : c.args.k ≤ length (tokens_at c.self.inside.pattern.messages c.self.inside.passed) =
     subst (λ (z : HandshakeValue g.row.K.Denot). c.args.k ≤ length (tokens_at z.pattern.messages z.passed)) (sym c.self.view_is) c.requires.within in
-    omega (arith, all, ap length (tokens-next g.K.Keys.public_of c.self.inside c.self.invariant less c.deref-2.result.now c.deref-2.ensures.0), length-tokens_of c.deref-2.result.now)
+    omega (arith, all, ap length (tokens-next g.K.Keys.pairs c.self.inside c.self.invariant less c.deref-2.result.now c.deref-2.ensures.0), length-tokens_of c.deref-2.result.now)
 
 pub returns : goal.returns
 returns g c = record {
   reads = λ v s.
-      let A = g.K.Keys.agreement in
+      let P = g.K.Keys.pairs in
       let a = c.self.inside in
-      let less = reads-next g.K.Keys.public_of c.self.inside c.self.invariant c.args.self.now c.self.view_is c.requires.due in
-      let l = listening-next g.K.Keys.public_of c.self.inside c.self.invariant less c.deref-2.result.now c.deref-2.ensures.0 A c.args.self.now c.self.view_is v s
+      let less = reads-next g.K.Keys.pairs c.self.inside c.self.invariant c.args.self.now c.self.view_is c.requires.due in
+      let l = listening-next g.K.Keys.pairs c.self.inside c.self.invariant less c.deref-2.result.now c.deref-2.ensures.0 c.args.self.now c.self.view_is v s
       c.deref.result.now c.deref.ensures.0 c.requires.due in
-      let trial = trial-next g.K.Keys.public_of c.self.inside c.self.invariant less c.deref-2.result.now c.deref-2.ensures.0 A c.args.self.now c.self.view_is v s a.state refl in
-      let q = for-view v a.means.role a.means.has_psks (A a.means.keys) _ a.remote _ l
+      let trial = trial-next g.K.Keys.pairs c.self.inside c.self.invariant less c.deref-2.result.now c.deref-2.ensures.0 c.args.self.now c.self.view_is v s a.state refl in
+      let q = for-view v a.means.role a.means.has_psks (P a.means.keys).agree _ a.remote _ l
       (λ w z s us. MatchResult c.read_before.result (λ remote. BeginsBefore w z s v.history us c.args.message.now c.args.k remote)
       (λ stop. (stop.token < c.args.k) × Stops w z s v.history us c.args.message.now stop.token stop.cause × MatchOption stop.want
       ((j : ℕ) → Stops w z s v.history us c.args.message.now j Agreement → ⊥)

@@ -8,7 +8,7 @@ read_lacking-requires-clause-placed g c = search (rules, reads-next, places-next
 
 pub read_lacking-requires-clause-psks : goal.read_lacking-requires-clause-psks
 read_lacking-requires-clause-psks g c =
-    psks-next g.K.Keys.public_of c.self.inside c.self.invariant (reads-next g.K.Keys.public_of c.self.inside c.self.invariant c.args.self.now c.self.view_is c.requires.due)
+    psks-next g.K.Keys.pairs c.self.inside c.self.invariant (reads-next g.K.Keys.pairs c.self.inside c.self.invariant c.args.self.now c.self.view_is c.requires.due)
     c.deref-2.result.now c.deref-2.ensures.0 c.args.self.now c.self.view_is c.requires.psks c.deref.result.now c.deref.ensures.0
 
 pub read_lacking-requires-clause-nonces : goal.read_lacking-requires-clause-nonces
@@ -20,11 +20,11 @@ read_lacking-requires-clause-known g c = search (rules, reads-next, known-next)
 pub returns : goal.returns
 returns g c = record {
   wants = λ v s.
-      let A = g.K.Keys.agreement in
+      let P = g.K.Keys.pairs in
       let a = c.self.inside in
-      let less = reads-next g.K.Keys.public_of c.self.inside c.self.invariant c.args.self.now c.self.view_is c.requires.due in
-      let l = listening-next g.K.Keys.public_of c.self.inside c.self.invariant less c.deref-2.result.now c.deref-2.ensures.0 A c.args.self.now c.self.view_is v s
+      let less = reads-next g.K.Keys.pairs c.self.inside c.self.invariant c.args.self.now c.self.view_is c.requires.due in
+      let l = listening-next g.K.Keys.pairs c.self.inside c.self.invariant less c.deref-2.result.now c.deref-2.ensures.0 c.args.self.now c.self.view_is v s
       c.deref.result.now c.deref.ensures.0 c.requires.due in
-      let trial = trial-next g.K.Keys.public_of c.self.inside c.self.invariant less c.deref-2.result.now c.deref-2.ensures.0 A c.args.self.now c.self.view_is v s a.state refl in
-      wants v c.args.message.now c.read_lacking.result a.means.role a.means.has_psks (A a.means.keys) _ a.remote _ l (c.read_lacking.ensures v.history trial);
+      let trial = trial-next g.K.Keys.pairs c.self.inside c.self.invariant less c.deref-2.result.now c.deref-2.ensures.0 c.args.self.now c.self.view_is v s a.state refl in
+      wants v c.args.message.now c.read_lacking.result a.means.role a.means.has_psks (P a.means.keys).agree _ a.remote _ l (c.read_lacking.ensures v.history trial);
 }

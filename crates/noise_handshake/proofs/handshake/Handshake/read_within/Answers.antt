@@ -9,8 +9,7 @@ returns-in-Some-lacks_psk-clause-reads g c v s =
 
 pub returns-in-Ok-clause-reads : goal.returns-in-Ok-clause-reads
 returns-in-Ok-clause-reads g c v s =
-    let P = g.K.Keys.public_of in
-    let A = g.K.Keys.agreement in
+    let P = g.K.Keys.pairs in
     let h = c.args.self.now in
-    let q = c.in-Ok.ensures.reads v (value-of P A h v s) in
-    (q.0, q.1, matches-of P A c.attempt.new.self _ q.2 (supplied-after h (c.read_fault.ensures.due c.in_default.is) s.supplied c.attempt.new.self c.in-Ok.ensures.state))
+    let q = c.in-Ok.ensures.reads v (value-of P h v s) in
+    (q.0, q.1, matches-of P c.attempt.new.self _ q.2 (supplied-after h (c.read_fault.ensures.due c.in_default.is) s.supplied c.attempt.new.self c.in-Ok.ensures.state))

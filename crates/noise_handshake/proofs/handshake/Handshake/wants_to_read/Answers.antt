@@ -3,13 +3,13 @@ use Rattle.noise_handshake.proofs.handshake.Handshake.wants_to_read.Goals as goa
 
 pub returns-in-Some-read_lacking-clause-wants : goal.returns-in-Some-read_lacking-clause-wants
 returns-in-Some-read_lacking-clause-wants g c v later s =
-    read-dh-result g.K.Keys.public_of g.K.Keys.agreement c.args.self.now v later s c.args.message.now
-    c.in-None.ensures.lacks _ _ (c.in-Some-read_lacking.ensures.wants (holding v c.args.self.now.psks) (matches-given g.K.Keys.public_of g.K.Keys.agreement c.args.self.now v later s))
+    read-dh-result g.K.Keys.pairs c.args.self.now v later s c.args.message.now
+    c.in-None.ensures.lacks _ _ (c.in-Some-read_lacking.ensures.wants (holding v c.args.self.now.psks) (matches-given g.K.Keys.pairs c.args.self.now v later s))
 
 pub returns-in-None-read_lacking-clause-wants : goal.returns-in-None-read_lacking-clause-wants
 returns-in-None-read_lacking-clause-wants g c v later s =
-    read-lacks g.K.Keys.public_of g.K.Keys.agreement c.args.self.now v later s c.args.message.now
-    c.in-None.ensures.lacks (c.in-None-read_lacking.ensures.wants (holding v c.args.self.now.psks) (matches-given g.K.Keys.public_of g.K.Keys.agreement c.args.self.now v later s))
+    read-lacks g.K.Keys.pairs c.args.self.now v later s c.args.message.now
+    c.in-None.ensures.lacks (c.in-None-read_lacking.ensures.wants (holding v c.args.self.now.psks) (matches-given g.K.Keys.pairs c.args.self.now v later s))
 
 pub returns-in-Ok-clause-asked : goal.returns-in-Ok-clause-asked
 returns-in-Ok-clause-asked g c v later s remote x = let e = c.in-Ok.ensures.asked v later s remote x in cc

@@ -5,7 +5,7 @@ use Rattle.noise_handshake.proofs.handshake.Handshake.with_fewer_psks.Goals as g
 
 pub begin-requires-clause-right : goal.begin-requires-clause-right
 begin-requires-clause-right g c =
-    let own = g.K.Keys.public_of c.args.keys in
+    let own = (g.K.Keys.pairs c.args.keys).public in
     let n : ℕ = c.max-count.result in
     let none : setup_fault c.args.pattern c.args.role own c.args.remote n ≡ None =
     ap (λ (z : Plan). setup_fault z c.args.role own c.args.remote n) (sym c.pattern-plan.ensures.value) ∙ sym c.setup_fault.ensures.fault ∙ c.in_default.is in
@@ -13,7 +13,7 @@ begin-requires-clause-right g c =
 
 pub begin-requires-clause-few : goal.begin-requires-clause-few
 begin-requires-clause-few g c =
-    let own = g.K.Keys.public_of c.args.keys in
+    let own = (g.K.Keys.pairs c.args.keys).public in
     let n : ℕ = c.max-count.result in
     let none : setup_fault c.args.pattern c.args.role own c.args.remote n ≡ None =
     ap (λ (z : Plan). setup_fault z c.args.role own c.args.remote n) (sym c.pattern-plan.ensures.value) ∙ sym c.setup_fault.ensures.fault ∙ c.in_default.is in

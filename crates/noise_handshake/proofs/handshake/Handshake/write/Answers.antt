@@ -6,14 +6,13 @@ use Rattle.noise_handshake.proofs.handshake.Handshake.write.Goals as goal
 
 pub returns-in-Some-clause-writes : goal.returns-in-Some-clause-writes
 returns-in-Some-clause-writes g c v s =
-    let P = g.K.Keys.public_of in
-    let A = g.K.Keys.agreement in
+    let P = g.K.Keys.pairs in
     let f : WriteFault = c.in-Some.fault in
     let len : ℕ = length c.args.payload.now in
     let e : write_fault c.args.self.now len ≡ Some f = sym c.write_fault.ensures.value ∙ c.in-Some.is in
     let clear = fault-no-agreement c.args.self.now len f e in (
-      withholds-of P A c.args.self.now v (value-of P A c.args.self.now v s) c.write_fault.ensures.within len f e,
-      subst (λ (w : Party). Matches P A c.args.self.now w) (sym (withheld-view v f clear)) s,
+      withholds-of P c.args.self.now v (value-of P c.args.self.now v s) c.write_fault.ensures.within len f e,
+      subst (λ (w : Party). Matches P c.args.self.now w) (sym (withheld-view v f clear)) s,
     )
 
 pub returns-in-Some-lacks_psk-clause-writes : goal.returns-in-Some-lacks_psk-clause-writes
@@ -22,8 +21,7 @@ returns-in-Some-lacks_psk-clause-writes g c v s =
 
 pub returns-clause-writes : goal.returns-clause-writes
 returns-clause-writes g c v s =
-    let P = g.K.Keys.public_of in
-    let A = g.K.Keys.agreement in
+    let P = g.K.Keys.pairs in
     let h = c.args.self.now in
-    writes-supplied P A h c.write_due.new.self (c.write_fault.ensures.due c.in_default.is) s.supplied v c.args.payload.now c.write_due.new.out
-    c.write_due.result c.write_due.ensures.state (c.write_due.ensures.writes v (value-of P A h v s))
+    writes-supplied P h c.write_due.new.self (c.write_fault.ensures.due c.in_default.is) s.supplied v c.args.payload.now c.write_due.new.out
+    c.write_due.result c.write_due.ensures.state (c.write_due.ensures.writes v (value-of P h v s))

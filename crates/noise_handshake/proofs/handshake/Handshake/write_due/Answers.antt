@@ -8,15 +8,15 @@ use Rattle.noise_handshake.proofs.handshake.Handshake.write_due.Goals as goal
 
 pub write_message-requires-clause-psks : goal.write_message-requires-clause-psks
 write_message-requires-clause-psks g c =
-    let less = writes-next g.K.Keys.public_of c.self.inside c.self.invariant c.args.self.now c.self.view_is
+    let less = writes-next g.K.Keys.pairs c.self.inside c.self.invariant c.args.self.now c.self.view_is
     (length c.args.payload.now) c.requires.due in
-    psks-next g.K.Keys.public_of c.self.inside c.self.invariant less c.deref-2.result.now c.deref-2.ensures.0 c.args.self.now c.self.view_is c.requires.psks c.deref.result.now c.deref.ensures.0
+    psks-next g.K.Keys.pairs c.self.inside c.self.invariant less c.deref-2.result.now c.deref-2.ensures.0 c.args.self.now c.self.view_is c.requires.psks c.deref.result.now c.deref.ensures.0
 
 pub write_message-requires-clause-nonces : goal.write_message-requires-clause-nonces
 write_message-requires-clause-nonces g c =
-    let less = writes-next g.K.Keys.public_of c.self.inside c.self.invariant c.args.self.now c.self.view_is
+    let less = writes-next g.K.Keys.pairs c.self.inside c.self.invariant c.args.self.now c.self.view_is
     (length c.args.payload.now) c.requires.due in
-    nonces-next g.K.Keys.public_of c.self.inside c.self.invariant less c.deref-2.result.now c.deref-2.ensures.0 c.for_trial-state.result c.for_trial-state.ensures
+    nonces-next g.K.Keys.pairs c.self.inside c.self.invariant less c.deref-2.result.now c.deref-2.ensures.0 c.for_trial-state.result c.for_trial-state.ensures
     (omega (arith, c.deref-2.ensures.1))
 
 pub write_message-requires-clause-own : goal.write_message-requires-clause-own
@@ -24,22 +24,22 @@ write_message-requires-clause-own g c = search (rules, writes-next, own-ours, wr
 
 pub write_message-requires-clause-room : goal.write_message-requires-clause-room
 write_message-requires-clause-room g c =
-    writes-room g.K.Keys.public_of c.self.inside c.self.invariant c.args.self.now c.self.view_is
+    writes-room g.K.Keys.pairs c.self.inside c.self.invariant c.args.self.now c.self.view_is
     (length c.args.payload.now) c.requires.due c.deref-2.result.now c.deref-2.ensures.0 c.for_trial-state.result c.for_trial-state.ensures
     (length c.args.out.now) c.requires.room
 
 pub write_message-requires-clause-most : goal.write_message-requires-clause-most
 write_message-requires-clause-most g c =
-    writes-most g.K.Keys.public_of c.self.inside c.self.invariant c.args.self.now c.self.view_is
+    writes-most g.K.Keys.pairs c.self.inside c.self.invariant c.args.self.now c.self.view_is
     (length c.args.payload.now) c.requires.due c.deref-2.result.now c.deref-2.ensures.0 c.for_trial-state.result c.for_trial-state.ensures
 
 pub overflow_add-self : goal.overflow_add-self
 overflow_add-self g c =
-    let less = writes-next g.K.Keys.public_of c.self.inside c.self.invariant c.args.self.now c.self.view_is
+    let less = writes-next g.K.Keys.pairs c.self.inside c.self.invariant c.args.self.now c.self.view_is
     (length c.args.payload.now) c.requires.due in
     omega (
       arith,
-      used-next g.K.Keys.public_of c.self.inside c.self.invariant less c.deref-2.result.now c.deref-2.ensures.0 c.args.self.now c.self.view_is c.requires.psks
+      used-next g.K.Keys.pairs c.self.inside c.self.invariant less c.deref-2.result.now c.deref-2.ensures.0 c.args.self.now c.self.view_is c.requires.psks
           (omega (arith, c.deref.ensures.1, ap length c.deref.ensures.0)),
     )
 
@@ -48,79 +48,77 @@ overflow_cast-result g c = omega (arith, length-tokens_of c.deref-2.result.now, 
 
 pub lay_next-self-inside-requires-clause-key : goal.lay_next-self-inside-requires-clause-key
 lay_next-self-inside-requires-clause-key g c =
-    let less = writes-next g.K.Keys.public_of c.self.inside c.self.invariant c.args.self.now c.self.view_is
+    let less = writes-next g.K.Keys.pairs c.self.inside c.self.invariant c.args.self.now c.self.view_is
     (length c.args.payload.now) c.requires.due in
-    c.has_key.ensures ∙ key-next g.K.Keys.public_of c.self.inside c.self.invariant less c.deref-2.result.now c.deref-2.ensures.0
+    c.has_key.ensures ∙ key-next g.K.Keys.pairs c.self.inside c.self.invariant less c.deref-2.result.now c.deref-2.ensures.0
     c.for_trial-state.result c.write_message.new.state c.for_trial-state.ensures c.in-Ok.ensures.keyed c.pattern-plan.result.now c.pattern-plan.ensures.value
 
 pub invariant_of-self : goal.invariant_of-self
 invariant_of-self g c =
-    let less = writes-next g.K.Keys.public_of c.self.inside c.self.invariant c.args.self.now c.self.view_is
+    let less = writes-next g.K.Keys.pairs c.self.inside c.self.invariant c.args.self.now c.self.view_is
     (length c.args.payload.now) c.requires.due in
-    unchanged-wrote g.K.Keys.public_of c.self.inside c.self.invariant less c.deref-2.result.now c.deref-2.ensures.0
+    unchanged-wrote g.K.Keys.pairs c.self.inside c.self.invariant less c.deref-2.result.now c.deref-2.ensures.0
     c.for_trial-state.result c.write_message.new.state c.for_trial-state.ensures c.in-Ok.ensures.keyed c.in-Ok.ensures.counted
     (omega (arith, c.deref-2.ensures.1)) c.pattern-plan.result.now c.pattern-plan.ensures.value c.lay_next-self-inside.result c.lay_next-self-inside.ensures.laid
     c.args.self.now c.self.view_is c.requires.psks
-    (writes-ours g.K.Keys.public_of c.self.inside c.self.invariant c.args.self.now c.self.view_is
+    (writes-ours g.K.Keys.pairs c.self.inside c.self.invariant c.args.self.now c.self.view_is
     (length c.args.payload.now) c.requires.due)
 
 pub returns-in-Ok-clause-len : goal.returns-in-Ok-clause-len
 returns-in-Ok-clause-len g c =
-    let long = writes-long g.K.Keys.public_of c.self.inside c.self.invariant c.args.self.now c.self.view_is
+    let long = writes-long g.K.Keys.pairs c.self.inside c.self.invariant c.args.self.now c.self.view_is
     (length c.args.payload.now) c.requires.due in
     let wide = c.in-Ok.ensures.width ∙ ap (λ (k : ℕ). k + length c.args.payload.now)
-    (writes-wide g.K.Keys.public_of c.self.inside c.self.invariant c.args.self.now c.self.view_is
+    (writes-wide g.K.Keys.pairs c.self.inside c.self.invariant c.args.self.now c.self.view_is
     (length c.args.payload.now) c.requires.due
     c.deref-2.result.now c.deref-2.ensures.0 c.for_trial-state.result c.for_trial-state.ensures) in
     (long ∙ ap Some (sym wide), omega (arith, c.requires.room _ long, wide))
 
 pub returns-in-Ok-clause-writes : goal.returns-in-Ok-clause-writes
 returns-in-Ok-clause-writes g c v s =
-    let P = g.K.Keys.public_of in
-    let A = g.K.Keys.agreement in
+    let P = g.K.Keys.pairs in
     let a = c.self.inside in
-    let less = writes-next g.K.Keys.public_of c.self.inside c.self.invariant c.args.self.now c.self.view_is
+    let less = writes-next g.K.Keys.pairs c.self.inside c.self.invariant c.args.self.now c.self.view_is
     (length c.args.payload.now) c.requires.due in
-    let l = speaking-next g.K.Keys.public_of c.self.inside c.self.invariant less c.deref-2.result.now c.deref-2.ensures.0 A c.args.self.now c.self.view_is v s
+    let l = speaking-next g.K.Keys.pairs c.self.inside c.self.invariant less c.deref-2.result.now c.deref-2.ensures.0 c.args.self.now c.self.view_is v s
     c.deref.result.now c.deref.ensures.0 (length c.args.payload.now) c.requires.due in
-    let trial = trial-next g.K.Keys.public_of c.self.inside c.self.invariant less c.deref-2.result.now c.deref-2.ensures.0 A c.args.self.now c.self.view_is v s c.for_trial-state.result c.for_trial-state.ensures in
-    let most = writes-most g.K.Keys.public_of c.self.inside c.self.invariant c.args.self.now c.self.view_is
+    let trial = trial-next g.K.Keys.pairs c.self.inside c.self.invariant less c.deref-2.result.now c.deref-2.ensures.0 c.args.self.now c.self.view_is v s c.for_trial-state.result c.for_trial-state.ensures in
+    let most = writes-most g.K.Keys.pairs c.self.inside c.self.invariant c.args.self.now c.self.view_is
     (length c.args.payload.now) c.requires.due c.deref-2.result.now c.deref-2.ensures.0 c.for_trial-state.result c.for_trial-state.ensures in
     let fits : length (take c.in-Ok.len c.write_message.new.out) ≤ 65535 =
     omega (arith, c.in-Ok.ensures.width, most, length-take c.in-Ok.len c.write_message.new.out) in
     let q = c.in-Ok.ensures.written v.history trial in (
       q.0,
-      written v a.means.role a.means.has_psks (P a.means.keys) (A a.means.keys) _ a.remote _ l c.args.payload.now q.0 (take c.in-Ok.len c.write_message.new.out) fits q.1 q.2,
-      after-wrote g.K.Keys.public_of c.self.inside c.self.invariant less c.deref-2.result.now c.deref-2.ensures.0 A c.args.self.now c.self.view_is v s
+      written v a.means.role a.means.has_psks (P a.means.keys).public (P a.means.keys).agree _ a.remote _ l c.args.payload.now q.0 (take c.in-Ok.len c.write_message.new.out) fits q.1 q.2,
+      after-wrote g.K.Keys.pairs c.self.inside c.self.invariant less c.deref-2.result.now c.deref-2.ensures.0 c.args.self.now c.self.view_is v s
           (length c.args.payload.now) c.requires.due q.0 c.args.payload.now c.write_message.new.state
           c.lay_next-self-inside.result q.3,
     )
 
 pub returns-in-Err-clause-writes : goal.returns-in-Err-clause-writes
 returns-in-Err-clause-writes g c v s =
-    let P = g.K.Keys.public_of in
-    let A = g.K.Keys.agreement in
+    let P = g.K.Keys.pairs in
     let a = c.self.inside in
-    let less = writes-next g.K.Keys.public_of c.self.inside c.self.invariant c.args.self.now c.self.view_is
+    let less = writes-next g.K.Keys.pairs c.self.inside c.self.invariant c.args.self.now c.self.view_is
     (length c.args.payload.now) c.requires.due in
-    let l = speaking-next g.K.Keys.public_of c.self.inside c.self.invariant less c.deref-2.result.now c.deref-2.ensures.0 A c.args.self.now c.self.view_is v s
+    let l = speaking-next g.K.Keys.pairs c.self.inside c.self.invariant less c.deref-2.result.now c.deref-2.ensures.0 c.args.self.now c.self.view_is v s
     c.deref.result.now c.deref.ensures.0 (length c.args.payload.now) c.requires.due in
-    let trial = trial-next g.K.Keys.public_of c.self.inside c.self.invariant less c.deref-2.result.now c.deref-2.ensures.0 A c.args.self.now c.self.view_is v s c.for_trial-state.result c.for_trial-state.ensures in
+    let trial = trial-next g.K.Keys.pairs c.self.inside c.self.invariant less c.deref-2.result.now c.deref-2.ensures.0 c.args.self.now c.self.view_is v s c.for_trial-state.result c.for_trial-state.ensures in
     let q = c.in-Err.ensures.written v.history trial in
-    let s0 : ValueMatches P A (held_in a) v = subst (λ (z : HandshakeValue g.row.K.Denot). ValueMatches P A z v) (sym c.self.view_is) s in (
+    let s0 : ValueMatches P (held_in a) v = subst (λ (z : HandshakeValue g.row.K.Denot). ValueMatches P z v) (sym c.self.view_is) s in (
       (
-        short-next g.K.Keys.public_of c.self.inside c.self.invariant less c.deref-2.result.now c.deref-2.ensures.0 A c.args.self.now c.self.view_is v s
+        short-next g.K.Keys.pairs c.self.inside c.self.invariant less c.deref-2.result.now c.deref-2.ensures.0 c.args.self.now c.self.view_is v s
             (length c.args.payload.now) c.requires.due,
-        lacking v a.means.role a.means.has_psks (P a.means.keys) (A a.means.keys) _ a.remote _ l _ q,
+        lacking v a.means.role a.means.has_psks (P a.means.keys).public (P a.means.keys).agree _ a.remote _ l _ q,
       ),
-      ends P A (held_in a) v s0 true refl,
+      ends P (held_in a) v s0 true refl,
     )
 
 pub returns-in-Ok-clause-state : goal.returns-in-Ok-clause-state
 returns-in-Ok-clause-state g c =
-    advances-next g.K.Keys.public_of c.self.inside c.self.invariant
-    (writes-next g.K.Keys.public_of c.self.inside c.self.invariant c.args.self.now c.self.view_is
+    advances-next g.K.Keys.pairs c.self.inside c.self.invariant
+    (writes-next g.K.Keys.pairs c.self.inside c.self.invariant c.args.self.now c.self.view_is
     (length c.args.payload.now) c.requires.due) c.args.self.now c.self.view_is c.requires.psks
-    (writes-unended g.K.Keys.public_of c.self.inside c.self.invariant c.args.self.now c.self.view_is
+    (writes-unended g.K.Keys.pairs c.self.inside c.self.invariant c.args.self.now c.self.view_is
     (length c.args.payload.now) c.requires.due)
     c.self.inside.remote c.write_message.new.state c.lay_next-self-inside.result

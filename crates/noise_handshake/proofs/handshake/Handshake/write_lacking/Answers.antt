@@ -5,7 +5,7 @@ use Rattle.noise_handshake.proofs.handshake.Handshake.write_lacking.Goals as goa
 
 pub write_lacking-requires-clause-psks : goal.write_lacking-requires-clause-psks
 write_lacking-requires-clause-psks g c =
-    psks-next g.K.Keys.public_of c.self.inside c.self.invariant (speaks-next g.K.Keys.public_of c.self.inside c.self.invariant c.args.self.now c.self.view_is c.requires.due)
+    psks-next g.K.Keys.pairs c.self.inside c.self.invariant (speaks-next g.K.Keys.pairs c.self.inside c.self.invariant c.args.self.now c.self.view_is c.requires.due)
     c.deref-2.result.now c.deref-2.ensures.0 c.args.self.now c.self.view_is c.requires.psks c.deref.result.now c.deref.ensures.0
 
 pub write_lacking-requires-clause-own : goal.write_lacking-requires-clause-own
@@ -17,11 +17,10 @@ write_lacking-requires-clause-known g c = search (rules, speaks-next, known-ours
 pub returns : goal.returns
 returns g c = record {
   wants = λ v s.
-      let P = g.K.Keys.public_of in
-      let A = g.K.Keys.agreement in
+      let P = g.K.Keys.pairs in
       let a = c.self.inside in
-      let less = speaks-next g.K.Keys.public_of c.self.inside c.self.invariant c.args.self.now c.self.view_is c.requires.due in
-      let l = due-next g.K.Keys.public_of c.self.inside c.self.invariant less c.deref-2.result.now c.deref-2.ensures.0 A c.args.self.now c.self.view_is v s
+      let less = speaks-next g.K.Keys.pairs c.self.inside c.self.invariant c.args.self.now c.self.view_is c.requires.due in
+      let l = due-next g.K.Keys.pairs c.self.inside c.self.invariant less c.deref-2.result.now c.deref-2.ensures.0 c.args.self.now c.self.view_is v s
       c.deref.result.now c.deref.ensures.0 c.requires.due in
-      wants v c.write_lacking.result a.means.role a.means.has_psks (P a.means.keys) (A a.means.keys) _ a.remote _ l c.write_lacking.ensures;
+      wants v c.write_lacking.result a.means.role a.means.has_psks (P a.means.keys).public (P a.means.keys).agree _ a.remote _ l c.write_lacking.ensures;
 }

@@ -12,7 +12,7 @@ returns-in-Some-clause-writes g c v later s =
     let clear = fault-no-agreement h len c.in-Some.fault (sym c.withheld.ensures.value ∙ c.in-Some.is) in (
       (
         withholds-partial v h.psks len c.in-Some.fault clear (c.in-Some.ensures.withholds (holding v h.psks)
-            (matches-given g.K.Keys.public_of g.K.Keys.agreement h v later s)),
+            (matches-given g.K.Keys.pairs h v later s)),
         clear,
       ),
       s,
@@ -24,32 +24,30 @@ write_due-requires-clause-psks g c =
 
 pub returns-in-Ok-clause-writes : goal.returns-in-Ok-clause-writes
 returns-in-Ok-clause-writes g c v later s =
-    let P = g.K.Keys.public_of in
-    let A = g.K.Keys.agreement in
+    let P = g.K.Keys.pairs in
     let h = c.args.self.now in
     let has : HasPsks h = c.wants_to_write.ensures.psks (speaks-due h (length c.args.payload.now) (sym c.withheld.ensures.value ∙ c.in_default.is)) c.in_default-wants_to_write.is in
-    let now = few-now P A h v later s has in
-    let q = c.in-Ok.ensures.writes (holding v h.psks) (matches-given P A h v later s) in (
+    let now = few-now P h v later s has in
+    let q = c.in-Ok.ensures.writes (holding v h.psks) (matches-given P h v later s) in (
       q.0,
-      writes-partial v h.psks (length h.psks) (agrees P A h v later s) _ q.0 _ now q.1,
-      after-written P A h v later s c.write_due.new.self q.0 _ now q.2,
+      writes-partial v h.psks (length h.psks) (agrees P h v later s) _ q.0 _ now q.1,
+      after-written P h v later s c.write_due.new.self q.0 _ now q.2,
     )
 
 pub returns-in-Err-clause-writes : goal.returns-in-Err-clause-writes
 returns-in-Err-clause-writes g c v later s =
-    let P = g.K.Keys.public_of in
-    let A = g.K.Keys.agreement in
+    let P = g.K.Keys.pairs in
     let h = c.args.self.now in
     let has : HasPsks h = c.wants_to_write.ensures.psks (speaks-due h (length c.args.payload.now) (sym c.withheld.ensures.value ∙ c.in_default.is)) c.in_default-wants_to_write.is in
-    let now = few-now P A h v later s has in
+    let now = few-now P h v later s has in
     let len : ℕ = length c.args.payload.now in
-    let q = c.in-Err.ensures.writes (holding v h.psks) (matches-given P A h v later s) in
+    let q = c.in-Err.ensures.writes (holding v h.psks) (matches-given P h v later s) in
     let lacks = subst (λ (o : Option Want). MatchOption o ((token : ℕ) → LacksDhResult v token → ⊥) (λ want. Wants v (length h.psks) want))
     c.in_default-wants_to_write.is (c.wants_to_write.ensures.wants v later s) in
     let clear : IsAgreement c.in-Err.fault → ⊥ = written-no-agreement (holding v h.psks) len c.in-Err.fault q.0
-    (λ token l. lacks token (lacks-partial v h.psks (length h.psks) (agrees P A h v later s) token
+    (λ token l. lacks token (lacks-partial v h.psks (length h.psks) (agrees P h v later s) token
     (omega (arith, now, count-take (tokens_now v) (suc token))) l)) in (
       (withholds-partial v h.psks len c.in-Err.fault clear q.0, clear),
-      matches-same P A h v later s c.args.payload.now c.write_due.new.self
-          (subst (λ (w : Party). ValueMatches P A c.write_due.new.self w) (withheld-view (holding v h.psks) c.in-Err.fault clear) q.1),
+      matches-same P h v later s c.args.payload.now c.write_due.new.self
+          (subst (λ (w : Party). ValueMatches P c.write_due.new.self w) (withheld-view (holding v h.psks) c.in-Err.fault clear) q.1),
     )

@@ -8,8 +8,8 @@ returns g c =
     let is : c.args.self.phase ≡ phases.Open c.in-Open.transport =
     sym (ap (λ (e : EndValue g.row.K.Denot). e.phase) c.self.view_is) ∙ c.in-Open.is in
     record {
-      matches = λ (v : EndState) (h : EndMatches g.K.Keys.public_of g.K.Keys.agreement c.args.self v).
+      matches = λ (v : EndState) (h : EndMatches g.K.Keys.pairs c.args.self v).
           let opened : OpenMatches c.in-Open.transport v =
-          subst (λ (p : Phase g.row.K.Denot). PhaseMatches g.K.Keys.public_of g.K.Keys.agreement p v) is h.phase in
+          subst (λ (p : Phase g.row.K.Denot). PhaseMatches g.K.Keys.pairs p v) is h.phase in
           c.after.ensures.matches (transport_in v) opened.transport;
     }

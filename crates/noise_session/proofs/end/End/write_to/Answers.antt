@@ -13,7 +13,7 @@ front-of out rest n len f g = take-take n len (out ++ rest) f ∙ take-append-le
 
 pub returns-in_err-len-clause-writes : goal.returns-in_err-len-clause-writes
 returns-in_err-len-clause-writes g c v s =
-    let t : EndMatches g.K.Keys.public_of g.K.Keys.agreement _ v = subst (λ u. EndMatches g.K.Keys.public_of g.K.Keys.agreement u v) (sym c.self.view_is) s in
+    let t : EndMatches g.K.Keys.pairs _ v = subst (λ u. EndMatches g.K.Keys.pairs u v) (sym c.self.view_is) s in
     let e = c.in_err-len.ensures.writes.sends v t in
     let fault = c.in_err-len.field-0.0 in
     let p = err_from_is_err_and c.from_residual.result c.from_residual.ensures.1 in
@@ -28,7 +28,7 @@ returns-in_err-len-clause-writes g c v s =
 
 pub returns-in-Ok-clause-writes : goal.returns-in-Ok-clause-writes
 returns-in-Ok-clause-writes g c v s =
-    let t : EndMatches g.K.Keys.public_of g.K.Keys.agreement _ v = subst (λ u. EndMatches g.K.Keys.public_of g.K.Keys.agreement u v) (sym c.self.view_is) s in
+    let t : EndMatches g.K.Keys.pairs _ v = subst (λ u. EndMatches g.K.Keys.pairs u v) (sym c.self.view_is) s in
     let w = c.in_ok-len.ensures.writes.sends v t in
     let len = c.in_ok-len.len in
     let frame = take len c.send.new.out in
@@ -49,7 +49,7 @@ returns-in-Ok-clause-writes g c v s =
 
 pub returns-in-Err-clause-writes : goal.returns-in-Err-clause-writes
 returns-in-Err-clause-writes g c v s =
-    let t : EndMatches g.K.Keys.public_of g.K.Keys.agreement _ v = subst (λ u. EndMatches g.K.Keys.public_of g.K.Keys.agreement u v) (sym c.self.view_is) s in
+    let t : EndMatches g.K.Keys.pairs _ v = subst (λ u. EndMatches g.K.Keys.pairs u v) (sym c.self.view_is) s in
     let w = c.in_ok-len.ensures.writes.sends v t in
     let len = c.in_ok-len.len in
     let written = c.in-Err.written in
@@ -62,9 +62,9 @@ returns-in-Err-clause-writes g c v s =
     let handed : take len c.deref.result.now ≡ frame =
     ap (take len) c.deref.ensures.value ∙ front-of c.send.new.out _ len c.self.inside.outgoing.len (omega arith) fits in
     let less : written < length frame = subst (λ (xs : List ℕ). written < length xs) handed c.in-Err.ensures.written.0 in
-    let ended_party : EndMatches g.K.Keys.public_of g.K.Keys.agreement _ (ended_session w.0) =
-    subst (λ e. EndMatches g.K.Keys.public_of g.K.Keys.agreement e (ended_session w.0)) (sym c.end.ensures)
-    (record { phase = phase-ended g.K.Keys.public_of g.K.Keys.agreement c.send.new.self.phase w.0 w.2.phase; partial = refl }) in (
+    let ended_party : EndMatches g.K.Keys.pairs _ (ended_session w.0) =
+    subst (λ e. EndMatches g.K.Keys.pairs e (ended_session w.0)) (sym c.end.ensures)
+    (record { phase = phase-ended g.K.Keys.pairs c.send.new.self.phase w.0 w.2.phase; partial = refl }) in (
       take written frame,
       ended_session w.0,
       broken v w.0 c.args.payload.now frame written w.1 less,

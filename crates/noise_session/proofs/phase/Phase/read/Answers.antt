@@ -9,7 +9,7 @@ use Rattle.noise_session.proofs.phase.Phase.read.Goals as goal
 
 pub returns-in-Ok-clause-judges : goal.returns-in-Ok-clause-judges
 returns-in-Ok-clause-judges g c v s =
-    let h = as-handshake g.K.Keys.public_of g.K.Keys.agreement _ _ _ v c.in-Handshaking.is s in
+    let h = as-handshake g.K.Keys.pairs _ _ _ v c.in-Handshaking.is s in
     let r = c.in-Ok.ensures.reads v.party h.party in
     let payload = slice_range c.read_within.new.message c.in-Ok.place.0 c.in-Ok.place.1 in
     let next : EndState = record v { party = after_message v.party r.0 payload; partial = [] } in
@@ -17,18 +17,18 @@ returns-in-Ok-clause-judges g c v s =
 
 pub returns-in-Err-Refused-clause-judges : goal.returns-in-Err-Refused-clause-judges
 returns-in-Err-Refused-clause-judges g c v s =
-    let h = as-handshake g.K.Keys.public_of g.K.Keys.agreement _ _ _ v c.in-Handshaking.is s in
+    let h = as-handshake g.K.Keys.pairs _ _ _ v c.in-Handshaking.is s in
     let r = rw c.in-Err-Refused.field-0-is at c.in-Err-Refused.ensures.reads v.party h.party in
     let ended_party : EndedMatches c.read_within.new.self.role None (ended_session v) = record { ended = refl; role = r.1.role; hash = sym (no-hash v h.more) } in (
       ended_session v,
       refused v c.args.message.now c.in-Err-Refused.token c.in-Err-Refused.cause r.0,
-      subst (λ (p : Phase g.row.K.Denot). PhaseMatches g.K.Keys.public_of g.K.Keys.agreement p (ended_session v)) (sym c.end.ensures) ended_party,
+      subst (λ (p : Phase g.row.K.Denot). PhaseMatches g.K.Keys.pairs p (ended_session v)) (sym c.end.ensures) ended_party,
       refl,
     )
 
 pub returns-in-Ok-open_within-clause-judges : goal.returns-in-Ok-open_within-clause-judges
 returns-in-Ok-open_within-clause-judges g c v s =
-    let o = as-open g.K.Keys.public_of g.K.Keys.agreement _ _ v c.in-Open.is s in
+    let o = as-open g.K.Keys.pairs _ _ v c.in-Open.is s in
     let r = c.in-Ok-open_within.ensures.opens.half.opens (transport_in v) o.transport.receiver in
     let next : EndState = record v { received = v.received + 1; partial = [] } in (
       next,
@@ -40,35 +40,35 @@ returns-in-Ok-open_within-clause-judges g c v s =
 
 pub returns-in-Err-Short-clause-judges : goal.returns-in-Err-Short-clause-judges
 returns-in-Err-Short-clause-judges g c v s =
-    let o = as-open g.K.Keys.public_of g.K.Keys.agreement _ _ v c.in-Open.is s in
+    let o = as-open g.K.Keys.pairs _ _ v c.in-Open.is s in
     let fault = rw c.in-Err-Short.field-0-is at c.in-Err-Short.ensures.opens.half.fault in
     let next : EndState = record v { partial = [] } in (
       next,
       dropped-as c.in-Open.transport v o c.args.message.now unopened.Short tt fault (c.in-Err-Short.ensures.opens.half.opens (transport_in v) o.transport.receiver),
-      phase-partial g.K.Keys.public_of g.K.Keys.agreement (phase.Open c.open_within.new.self) v [] (subst (λ (t : TransportValue). OpenMatches t v) (sym c.in-Err-Short.ensures.opens.unchanged) o),
+      phase-partial g.K.Keys.pairs (phase.Open c.open_within.new.self) v [] (subst (λ (t : TransportValue). OpenMatches t v) (sym c.in-Err-Short.ensures.opens.unchanged) o),
       refl,
     )
 
 pub returns-in-Err-Tag-clause-judges : goal.returns-in-Err-Tag-clause-judges
 returns-in-Err-Tag-clause-judges g c v s =
-    let o = as-open g.K.Keys.public_of g.K.Keys.agreement _ _ v c.in-Open.is s in
+    let o = as-open g.K.Keys.pairs _ _ v c.in-Open.is s in
     let fault = rw c.in-Err-Tag.field-0-is at c.in-Err-Tag.ensures.opens.half.fault in
     let next : EndState = record v { partial = [] } in (
       next,
       dropped-as c.in-Open.transport v o c.args.message.now unopened.Tag tt fault (c.in-Err-Tag.ensures.opens.half.opens (transport_in v) o.transport.receiver),
-      phase-partial g.K.Keys.public_of g.K.Keys.agreement (phase.Open c.open_within.new.self) v [] (subst (λ (t : TransportValue). OpenMatches t v) (sym c.in-Err-Tag.ensures.opens.unchanged) o),
+      phase-partial g.K.Keys.pairs (phase.Open c.open_within.new.self) v [] (subst (λ (t : TransportValue). OpenMatches t v) (sym c.in-Err-Tag.ensures.opens.unchanged) o),
       refl,
     )
 
 pub returns-in-Err-Exhausted-clause-judges : goal.returns-in-Err-Exhausted-clause-judges
 returns-in-Err-Exhausted-clause-judges g c v s =
-    let o = as-open g.K.Keys.public_of g.K.Keys.agreement _ _ v c.in-Open.is s in
+    let o = as-open g.K.Keys.pairs _ _ v c.in-Open.is s in
     let fault = rw c.in-Err-Exhausted.field-0-is at c.in-Err-Exhausted.ensures.opens.half.fault in
     let ended_party : EndedMatches c.open_within.new.self.role (Some c.open_within.new.self.hash) (ended_session v) =
     subst (λ (t : TransportValue). EndedMatches t.role (Some t.hash) (ended_session v)) (sym c.in-Err-Exhausted.ensures.opens.unchanged)
     (ended-open c.in-Open.transport v o c.args.message.now) in (
       ended_session v,
       exhausted-as c.in-Open.transport v o c.args.message.now fault,
-      subst (λ (p : Phase g.row.K.Denot). PhaseMatches g.K.Keys.public_of g.K.Keys.agreement p (ended_session v)) (sym c.end-in-Err-Exhausted.ensures) ended_party,
+      subst (λ (p : Phase g.row.K.Denot). PhaseMatches g.K.Keys.pairs p (ended_session v)) (sym c.end-in-Err-Exhausted.ensures) ended_party,
       refl,
     )

@@ -9,12 +9,12 @@ use Rattle.noise_session.proofs.state.State.receive.Goals as goal
 pub returns-in-Some-clause-receives : goal.returns-in-Some-clause-receives
 returns-in-Some-clause-receives g c v s =
     let step = step_value c.in-Some.step in
-    let idle = phase-idle g.K.Keys.public_of g.K.Keys.agreement c.args.self.now.phase v (Some step) s.phase c.in-Some.ensures in
+    let idle = phase-idle g.K.Keys.pairs c.args.self.now.phase v (Some step) s.phase c.in-Some.ensures in
     ([], v, takes v v [] step (λ same. idles-not (progress_of v) (idle ∙ ap (λ (t : StepValue). Some t) same)) (idles v [] step idle), consumed_none _, s)
 
 pub returns-in-Filled-clause-receives : goal.returns-in-Filled-clause-receives
 returns-in-Filled-clause-receives g c v s =
-    let none = phase-idle g.K.Keys.public_of g.K.Keys.agreement c.args.self.now.phase v None s.phase c.in_default.ensures in
+    let none = phase-idle g.K.Keys.pairs c.args.self.now.phase v None s.phase c.in_default.ensures in
     let r = c.in-Filled.ensures.bytes in
     let piece = r.0 in
     let judged = c.read.ensures.judges v s.phase in
@@ -34,7 +34,7 @@ returns-in-Filled-clause-receives g c v s =
 
 pub returns-in-Failed-clause-receives : goal.returns-in-Failed-clause-receives
 returns-in-Failed-clause-receives g c v s =
-    let none = phase-idle g.K.Keys.public_of g.K.Keys.agreement c.args.self.now.phase v None s.phase c.in_default.ensures in
+    let none = phase-idle g.K.Keys.pairs c.args.self.now.phase v None s.phase c.in_default.ensures in
     let r = c.in-Failed.ensures.bytes in
     let bytes : partial_of c.fill_from.new.self ≡ v.partial ++ r.0 = r.2 ∙ ap (λ (xs : List ℕ). xs ++ r.0) s.partial in
     let partial : IsPartial (v.partial ++ r.0) = subst (λ (xs : List ℕ). IsPartial xs) bytes c.in-Failed.ensures.leaves in
@@ -43,12 +43,12 @@ returns-in-Failed-clause-receives g c v s =
       next,
       fails v r.0 none partial,
       r.1,
-      record { phase = phase-partial g.K.Keys.public_of g.K.Keys.agreement c.args.self.now.phase v (v.partial ++ r.0) s.phase; partial = bytes },
+      record { phase = phase-partial g.K.Keys.pairs c.args.self.now.phase v (v.partial ++ r.0) s.phase; partial = bytes },
     )
 
 pub returns-then-held-eq0-clause-receives : goal.returns-then-held-eq0-clause-receives
 returns-then-held-eq0-clause-receives g c v s =
-    let none = phase-idle g.K.Keys.public_of g.K.Keys.agreement c.args.self.now.phase v None s.phase c.in_default.ensures in
+    let none = phase-idle g.K.Keys.pairs c.args.self.now.phase v None s.phase c.in_default.ensures in
     let r = c.in-End.ensures.bytes in
     let old = partial_of c.args.self.now.incoming in
     let count = c.held.ensures.count in
@@ -61,7 +61,7 @@ returns-then-held-eq0-clause-receives g c v s =
 
 pub returns-else-held-eq0-clause-receives : goal.returns-else-held-eq0-clause-receives
 returns-else-held-eq0-clause-receives g c v s =
-    let none = phase-idle g.K.Keys.public_of g.K.Keys.agreement c.args.self.now.phase v None s.phase c.in_default.ensures in
+    let none = phase-idle g.K.Keys.pairs c.args.self.now.phase v None s.phase c.in_default.ensures in
     let r = c.in-End.ensures.bytes in
     let count = c.held.ensures.count in
     let some = c.if-held-eq0.false in
@@ -74,5 +74,5 @@ returns-else-held-eq0-clause-receives g c v s =
       next,
       is_cut v r.0 none partial begun,
       r.1,
-      record { phase = phase-partial g.K.Keys.public_of g.K.Keys.agreement c.args.self.now.phase v (v.partial ++ r.0) s.phase; partial = bytes },
+      record { phase = phase-partial g.K.Keys.pairs c.args.self.now.phase v (v.partial ++ r.0) s.phase; partial = bytes },
     )

@@ -7,13 +7,13 @@ pub returns-in-Some-clause-takes : goal.returns-in-Some-clause-takes
 returns-in-Some-clause-takes g c v s = (
   v,
   idles v c.args.piece.now (step_value c.in-Some.step)
-      (phase-idle g.K.Keys.public_of g.K.Keys.agreement c.args.self.now.phase v _ s.phase c.in-Some.ensures),
+      (phase-idle g.K.Keys.pairs c.args.self.now.phase v _ s.phase c.in-Some.ensures),
   s,
 )
 
 pub returns-in-None-clause-takes : goal.returns-in-None-clause-takes
 returns-in-None-clause-takes g c v s =
-    let none = phase-idle g.K.Keys.public_of g.K.Keys.agreement c.args.self.now.phase v None s.phase (search rules) in
+    let none = phase-idle g.K.Keys.pairs c.args.self.now.phase v None s.phase (search rules) in
     let piece = c.args.piece.now in
     let part = c.in-None.ensures.part in
     let bytes : partial_of c.fill.new.self ≡ v.partial ++ piece = part.0 ∙ ap (λ (xs : List ℕ). xs ++ piece) s.partial in
@@ -21,12 +21,12 @@ returns-in-None-clause-takes g c v s =
     let next : EndState = record v { partial = v.partial ++ piece } in (
       next,
       waits v piece none partial,
-      record { phase = phase-partial g.K.Keys.public_of g.K.Keys.agreement c.args.self.now.phase v (v.partial ++ piece) s.phase; partial = bytes },
+      record { phase = phase-partial g.K.Keys.pairs c.args.self.now.phase v (v.partial ++ piece) s.phase; partial = bytes },
     )
 
 pub returns-in-Some-fill-clause-takes : goal.returns-in-Some-fill-clause-takes
 returns-in-Some-fill-clause-takes g c v s =
-    let none = phase-idle g.K.Keys.public_of g.K.Keys.agreement c.args.self.now.phase v None s.phase (search rules) in
+    let none = phase-idle g.K.Keys.pairs c.args.self.now.phase v None s.phase (search rules) in
     let piece = c.args.piece.now in
     let count = c.in-Some-fill.count in
     let whole = c.in-Some-fill.ensures.whole in

@@ -12,7 +12,7 @@ returns-clause-handshake g c v xs payload f w =
     let shown = c.passed.ensures.shown next reported.1 in (
       shown ∙ ap (λ (steps : List Step). Message steps (opening_in next)) reported.0,
       record {
-        party = subst (λ x. Follows g.K.Keys.public_of g.K.Keys.agreement x next) (sym c.passed.ensures.value) reported.1;
+        party = subst (λ x. Follows g.K.Keys.pairs x next) (sym c.passed.ensures.value) reported.1;
         interval = c.passed.ensures.interval ∙ f.interval;
         directions = c.passed.ensures.opened view reported.1 (f.directions ∙ unopened v more) (f.first more).0 (f.first more).1;
         first = λ later. f.first more;

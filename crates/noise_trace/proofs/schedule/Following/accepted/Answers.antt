@@ -12,5 +12,5 @@ returns g c v xs payload f a =
     let knows : known_through (not (is_turn v.role v.passed)) v.remote ts xs ≡ remote_after v.remote ts xs =
     ap (λ (b : Bool). known_through b v.remote ts xs) turn ∙ through-reads v.remote ts xs in (
       d.0,
-      subst (λ (z : Remote). Follows g.K.Keys.public_of g.K.Keys.agreement c.advance.new.self (record (after_own v xs payload) { remote = z })) knows d.1,
+      subst (λ (z : Remote). Follows g.K.Keys.pairs c.advance.new.self (record (after_own v xs payload) { remote = z })) knows d.1,
     )

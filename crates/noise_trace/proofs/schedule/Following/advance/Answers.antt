@@ -47,7 +47,7 @@ returns g c v xs payload f0 next =
     let more = next.more in
     let n : ℕ = c.self.inside.passed in
     let ts : List Token = tokens_now v in
-    let f = subst (λ (z : Followed g.row.K.Denot). Follows g.K.Keys.public_of g.K.Keys.agreement z v) (sym c.self.view_is) f0 in
+    let f = subst (λ (z : Followed g.row.K.Denot). Follows g.K.Keys.pairs z v) (sym c.self.view_is) f0 in
     let w = c.whole-steps.ensures.whole v xs payload f.before f.agree next in
     let knows : Remote = known_through (not (is_turn v.role v.passed)) v.remote ts xs in
     let same : ◌≡◌ {A = Remote × SymmetricState} (c.in-Some.remote, c.in-Some.state) (knows, w.state) =

@@ -4,5 +4,5 @@ use Rattle.noise_trace.proofs.schedule.Following.refused.Goals as goal
 
 pub returns : goal.returns
 returns g c v cause f0 refused =
-    let f = subst (λ (z : Followed g.row.K.Denot). Follows g.K.Keys.public_of g.K.Keys.agreement z v) (sym c.self.view_is) f0 in
+    let f = subst (λ (z : Followed g.row.K.Denot). Follows g.K.Keys.pairs z v) (sym c.self.view_is) f0 in
     c.refused_steps.ensures.refused v cause f.before f.agree refused
