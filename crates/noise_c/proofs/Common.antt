@@ -29,6 +29,6 @@ pub use Rattle.noise_state.specs.History.{History, cipher_key, ciphertext, ciphe
 pub use Rattle.noise_c.specs.Codes.{cause_code, read_code, setup_code, write_code}
 pub use Rattle.noise_c.specs.DatagramStructs.{IsDatagramCode, OpensDatagramInPlace, datagram_receiver_from_c, is_datagram_receiver, window_in}
 pub use Rattle.noise_c.specs.DhResults.{ActsAsAll, AreAmong, AskedIsLacking, AskedToRead, AskedToWrite, DhResults, FirstActAsAll, FourSuffice, FourSufficeToWrite, HasKeys, IsHandedIn, Shows, with_dh_results}
-pub use Rattle.noise_c.specs.HandshakeStructs.{IsAdded, IsGiven, IsNoName, IsNoText, IsNotValid, IsPatternFault, IsPatternOf, IsPatternOfName, IsStartCode, IsUsable, KeepsParty, ReportsDhResult, ReportsRemote, ReportsWant, WasDeclined, WasRead, WasRefused, WasWritten, agreement_in, begun_in, code_of, fault_in, handshake_from_c, is_text, key_from_c, own_in, psks_in, public_in, remote_of, remote_reported, role_in, start_code, table_in, table_of, text_from_c}
+pub use Rattle.noise_c.specs.HandshakeStructs.{IsAdded, IsGiven, IsNoName, IsNoText, IsNotValid, IsPatternFault, IsPatternOf, IsPatternOfName, IsStartCode, IsUsable, KeepsParty, ReportsDhResult, ReportsRemote, ReportsWant, WasDeclined, WasRead, WasRefused, WasWritten, agreement_in, begun_in, code_of, fault_in, handshake_from_c, is_text, key_from_c, own_in, psks_in, pairs_in, public_in, remote_of, remote_reported, role_in, start_code, table_in, table_of, text_from_c}
 pub use Rattle.noise_c.specs.declared.structs.NoiseHandshake.{NoiseHandshake}
 pub use Rattle.noise_c.specs.declared.structs.NoiseResult.{NoiseResult}

@@ -7,7 +7,7 @@ use Rattle.std.specs.Prelude.{map, take}
 use Rattle.std.proofs.lemmas.List.{map-append, take_all}
 use Rattle.noise_c.specs.HandshakeStructs.{entry_in}
 use Rattle.noise_c.specs.declared.structs.NoiseAnswer.{NoiseAnswer}
-use Rattle.noise_c.proofs.Common.{Plan, HandshakeValue, with_later, IsLateWhole, Party, Table, NoiseHandshake, psks_of, ValueMatches, IsValid, public_in, agreement_in, text_from_c, handshake_from_c, IsGiven, IsPatternOf, IsUsable, KeepsParty}
+use Rattle.noise_c.proofs.Common.{Plan, HandshakeValue, with_later, IsLateWhole, Party, Table, NoiseHandshake, psks_of, ValueMatches, IsValid, pairs_in, text_from_c, handshake_from_c, IsGiven, IsPatternOf, IsUsable, KeepsParty}
 use Rattle.noise_handshake.specs.Parts.{IsWholeValue}
 
 set-first : {X : Type 0} (ws : List X) (y : X) → length ws ≡ 1 → slice_set ws 0 y ≡ y ∷ []
@@ -48,12 +48,12 @@ matches-later old new psk p v later g e k =
     record {
       pattern = subst (λ (z : List ℕ). IsPatternOf z p) (sym g.text) k.pattern;
       later = later;
-      matches = subst (λ (z : HandshakeValue Table). ValueMatches public_in agreement_in z v) same k.matches;
+      matches = subst (λ (z : HandshakeValue Table). ValueMatches pairs_in z v) same k.matches;
     }
 
 -- where a psk lacks, one more may be there
 whole-put : (h : HandshakeValue Table) (psk : List ℕ) (later : List (List ℕ)) → length h.psks < psks_of (drop h.passed h.pattern.messages)
-    → IsWholeValue public_in (with_later h later) → IsLateWhole public_in (with_later h (psk ∷ []))
+    → IsWholeValue pairs_in (with_later h later) → IsLateWhole pairs_in (with_later h (psk ∷ []))
 whole-put h psk [] low w = absurd (omega (arith, low, w.psks, length-append h.psks []))
 whole-put h psk (y ∷ later) low w = (
   later,
@@ -75,8 +75,8 @@ pub usable-given : (old new : NoiseHandshake) (psk : List ℕ) (h : HandshakeVal
     → ((q : Plan) → IsPatternOf (text_from_c old) q → q ≡ h.pattern) → length h.psks < psks_of (drop h.passed h.pattern.messages) → IsUsable new
 usable-given old new psk h u m t a n g same named one low =
     let q : handshake_from_c u.pattern old ≡ h = ap (λ (z : Plan). handshake_from_c z old) (one u.pattern u.named) ∙ sym same in
-    let w : IsLateWhole public_in h = subst (λ (z : HandshakeValue Table). IsLateWhole public_in z) q u.whole in
-    let whole : IsLateWhole public_in (with_later h (psk ∷ [])) = whole-put h psk w.0 low w.1 in
+    let w : IsLateWhole pairs_in h = subst (λ (z : HandshakeValue Table). IsLateWhole pairs_in z) q u.whole in
+    let whole : IsLateWhole pairs_in (with_later h (psk ∷ [])) = whole-put h psk w.0 low w.1 in
     record {
       mark = m ∙ u.mark;
       text = omega (arith, t, u.text);
@@ -85,7 +85,7 @@ usable-given old new psk h u m t a n g same named one low =
       pattern = h.pattern;
       named = subst (λ (z : List ℕ). IsPatternOf z h.pattern) (sym g.text) named;
       valid = subst (λ (z : Plan). IsValid z) (one u.pattern u.named) u.valid;
-      whole = subst (λ (z : HandshakeValue Table). IsLateWhole public_in z) (ap (λ (z : HandshakeValue Table). with_later z (psk ∷ [])) same ∙ sym (g.handshake h.pattern)) whole;
+      whole = subst (λ (z : HandshakeValue Table). IsLateWhole pairs_in z) (ap (λ (z : HandshakeValue Table). with_later z (psk ∷ [])) same ∙ sym (g.handshake h.pattern)) whole;
     }
 
 -- ---- a DH result that takes the place of the first

@@ -5,7 +5,7 @@ use Rattle.std.specs.Option.{option_map, option_or}
 use Rattle.std.specs.Cmp.Lexicographic.{pointwise, same_text}
 use Rattle.std.proofs.lemmas.Cmp.{nat_list_eq_equiv}
 use Rattle.std.proofs.lemmas.List.Folds.{find-append}
-use Rattle.noise_c.proofs.Common.{Bool, cond, Option, Some, None, find, nat_eq, Plan, IsValid, Own, Table, TableEntry, dh_result_in, is_for, same_own, HandshakeValue, with_later, ValueMatches, Party, DhResults, FirstActAsAll, AskedIsLacking, AskedToRead, AskedToWrite, FourSuffice, FourSufficeToWrite, HasKeys, IsHandedIn, with_dh_results, NoiseHandshake, IsAdded, IsPatternOf, KeepsParty, agreement_in, handshake_from_c, public_in, table_in, text_from_c, and_parts, and_from}
+use Rattle.noise_c.proofs.Common.{Bool, cond, Option, Some, None, find, nat_eq, Plan, IsValid, Own, Table, TableEntry, dh_result_in, is_for, same_own, HandshakeValue, with_later, ValueMatches, Party, DhResults, FirstActAsAll, AskedIsLacking, AskedToRead, AskedToWrite, FourSuffice, FourSufficeToWrite, HasKeys, IsHandedIn, with_dh_results, NoiseHandshake, IsAdded, IsPatternOf, KeepsParty, agreement_in, handshake_from_c, pairs_in, table_in, text_from_c, and_parts, and_from}
 use Rattle.noise_keys.specs.declared.keys.Own.TheVariants.{Ephemeral, Static}
 use Rattle.noise_c.specs.DhResults.AskedToRead.{ready as none_to_read, asked as one_to_read}
 use Rattle.noise_c.specs.DhResults.AskedToWrite.{ready as none_to_write, asked as one_to_write}
@@ -84,7 +84,7 @@ module _ (p : Plan) (v : Party) where
   keeps-with k next entries text handshake c = record {
     pattern = subst (λ (bytes : List ℕ). IsPatternOf bytes p) (sym text) c.pattern;
     later = c.later;
-    matches = subst (λ (h : HandshakeValue Table). ValueMatches public_in agreement_in (with_later h c.later) (with_dh_results v (dh_results_in next))) (sym handshake) (record {
+    matches = subst (λ (h : HandshakeValue Table). ValueMatches pairs_in (with_later h c.later) (with_dh_results v (dh_results_in next))) (sym handshake) (record {
       pattern = c.matches.pattern;
       role = c.matches.role;
       psks = c.matches.psks;

@@ -1,6 +1,6 @@
 -- The struct matches what the handshake stood for.
 use Rattle.std.proofs.Common.{◌≡◌, ℕ, ◌+◌, ◌-◌, ◌++◌, ◌≤◌, List, length, drop, length-append, drop-drop, ap, sym, subst, ◌∙◌, refl, arith, slice_range}
-use Rattle.noise_c.proofs.Common.{drop-append_seam, Plan, IsValid, Cause, ReadFault, HandshakeValue, ended_as, message_len_of, with_later, after_unread, IsLateWhole, Table, Party, Accepts, ValueMatches, after_message, after_own, Writes, NoiseHandshake, public_in, agreement_in, text_from_c, handshake_from_c, IsPatternOf, IsUsable, KeepsParty, WasRead, WasWritten}
+use Rattle.noise_c.proofs.Common.{drop-append_seam, Plan, IsValid, Cause, ReadFault, HandshakeValue, ended_as, message_len_of, with_later, after_unread, IsLateWhole, Table, Party, Accepts, ValueMatches, after_message, after_own, Writes, NoiseHandshake, pairs_in, text_from_c, handshake_from_c, IsPatternOf, IsUsable, KeepsParty, WasRead, WasWritten}
 use Rattle.noise_handshake.specs.declared.faults.Unread.{Unread}
 use Rattle.noise_c.specs.declared.codes.numbers.TheConstants.{HANDSHAKE}
 use Rattle.noise_c.proofs.Numbers.{IsPlain}
@@ -10,32 +10,32 @@ use Rattle.noise_handshake.specs.declared.faults.Unread.TheVariants as unread
 module _ (old new : NoiseHandshake) (h h2 : HandshakeValue Table) (p : Plan) (v : Party) (one : (q : Plan) → IsPatternOf (text_from_c old) q → q ≡ h.pattern) (same : h ≡ handshake_from_c h.pattern old)
     (stays : h2.pattern ≡ h.pattern) (name : text_from_c new ≡ text_from_c old) (stored : handshake_from_c h2.pattern new ≡ h2) (k : KeepsParty old p v) where
   -- the handshake that was opened matches the state
-  pub opened : ValueMatches public_in agreement_in (with_later h k.later) v
-  opened = subst (λ (z : HandshakeValue Table). ValueMatches public_in agreement_in (with_later z k.later) v) (ap (λ (q : Plan). handshake_from_c q old) (one p k.pattern) ∙ sym same) k.matches
+  pub opened : ValueMatches pairs_in (with_later h k.later) v
+  opened = subst (λ (z : HandshakeValue Table). ValueMatches pairs_in (with_later z k.later) v) (ap (λ (q : Plan). handshake_from_c q old) (one p k.pattern) ∙ sym same) k.matches
 
   -- and what it became is stored in the struct
-  pub keeps : (w : Party) → ValueMatches public_in agreement_in (with_later h2 k.later) w → KeepsParty new p w
+  pub keeps : (w : Party) → ValueMatches pairs_in (with_later h2 k.later) w → KeepsParty new p w
   keeps w s = record {
     pattern = subst (λ (z : List ℕ). IsPatternOf z p) (sym name) k.pattern;
     later = k.later;
-    matches = subst (λ (z : HandshakeValue Table). ValueMatches public_in agreement_in (with_later z k.later) w) (sym (ap (λ (q : Plan). handshake_from_c q new) (one p k.pattern ∙ sym stays) ∙ stored)) s;
+    matches = subst (λ (z : HandshakeValue Table). ValueMatches pairs_in (with_later z k.later) w) (sym (ap (λ (q : Plan). handshake_from_c q new) (one p k.pattern ∙ sym stays) ∙ stored)) s;
   }
 
   pub was-read : (message new_message : List ℕ) (start end : ℕ) → start ≤ end
-      → (xs : List (List ℕ)) → Accepts v message xs (slice_range new_message start end) → ValueMatches public_in agreement_in (with_later h2 k.later) (after_message v xs (slice_range new_message start end))
+      → (xs : List (List ℕ)) → Accepts v message xs (slice_range new_message start end) → ValueMatches pairs_in (with_later h2 k.later) (after_message v xs (slice_range new_message start end))
       → WasRead p v message (slice_range new_message start (start + (end - start))) new
   was-read message new_message start end r xs a s =
       let n : end ≡ start + (end - start) = omega (arith, r) in
       subst (λ (z : ℕ). WasRead p v message (slice_range new_message start z) new) n
       (record { carried = xs; accepts = a; keeps = keeps (after_message v xs (slice_range new_message start end)) s })
 
-  pub was-written : (payload message : List ℕ) (xs : List (List ℕ)) → Writes v payload xs message → ValueMatches public_in agreement_in (with_later h2 k.later) (after_own v xs payload) → WasWritten p v payload message new
+  pub was-written : (payload message : List ℕ) (xs : List (List ℕ)) → Writes v payload xs message → ValueMatches pairs_in (with_later h2 k.later) (after_own v xs payload) → WasWritten p v payload message new
   was-written payload message xs w s = record { carried = xs; writes = w; keeps = keeps (after_own v xs payload) s }
 
 -- a handshake that was opened matches what the struct matches
 pub matches-for : (old : NoiseHandshake) (h : HandshakeValue Table) (p : Plan) (v : Party) → ((q : Plan) → IsPatternOf (text_from_c old) q → q ≡ h.pattern) → h ≡ handshake_from_c h.pattern old → (k : KeepsParty old p v)
-    → ValueMatches public_in agreement_in (with_later h k.later) v
-matches-for old h p v one same k = subst (λ (z : HandshakeValue Table). ValueMatches public_in agreement_in (with_later z k.later) v) (ap (λ (q : Plan). handshake_from_c q old) (one p k.pattern) ∙ sym same) k.matches
+    → ValueMatches pairs_in (with_later h k.later) v
+matches-for old h p v one same k = subst (λ (z : HandshakeValue Table). ValueMatches pairs_in (with_later z k.later) v) (ap (λ (q : Plan). handshake_from_c q old) (one p k.pattern) ∙ sym same) k.matches
 
 -- how long its message is, if one is due
 pub length-for : (old : NoiseHandshake) (h : HandshakeValue Table) (p : Plan) (payload : ℕ) → ((q : Plan) → IsPatternOf (text_from_c old) q → q ≡ h.pattern) → h ≡ handshake_from_c h.pattern old
@@ -45,7 +45,7 @@ length-for old h p payload one same named =
 
 -- a struct that holds a handshake is usable
 pub usable-stored : (new : NoiseHandshake) (h : HandshakeValue Table) → new.mark ≡ HANDSHAKE → new.text_len ≤ 416 → new.answer_count ≤ 8 → new.psk_count ≤ 9
-    → IsPatternOf (text_from_c new) h.pattern → IsValid h.pattern → handshake_from_c h.pattern new ≡ h → IsLateWhole public_in h → IsUsable new
+    → IsPatternOf (text_from_c new) h.pattern → IsValid h.pattern → handshake_from_c h.pattern new ≡ h → IsLateWhole pairs_in h → IsUsable new
 usable-stored new h m t a n named valid same whole = record {
   mark = m;
   text = t;
@@ -54,13 +54,13 @@ usable-stored new h m t a n named valid same whole = record {
   pattern = h.pattern;
   named = named;
   valid = valid;
-  whole = subst (λ (z : HandshakeValue Table). IsLateWhole public_in z) (sym same) whole;
+  whole = subst (λ (z : HandshakeValue Table). IsLateWhole pairs_in z) (sym same) whole;
 }
 
 -- the same of what a usable one becomes
 pub usable-after : (old new : NoiseHandshake) (h h2 : HandshakeValue Table) → IsUsable old → new.mark ≡ old.mark → new.text_len ≡ old.text_len → new.answer_count ≡ old.answer_count
     → new.psk_count ≤ 9 → text_from_c new ≡ text_from_c old → IsPatternOf (text_from_c old) h.pattern → h2.pattern ≡ h.pattern → IsValid h2.pattern
-    → handshake_from_c h2.pattern new ≡ h2 → IsLateWhole public_in h2 → IsUsable new
+    → handshake_from_c h2.pattern new ≡ h2 → IsLateWhole pairs_in h2 → IsUsable new
 usable-after old new h h2 u m t a n name named stays valid same whole =
     usable-stored new h2 (m ∙ u.mark) (omega (arith, t, u.text)) (omega (arith, a, u.answers)) n
     (subst (λ (z : List ℕ). IsPatternOf z h2.pattern) (sym name) (subst (λ (q : Plan). IsPatternOf (text_from_c old) q) (sym stays) named)) valid same whole

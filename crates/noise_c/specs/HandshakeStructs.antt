@@ -19,7 +19,7 @@ use Rattle.noise_handshake.specs.declared.faults.WriteFault.{WriteFault}
 use Rattle.noise_handshake.specs.declared.remote.Remote.{Remote}
 use Rattle.noise_handshake.specs.declared.faults.Want.{Want}
 use Rattle.noise_handshake.specs.declared.faults.Want.TheVariants.{DhResult, Psk}
-use Rattle.noise_keys.specs.Keys.{key_of}
+use Rattle.noise_keys.specs.Keys.{KeyPairs, key_of}
 use Rattle.noise_keys.specs.Table.{Table, TableEntry, dh_result_in}
 use Rattle.noise_handshake.specs.HandshakeValue.{HandshakeValue, is_turn, message_len_of}
 use Rattle.noise_handshake.specs.Parts.{HasProgress}
@@ -73,6 +73,10 @@ public_in t own = key_of own t.e t.s
 
 abbrev pub agreement_in : Table → Own → List ℕ → Option (List ℕ)
 agreement_in t own remote = dh_result_in t.entries own remote
+
+-- both
+abbrev pub pairs_in : Table → KeyPairs
+pairs_in t = record { public = public_in t; agree = agreement_in t }
 
 abbrev pub text_from_c : NoiseHandshake → List ℕ
 text_from_c k = take k.text_len k.text
@@ -161,13 +165,13 @@ pub record IsUsable (k : NoiseHandshake) : Type 0 where
   pub pattern : Plan
   pub named : IsPatternOf (text_from_c k) pattern
   pub valid : IsValid pattern
-  pub whole : IsLateWhole public_in (handshake_from_c pattern k)
+  pub whole : IsLateWhole pairs_in (handshake_from_c pattern k)
 
 -- The struct matches the state, by a pattern of its name: with the state's later psks, which it may lack.
 pub record KeepsParty (k : NoiseHandshake) (p : Plan) (v : Party) : Type 0 where
   pub pattern : IsPatternOf (text_from_c k) p
   pub later : List (List ℕ)
-  pub matches : ValueMatches public_in agreement_in (with_later (handshake_from_c p k) later) v
+  pub matches : ValueMatches pairs_in (with_later (handshake_from_c p k) later) v
 
 -- for each state that it matches, and the pattern by which it does
 abbrev pub ForParty : NoiseHandshake → (Plan → Party → Type 0) → Type 0

@@ -4,7 +4,7 @@ ghost use Rattle.std.specs.Prelude.{◌≡◌, ◌≤◌, ◌-◌, ◌↔◌, le
 ghost use Rattle.noise_handshake.specs.Parts.{held_of};
 ghost use Rattle.noise_handshake.specs.Late.{IsLateWhole};
 ghost use Rattle.noise_names.specs.Plan.{Plan};
-ghost use Rattle.noise_c.specs.HandshakeStructs.{public_in, role_in, text_from_c, handshake_from_c, IsPatternOf, IsUsable, StoresProgress};
+ghost use Rattle.noise_c.specs.HandshakeStructs.{pairs_in, role_in, text_from_c, handshake_from_c, IsPatternOf, IsUsable, StoresProgress};
 
 use crate::codes::numbers::HANDSHAKE;
 use crate::patterns::pattern_of;
@@ -64,7 +64,7 @@ fn restored<'a>(
 ) -> Option<Handshake<SuppliedKeys<'a>>>
     requires answers { handshake.now.answer_count ≤ 8 }
     requires psks { handshake.now.psk_count ≤ 9 }
-    ensures whole { IsSome result ↔ IsLateWhole public_in (handshake_from_c pattern handshake.now) }
+    ensures whole { IsSome result ↔ IsLateWhole pairs_in (handshake_from_c pattern handshake.now) }
     ensures value { IfSome result (λ h. h ≡ handshake_from_c pattern handshake.now) }
     ensures count { IfSome result (λ h. length h.psks ≡ handshake.now.psk_count) }
 {

@@ -1,5 +1,5 @@
 use Rattle.std.proofs.Common.{◌≡◌, List, ℕ, sym, ap, ◌∙◌, subst, arith}
-use Rattle.noise_c.proofs.Common.{Option, Some, None, IfSome, Plan, HandshakeValue, IsLateWhole, NoiseHandshake, Table, public_in, text_from_c, handshake_from_c, IsPatternOf}
+use Rattle.noise_c.proofs.Common.{Option, Some, None, IfSome, Plan, HandshakeValue, IsLateWhole, NoiseHandshake, Table, pairs_in, text_from_c, handshake_from_c, IsPatternOf}
 use Rattle.noise_c.proofs.from_c.handshake_from_c.Goals as goal
 
 one-of : (o : Option (HandshakeValue Table)) (name : List ℕ) (k : NoiseHandshake) (p : Plan) → ((q : Plan) → IsPatternOf name q → q ≡ p)
@@ -29,7 +29,7 @@ returns-clause-usable c = (
     valid = c.in-Ok.ensures.valid;
     whole = c.restored.ensures.whole.0 some;
   },
-  λ u. c.restored.ensures.whole.1 (subst (λ (q : Plan). IsLateWhole public_in (handshake_from_c q c.args.handshake.now)) (c.in-Ok.ensures.one u.pattern u.named) u.whole),
+  λ u. c.restored.ensures.whole.1 (subst (λ (q : Plan). IsLateWhole pairs_in (handshake_from_c q c.args.handshake.now)) (c.in-Ok.ensures.one u.pattern u.named) u.whole),
 )
 
 pub returns-clause-one : goal.returns-clause-one

@@ -1,6 +1,6 @@
 use Rattle.std.proofs.Common.{◌≡◌, ◌-◌, List, ℕ, length, take, drop, length-drop, sym, ap, ◌∙◌, subst, arith, rules}
 use Rattle.std.proofs.lemmas.List.{take_rest}
-use Rattle.noise_c.proofs.Common.{Option, Some, None, IfSome, HandshakeValue, IsLateWhole, Table, public_in, handshake_from_c}
+use Rattle.noise_c.proofs.Common.{Option, Some, None, IfSome, HandshakeValue, IsLateWhole, Table, pairs_in, handshake_from_c}
 use Rattle.noise_handshake.specs.Parts.{held_of}
 use Rattle.noise_c.proofs.from_c.restored.Goals as goal
 
@@ -20,8 +20,8 @@ returns-clause-whole c =
     let k = c.args.handshake.now in
     let nine : length k.psks ≡ 9 = search rules in
     let partial = ap (held_of c.parts_of.result) (last-of k.psks (9 - k.psk_count) nine) ∙ c.parts_of.ensures in (
-      λ some. subst (λ (z : HandshakeValue Table). IsLateWhole public_in z) partial (c.from_parts.ensures.whole.0 some),
-      λ w. c.from_parts.ensures.whole.1 (subst (λ (z : HandshakeValue Table). IsLateWhole public_in z) (sym partial) w),
+      λ some. subst (λ (z : HandshakeValue Table). IsLateWhole pairs_in z) partial (c.from_parts.ensures.whole.0 some),
+      λ w. c.from_parts.ensures.whole.1 (subst (λ (z : HandshakeValue Table). IsLateWhole pairs_in z) (sym partial) w),
     )
 
 pub returns-clause-value : goal.returns-clause-value
