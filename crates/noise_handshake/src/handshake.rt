@@ -194,6 +194,7 @@ impl<K: Keys> Handshake<K> {
         ensures lacks { IsTrue result
             ↔ (length self.old.psks < psks_of (drop self.old.passed self.old.pattern.messages)) }
         ensures put { IsTrue result → self.new ≡ with_later self.old (psk ∷ []) }
+        ensures few { length self.new.psks ≤ 9 }
         ensures unchanged { result ≡ false → self.new ≡ self.old }
         ensures matches { IsTrue result → (v : Party) (later : List (List ℕ))
             → MatchesWith K.pairs (psk ∷ later) self.old v
