@@ -81,8 +81,6 @@ pub extern "C" fn noise_set_psk(handshake: &mut NoiseHandshake, psk: &[u8; 32]) 
     if !state.put_psk(*psk) {
         return PSK_COUNT;
     }
-    // A handshake has at most 9 psks, so there is room for this one.
-    let _ = state.psks();
     store_psk(handshake, psk);
     OK
 }

@@ -53,7 +53,7 @@ impl<K: Keys> Handshake<K> {
     /// handshake, and everything else leaves it as it was: hand in what is wanted, and read the message again. So a
     /// caller whose private keys lie elsewhere has the DH result made, puts it to its keys, and goes on.
     pub fn read_or_ask(&mut self, message: &mut [u8]) -> Result<(usize, usize), Unread>
-        requires { length message.old ≤ 65535 }
+        requires fits { length message.old ≤ 65535 }
         ensures range { IfOk result (IsPlaceIn message.new) }
         ensures beyond { IfOk result (IsSameAround message.old message.new) }
         ensures unchanged { OnErr result (message.new ≡ message.old) }
@@ -162,7 +162,7 @@ impl<K: Keys> Handshake<K> {
     /// Where `message_len` gives a length, `out` holds it. At an `Err` nothing changes: hand in what is wanted, and
     /// write again.
     pub fn write_or_ask(&mut self, payload: &[u8], out: &mut [u8]) -> Result<usize, Unwritten>
-        requires { ForSome (message_len_of self.old (length payload.now)) (λ n. n ≤ length out.old) }
+        requires room { ForSome (message_len_of self.old (length payload.now)) (λ n. n ≤ length out.old) }
         ensures len { IfOk result
             (λ n. (message_len_of self.old (length payload.now) ≡ Some n) × (n ≤ length out.new)) }
         ensures fault { MatchOption (write_fault self.old (length payload.now)) (IfErr result IsOfTurn) (λ fault.

@@ -87,7 +87,7 @@ impl<K: Keys> Handshake<K> {
         remote: Remote,
         psks: &[[u8; 32]],
     ) -> Result<Handshake<K>, SetupFault>
-        requires { length prologue.now ≤ 65535 }
+        requires len { length prologue.now ≤ 65535 }
         ensures fault { MatchOption (setup_fault pattern role (K.pairs keys).public remote (length psks.now))
             (IsOk result) (λ fault. result ≡ Err fault) }
         ensures matches { IfOk result
@@ -115,7 +115,7 @@ impl<K: Keys> Handshake<K> {
         remote: Remote,
         psks: &[[u8; 32]],
     ) -> Result<Handshake<K>, SetupFault>
-        requires { length prologue.now ≤ 65535 }
+        requires len { length prologue.now ≤ 65535 }
         ensures fault { MatchOption (late_fault pattern role (K.pairs keys).public remote (length psks.now)) (IsOk result)
             (λ fault. result ≡ Err fault) }
         ensures matches { IfOk result (λ h. (later : List (List ℕ)) → MatchesWith K.pairs later h
@@ -194,6 +194,7 @@ impl<K: Keys> Handshake<K> {
         ensures lacks { IsTrue result
             ↔ (length self.old.psks < psks_of (drop self.old.passed self.old.pattern.messages)) }
         ensures put { IsTrue result → self.new ≡ with_later self.old (psk ∷ []) }
+        ensures few { length self.new.psks ≤ 9 }
         ensures unchanged { result ≡ false → self.new ≡ self.old }
         ensures matches { IsTrue result → (v : Party) (later : List (List ℕ))
             → MatchesWith K.pairs (psk ∷ later) self.old v
@@ -345,7 +346,7 @@ impl<K: Keys> Handshake<K> {
 
     // The layout of the next message.
     fn next_layout(&self) -> &MessageLayout
-        requires { self.now.passed < length self.now.pattern.messages }
+        requires due { self.now.passed < length self.now.pattern.messages }
         ensures laid { let p = self.now.pattern in let n = self.now.passed in
             IsLaid (has_psk p) (has_key p (passed_places p n)) (tokens_at p.messages n) result.now }
         ensures valid { IsValid self.now.pattern }
@@ -355,7 +356,7 @@ impl<K: Keys> Handshake<K> {
 
     // How much longer the next message is than its payload.
     fn overhead(&self) -> usize
-        requires { self.now.passed < length self.now.pattern.messages }
+        requires due { self.now.passed < length self.now.pattern.messages }
         ensures value { result ≡ overhead_of self.now.pattern (self.now.passed + 1) }
         ensures most { result ≤ 65535 }
     {
@@ -433,7 +434,7 @@ impl<K: Keys> Handshake<K> {
     /// other faults leave it as it was. A message for which a psk is lacking is refused at its token, as one for which
     /// a DH has no result.
     pub fn read_within(&mut self, message: &mut [u8]) -> Result<(usize, usize), ReadFault>
-        requires { length message.old ≤ 65535 }
+        requires fits { length message.old ≤ 65535 }
         ensures range { IfOk result (IsPlaceIn message.new) }
         ensures beyond { IfOk result (IsSameAround message.old message.new) }
         ensures unchanged { OnErr result (message.new ≡ message.old) }
@@ -469,7 +470,7 @@ impl<K: Keys> Handshake<K> {
     /// The message has at most 65535 bytes. At an `Err` its bytes are unchanged. `Refused` ends the handshake, and the
     /// other faults leave it as it was.
     pub fn read<'a>(&mut self, message: &'a mut [u8]) -> Result<&'a mut [u8], ReadFault>
-        requires { length message.old ≤ 65535 }
+        requires fits { length message.old ≤ 65535 }
         ensures part { IfOk result
             (λ payload. (from : ℕ) × (payload.ref_ptr ≡ (message.entry.ref_ptr.0, message.entry.ref_ptr.1 + from))
             × (from + length payload.now ≤ length message.old)) }
@@ -559,7 +560,7 @@ impl<K: Keys> Handshake<K> {
     /// Where `message_len` gives a length, `out` holds it. `Agreement` ends the handshake and leaves open what `out`
     /// holds; the other faults change nothing. A psk that is lacking is as a DH without a result.
     pub fn write(&mut self, payload: &[u8], out: &mut [u8]) -> Result<usize, WriteFault>
-        requires { ForSome (message_len_of self.old (length payload.now)) (λ n. n ≤ length out.old) }
+        requires room { ForSome (message_len_of self.old (length payload.now)) (λ n. n ≤ length out.old) }
         ensures len { IfOk result
             (λ n. (message_len_of self.old (length payload.now) ≡ Some n) × (n ≤ length out.new)) }
         ensures fault { MatchOption (write_fault self.old (length payload.now)) (IfErr result IsAgreement)

@@ -84,8 +84,8 @@ fn place_tokens(
 
 // The layout of a message.
 fn lay_message(tokens: &[Token], has_psks: bool, keyed: bool) -> MessageLayout
-    requires { length tokens.now ≤ 10 }
-    ensures { IsLaid has_psks keyed tokens.now result }
+    requires few { length tokens.now ≤ 10 }
+    ensures laid { IsLaid has_psks keyed tokens.now result }
 {
     let mut placed = ArrayVec::new();
     let (payload, after) = place_tokens(tokens, has_psks, keyed, 0, &mut placed);
@@ -113,8 +113,8 @@ pub(crate) fn lay_next(pattern: &Pattern, has_psks: bool, keyed: bool, passed: u
 
 // The place of the psk token after so many others, if there is one.
 pub(crate) fn psk_after(placed: &[PlacedToken], count: usize) -> Option<usize>
-    requires { length placed.now ≤ 10 }
-    ensures { MatchOption result (count_by is_psk (tokens_of placed.now) ≤ count)
+    requires few { length placed.now ≤ 10 }
+    ensures place { MatchOption result (count_by is_psk (tokens_of placed.now) ≤ count)
         (λ k. IsPskAfter (tokens_of placed.now) count k) }
 {
     let (first, later) = placed.split_first()?;

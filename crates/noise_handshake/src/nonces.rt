@@ -20,7 +20,7 @@ pub(crate) struct Count {
 
 // The nonce after a text that is encrypted where there is a key.
 fn next_nonce(keyed: bool, nonce: u64) -> u64
-    requires { nonce < 2 ^ 64 - 1 }
+    requires nonces { nonce < 2 ^ 64 - 1 }
     ensures value { result ≡ next_nonce keyed nonce }
     ensures bound { result ≤ nonce + 1 }
 {
@@ -29,7 +29,7 @@ fn next_nonce(keyed: bool, nonce: u64) -> u64
 
 // The nonce after a token.
 fn nonce_after(has_psks: bool, count: Count, token: Token) -> u64
-    requires { count.nonce < 2 ^ 64 - 1 }
+    requires nonces { count.nonce < 2 ^ 64 - 1 }
     ensures value { result ≡ nonce_after has_psks count.keyed count.nonce token }
     ensures bound { result ≤ count.nonce + 1 }
 {
@@ -41,7 +41,7 @@ fn nonce_after(has_psks: bool, count: Count, token: Token) -> u64
 }
 
 fn after_tokens(has_psks: bool, count: Count, tokens: &[Token]) -> Count
-    requires { count.nonce + length tokens.now < 2 ^ 64 - 1 }
+    requires nonces { count.nonce + length tokens.now < 2 ^ 64 - 1 }
     ensures keyed { result.keyed ≡ keyed_after_tokens has_psks count.keyed tokens.now }
     ensures nonce { result.nonce ≡ nonce_after_tokens has_psks count.keyed count.nonce tokens.now }
     ensures bound { result.nonce ≤ count.nonce + length tokens.now }
@@ -76,7 +76,7 @@ fn after_messages(has_psks: bool, count: Count, messages: &[Message]) -> Count
 
 // Whether there is a key in a handshake in which so many messages have passed, and its nonce.
 pub(crate) fn count_due(valid: &ValidPattern, passed: u8) -> Count
-    requires { passed ≤ length valid.now.messages }
+    requires within { passed ≤ length valid.now.messages }
     ensures keyed { result.keyed ≡ has_key valid.now (passed_places valid.now passed) }
     ensures nonce { result.nonce ≡ nonce_due valid.now passed }
     ensures bound { result.nonce ≤ 11 * passed }

@@ -77,8 +77,8 @@ pub fn sends(pattern: &Pattern, role: Role, token: Token) -> bool
 
 // Whether a role has the token in its pre-message or one of so many messages.
 pub(crate) fn was_sent(pattern: &Pattern, passed: usize, role: Role, token: Token) -> bool
-    requires { passed ≤ length pattern.now.messages }
-    ensures { result ≡ is_among role token (passed_places pattern.now passed) }
+    requires within { passed ≤ length pattern.now.messages }
+    ensures value { result ≡ is_among role token (passed_places pattern.now passed) }
 {
     let before = has_token(pattern.pre(role), token);
     if before {

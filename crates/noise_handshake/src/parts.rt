@@ -55,8 +55,8 @@ impl<K: Keys> Parts<K> {
     // Whether exactly those keys of the other party are there whose tokens stand in its pre-message or in a message
     // that has passed.
     fn has_remote(&self) -> bool
-        requires { self.now.progress.passed ≤ length self.now.pattern.messages }
-        ensures { IsTrue result ↔ HasShownKeys self.now }
+        requires within { self.now.progress.passed ≤ length self.now.pattern.messages }
+        ensures whole { IsTrue result ↔ HasShownKeys self.now }
     {
         let pattern = self.pattern.pattern();
         let passed = self.progress.passed as usize;
@@ -68,7 +68,7 @@ impl<K: Keys> Parts<K> {
     // Whether there is a cipher key exactly where the pattern says so, and the nonce counts what was encrypted under
     // it.
     fn has_state(&self) -> bool
-        requires { self.now.progress.passed ≤ length self.now.pattern.messages }
+        requires within { self.now.progress.passed ≤ length self.now.pattern.messages }
         ensures whole { IsTrue result ↔ HasDueState self.now }
         ensures bound { IsTrue result → self.now.progress.state.nonce ≤ 11 * self.now.progress.passed }
     {

@@ -65,8 +65,8 @@ fn open_key(state: &mut SymmetricState, buffer: &mut [u8]) -> Option<[u8; 32]>
 }
 
 fn first_32(text: &[u8]) -> [u8; 32]
-    requires { 32 ≤ length text.now }
-    ensures { result ≡ take 32 text.now }
+    requires low { 32 ≤ length text.now }
+    ensures value { result ≡ take 32 text.now }
 {
     let mut key = [0; 32];
     key.copy_from_slice(&text[..32]);
@@ -145,8 +145,8 @@ fn read_token<K: Keys>(
 
 // The bytes of a message from a place on.
 fn bytes_from(message: &[u8], place: u16) -> &[u8]
-    requires { place ≤ length message.now }
-    ensures { result.now ≡ drop place message.now }
+    requires within { place ≤ length message.now }
+    ensures value { result.now ≡ drop place message.now }
 {
     &message[place as usize..]
 }
@@ -192,8 +192,8 @@ fn read_tokens<K: Keys>(
 
 // A token by its number.
 fn token_at(placed: &[PlacedToken], k: usize) -> Token
-    requires { k < length placed.now }
-    ensures { result ≡ slice_index_or (tokens_of placed.now) k result }
+    requires within { k < length placed.now }
+    ensures token { result ≡ slice_index_or (tokens_of placed.now) k result }
 {
     placed[k].token
 }
@@ -237,7 +237,7 @@ pub(crate) fn read_lacking<K: Keys>(
     requires nonces { nonce_now state.now + length (tokens_of placed.now) < 2 ^ 64 - 1 }
     requires known { IsTrue (are_known means.now.role (is_some known.now.e) (is_some known.now.s)
         (tokens_of placed.now)) }
-    ensures { (r : History) → StateMatches state.now r
+    ensures wants { (r : History) → StateMatches state.now r
         → ReaderWants (reader_of K.pairs means.now) known.now psks.now r (tokens_of placed.now) message.now result }
 {
     let mut trial = state.for_trial();
@@ -266,7 +266,7 @@ pub(crate) fn read_before<K: Keys>(
         (tokens_of placed.now)) }
     requires within { k ≤ length placed.now }
     requires few { length placed.now ≤ 10 }
-    ensures { (r : History) → StateMatches state.now r
+    ensures read { (r : History) → StateMatches state.now r
         → ReadsBefore (reader_of K.pairs means.now) r known.now psks.now (tokens_of placed.now) k
         message.now result }
 {

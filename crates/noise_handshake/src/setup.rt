@@ -22,7 +22,7 @@ use noise_state::SymmetricState;
 
 /// How many psks the messages take: one for each psk token (Noise, 9.2).
 pub fn psk_total(messages: &[Message]) -> usize
-    requires { length messages.now ≤ 8 }
+    requires few { length messages.now ≤ 8 }
     ensures total { result ≡ psks_of messages.now }
     ensures bound { result ≤ 10 * length messages.now }
 {

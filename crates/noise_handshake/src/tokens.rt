@@ -79,8 +79,8 @@ pub fn mix_ephemeral(state: &mut SymmetricState, has_psks: bool, key: &[u8; 32])
 
 /// The psks still to come after a token.
 pub fn psks_after(psks: &[[u8; 32]], token: Token) -> &[[u8; 32]]
-    requires { token ≡ Token.Psk → 0 < length psks.now }
-    ensures { result.now ≡ psks_after psks.now token }
+    requires psk { token ≡ Token.Psk → 0 < length psks.now }
+    ensures value { result.now ≡ psks_after psks.now token }
 {
     match token {
         Token::Psk => &psks[1..],

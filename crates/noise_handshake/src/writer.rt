@@ -25,7 +25,7 @@ use noise_state::SymmetricState;
 
 // Copies a text to the front of a buffer, and returns how many bytes it takes.
 fn put(text: &[u8], out: &mut [u8]) -> usize
-    requires { length text.now ≤ length out.old }
+    requires room { length text.now ≤ length out.old }
     ensures width { result ≡ length text.now }
     ensures beyond { drop result out.new ≡ drop result out.old }
     ensures copied { take result out.new ≡ text.now }
@@ -191,7 +191,7 @@ pub(crate) fn write_lacking<K: Keys>(
     requires own { IsTrue (list_all (has_own (K.pairs means.now.keys).public) (tokens_of placed.now)) }
     requires known { IsTrue (list_all (is_known means.now.role (is_some known.now.e) (is_some known.now.s))
         (tokens_of placed.now)) }
-    ensures { WriterWants (writer_of K.pairs means.now) known.now psks.now (tokens_of placed.now)
+    ensures wants { WriterWants (writer_of K.pairs means.now) known.now psks.now (tokens_of placed.now)
         result }
 {
     let (first, later) = placed.split_first()?;
@@ -217,7 +217,7 @@ pub(crate) fn write_lacking_before<K: Keys>(
     requires known { IsTrue (list_all (is_known means.now.role (is_some known.now.e) (is_some known.now.s))
         (tokens_of placed.now)) }
     requires within { k ≤ length placed.now }
-    ensures { WriterWants (writer_of K.pairs means.now) known.now psks.now
+    ensures wants { WriterWants (writer_of K.pairs means.now) known.now psks.now
         (take k (tokens_of placed.now)) result }
 {
     write_lacking(known, means, psks, &placed[..k])

@@ -8,8 +8,7 @@ store_psk-requires c =
     let put = c.put_psk.ensures.put c.if-not-put_psk.false in
     omega (
       arith,
-      ap length c.psks.ensures.value,
-      c.psks.ensures.few,
+      c.put_psk.ensures.few,
       ap (λ (z : HandshakeValue Table). length z.psks) put,
       length-append c.in-Some.value.psks (c.args.psk.now ∷ []),
       c.in-Some.ensures.count,

@@ -3,4 +3,4 @@ use Rattle.noise_handshake.proofs.Uses.{found-after, matches-first}
 use Rattle.noise_handshake.proofs.own_keys.was_sent.Goals as goal
 
 pub returns : goal.returns
-returns c = search (rules, found-after, matches-first)
+returns c = record { value = search (rules, found-after, matches-first) }

@@ -13,7 +13,7 @@ returns-in-Err-clause-read g t c r place s within are =
     let later : List Token = tokens_of c.in-Some.later.now in
     let split : tokens_of c.args.placed.now ≡ token ∷ later = ap tokens_of c.in-Some.ensures.cases.0 in
     let here = rest-first c.args.means.now.has_psks (keyed c.args.state.now) place c.args.placed.now c.in-Some.first.now c.in-Some.later.now c.in-Some.ensures.cases.0 are
-    c.args.message.now c.bytes_from-rest.result.now c.bytes_from-rest.ensures in
+    c.args.message.now c.bytes_from-rest.result.now c.bytes_from-rest.ensures.value in
     let d = c.in-Err.ensures.read r s in
     stopped v c.args.known.now c.args.psks.now r (tokens_of c.args.placed.now) later token (drop place c.args.message.now) c.in-Err.cause
     c.read_token.new.known split (subst (λ (z : List ℕ). Fails v c.args.known.now c.args.psks.now r token z) here d.0)
@@ -28,9 +28,9 @@ returns-in-Ok-read_tokens-clause-read g t c r place s within are =
     let later : List Token = tokens_of c.in-Some.later.now in
     let split : tokens_of c.args.placed.now ≡ token ∷ later = ap tokens_of c.in-Some.ensures.cases.0 in
     let here = rest-first c.args.means.now.has_psks (keyed c.args.state.now) place c.args.placed.now c.in-Some.first.now c.in-Some.later.now c.in-Some.ensures.cases.0 are
-    c.args.message.now c.bytes_from-rest.result.now c.bytes_from-rest.ensures in
+    c.args.message.now c.bytes_from-rest.result.now c.bytes_from-rest.ensures.value in
     let u = later-placed c.args.means.now.has_psks (keyed c.args.state.now) place c.args.placed.now c.in-Some.first.now c.in-Some.later.now c.in-Some.ensures.cases.0 are
-    c.args.message.now c.bytes_from-rest.result.now c.bytes_from-rest.ensures within c.in-Ok.n (keyed c.read_token.new.state) c.in-Ok.ensures.width c.in-Ok.ensures.range (ap (λ (k : Keying). k.keyed) c.in-Ok.ensures.keying) in
+    c.args.message.now c.bytes_from-rest.result.now c.bytes_from-rest.ensures.value within c.in-Ok.n (keyed c.read_token.new.state) c.in-Ok.ensures.width c.in-Ok.ensures.range (ap (λ (k : Keying). k.keyed) c.in-Ok.ensures.keying) in
     let m : List ℕ = c.args.message.now in
     let n : ℕ = c.in-Ok.n in
     let rest : List ℕ = drop place m in
@@ -44,13 +44,13 @@ returns-in-Ok-read_tokens-clause-read g t c r place s within are =
     subst (λ (z : List ℕ). BeginsAs v known2 others (after_token has_psks r token d.0) later i.0 (drop (place + first.width) m) z)
     (sym (drop-drop more (place + first.width) m)) i.1 in
     let whole = led v c.args.known.now known2 c.args.psks.now others r (tokens_of c.args.placed.now) later token d.0 rest (drop (place + first.width) m) n
-    split d.1 spelled d.4 c.psks_after-others.ensures u.3 i.0 more leads in (
+    split d.1 spelled d.4 c.psks_after-others.ensures.value u.3 i.0 more leads in (
       d.0 ∷ i.0,
       subst (λ (z : List ℕ). BeginsAs v c.args.known.now c.args.psks.now r (tokens_of c.args.placed.now) (d.0 ∷ i.0) rest z)
           (drop-drop (n + more) place m) whole,
       subst (λ (us : List Token). StateMatches c.read_tokens.new.state (after_tokens has_psks r us (d.0 ∷ i.0))) (sym split) i.2,
       learned-on v c.args.known.now known2 c.args.psks.now others r (tokens_of c.args.placed.now) later token d.0 rest (drop (place + first.width) m) n
-          split d.1 spelled d.4 c.psks_after-others.ensures u.3 i.0 c.read_tokens.new.known i.3,
+          split d.1 spelled d.4 c.psks_after-others.ensures.value u.3 i.0 c.read_tokens.new.known i.3,
     )
 
 pub returns-in-Err-read_tokens-clause-read : goal.returns-in-Err-read_tokens-clause-read
@@ -61,9 +61,9 @@ returns-in-Err-read_tokens-clause-read g t c r place s within are =
     let later : List Token = tokens_of c.in-Some.later.now in
     let split : tokens_of c.args.placed.now ≡ token ∷ later = ap tokens_of c.in-Some.ensures.cases.0 in
     let here = rest-first c.args.means.now.has_psks (keyed c.args.state.now) place c.args.placed.now c.in-Some.first.now c.in-Some.later.now c.in-Some.ensures.cases.0 are
-    c.args.message.now c.bytes_from-rest.result.now c.bytes_from-rest.ensures in
+    c.args.message.now c.bytes_from-rest.result.now c.bytes_from-rest.ensures.value in
     let u = later-placed c.args.means.now.has_psks (keyed c.args.state.now) place c.args.placed.now c.in-Some.first.now c.in-Some.later.now c.in-Some.ensures.cases.0 are
-    c.args.message.now c.bytes_from-rest.result.now c.bytes_from-rest.ensures within c.in-Ok.n (keyed c.read_token.new.state) c.in-Ok.ensures.width c.in-Ok.ensures.range (ap (λ (k : Keying). k.keyed) c.in-Ok.ensures.keying) in
+    c.args.message.now c.bytes_from-rest.result.now c.bytes_from-rest.ensures.value within c.in-Ok.n (keyed c.read_token.new.state) c.in-Ok.ensures.width c.in-Ok.ensures.range (ap (λ (k : Keying). k.keyed) c.in-Ok.ensures.keying) in
     let m : List ℕ = c.args.message.now in
     let n : ℕ = c.in-Ok.n in
     let rest : List ℕ = drop place m in
@@ -72,5 +72,5 @@ returns-in-Err-read_tokens-clause-read g t c r place s within are =
     let i = c.in-Err-read_tokens.ensures.read (after_token c.args.means.now.has_psks r token d.0) (place + first.width) d.3 u.1 u.2 in
     stopped-later v c.args.known.now c.read_token.new.known c.args.psks.now c.psks_after-others.result.now r
     (tokens_of c.args.placed.now) later token d.0
-    rest (drop (place + first.width) m) n split d.1 spelled d.4 c.psks_after-others.ensures u.3
+    rest (drop (place + first.width) m) n split d.1 spelled d.4 c.psks_after-others.ensures.value u.3
     c.in-Err-read_tokens.k c.in-Err-read_tokens.cause c.read_tokens.new.known c.in-Err-read_tokens.ensures.stop i

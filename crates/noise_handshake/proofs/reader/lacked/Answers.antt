@@ -10,7 +10,7 @@ returns-then-k-placed c v before psks r message same knows stops =
     let ts : List Token = tokens_of c.args.placed.now in
     let here = subst (λ (z : Cause). StopsKnowing v before psks r ts message c.args.k z c.args.known.now) c.in-Agreement.is stops in
     asked v before c.args.known.now psks r ts message c.args.k c.token_at.result
-    (omega (arith, c.if-k-placed.true, length-tokens_of c.args.placed.now)) c.token_at.ensures
+    (omega (arith, c.if-k-placed.true, length-tokens_of c.args.placed.now)) c.token_at.ensures.token
     (subst (λ (z : Role). are_known z (is_some before.e) (is_some before.s) ts ≡ true) (sym same) knows) here c.asked_at.result
     (subst (λ (z : Role). MatchOption c.asked_at.result (remote_at z c.args.known.now c.token_at.result ≡ None)
     (λ want. (want.0 ≡ own_at z c.token_at.result) × (remote_at z c.args.known.now c.token_at.result ≡ Some want.1))) (sym same) c.asked_at.ensures)

@@ -23,22 +23,24 @@ pub overflow_cast-result : goal.overflow_cast-result
 overflow_cast-result g c = search (rules, tokens-take, length-take, length-tokens_of)
 
 pub returns-in-Ok : goal.returns-in-Ok
-returns-in-Ok g c r s = search (rules, placed-take, tokens-take)
+returns-in-Ok g c = record { read = λ r s. search (rules, placed-take, tokens-take) }
 
 pub returns-in-Err : goal.returns-in-Err
-returns-in-Err g c r s =
-    let v : Reader = reader_of g.K.Keys.pairs c.args.means.now in
-    let trial : StateMatches c.for_trial-trial.result r = subst (λ (z : SymmetricState). StateMatches z r) (sym c.for_trial-trial.ensures) s in
-    let placed : ArePlaced c.args.means.now.has_psks (keyed c.for_trial-trial.result) 0 (take c.args.k c.args.placed.now) =
-    search (rules, placed-take) in
-    let i = c.in-Err.ensures.read r 0 trial (omega arith) placed in
-    let ts : List Token = tokens_of c.args.placed.now in
-    let e = tokens-take c.args.placed.now c.args.k in
-    let short = subst (λ (us : List Token). StopsKnowing v c.args.known.now c.args.psks.now r us c.args.message.now c.in-Err.token c.in-Err.cause
-    c.read_tokens.new.known) e i in
-    let less : c.in-Err.token < length (take c.args.k ts) = omega (arith, c.in-Err.ensures.stop, ap length e) in
-    let all = stops-all v c.args.known.now c.args.psks.now r ts c.args.message.now c.args.k c.in-Err.token c.in-Err.cause c.read_tokens.new.known less short in (
-      omega (arith, less, length-take c.args.k ts),
-      all.0,
-      c.lacked.ensures v c.args.known.now c.args.psks.now r c.args.message.now refl c.requires.known all,
-    )
+returns-in-Err g c = record {
+  read = λ r s.
+      let v : Reader = reader_of g.K.Keys.pairs c.args.means.now in
+      let trial : StateMatches c.for_trial-trial.result r = subst (λ (z : SymmetricState). StateMatches z r) (sym c.for_trial-trial.ensures) s in
+      let placed : ArePlaced c.args.means.now.has_psks (keyed c.for_trial-trial.result) 0 (take c.args.k c.args.placed.now) =
+      search (rules, placed-take) in
+      let i = c.in-Err.ensures.read r 0 trial (omega arith) placed in
+      let ts : List Token = tokens_of c.args.placed.now in
+      let e = tokens-take c.args.placed.now c.args.k in
+      let short = subst (λ (us : List Token). StopsKnowing v c.args.known.now c.args.psks.now r us c.args.message.now c.in-Err.token c.in-Err.cause
+      c.read_tokens.new.known) e i in
+      let less : c.in-Err.token < length (take c.args.k ts) = omega (arith, c.in-Err.ensures.stop, ap length e) in
+      let all = stops-all v c.args.known.now c.args.psks.now r ts c.args.message.now c.args.k c.in-Err.token c.in-Err.cause c.read_tokens.new.known less short in (
+        omega (arith, less, length-take c.args.k ts),
+        all.0,
+        c.lacked.ensures v c.args.known.now c.args.psks.now r c.args.message.now refl c.requires.known all,
+      );
+}

@@ -28,11 +28,11 @@ returns-in-Ok-clause-written g t c r s =
     let next : History = after_token c.args.means.now.has_psks r token a.0 in
     let b = c.in-Ok.ensures.written next a.3 in (
       a.0 ∷ b.0,
-      given-on w known psks others r (tokens_of c.args.placed.now) later token a.0 split a.1 c.psks_after-others.ensures b.0 b.1,
+      given-on w known psks others r (tokens_of c.args.placed.now) later token a.0 split a.1 c.psks_after-others.ensures.value b.0 b.1,
       joined c.write_token.new.out c.write_tokens.new.out n k fits long (drop (length c.write_token.new.out - n) (drop n c.write_token.new.out))
-          ∙ front-on w known psks others r (tokens_of c.args.placed.now) later token a.0 split a.1 c.psks_after-others.ensures b.0
+          ∙ front-on w known psks others r (tokens_of c.args.placed.now) later token a.0 split a.1 c.psks_after-others.ensures.value b.0
           (take n c.write_token.new.out) (take k c.write_tokens.new.out) a.2 b.2,
-      after-on w known psks others r (tokens_of c.args.placed.now) later token a.0 split a.1 c.psks_after-others.ensures StateMatches
+      after-on w known psks others r (tokens_of c.args.placed.now) later token a.0 split a.1 c.psks_after-others.ensures.value StateMatches
           c.write_tokens.new.state b.0 b.3,
     )
 
@@ -43,4 +43,4 @@ returns-in-Err-clause-written g t c r s =
     let a = c.in-Some-write_token.ensures.written r s in
     let next : History = after_token c.args.means.now.has_psks r token a.0 in
     lacks-on w c.args.known.now c.args.psks.now c.psks_after-others.result.now r (tokens_of c.args.placed.now) (tokens_of c.in-Some.later.now) token a.0
-    (ap tokens_of c.in-Some.ensures.cases.0) a.1 c.psks_after-others.ensures c.in-Err.k (c.in-Err.ensures.written next a.3)
+    (ap tokens_of c.in-Some.ensures.cases.0) a.1 c.psks_after-others.ensures.value c.in-Err.k (c.in-Err.ensures.written next a.3)

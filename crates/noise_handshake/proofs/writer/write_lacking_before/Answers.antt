@@ -14,7 +14,9 @@ pub write_lacking-requires-clause-known : goal.write_lacking-requires-clause-kno
 write_lacking-requires-clause-known g c = search (rules, tokens-take, all-take)
 
 pub returns : goal.returns
-returns g c =
-    let w : Writer = writer_of g.K.Keys.pairs c.args.means.now in
-    subst (λ (us : List Token). MatchOption c.write_lacking.result ((j : ℕ) → LacksDhResultAt w c.args.known.now c.args.psks.now us j → ⊥)
-    (λ want. LacksDhResultFor w c.args.known.now c.args.psks.now us want.0 want.1)) (tokens-take c.args.placed.now c.args.k) c.write_lacking.ensures
+returns g c = record {
+  wants =
+      let w : Writer = writer_of g.K.Keys.pairs c.args.means.now in
+      subst (λ (us : List Token). MatchOption c.write_lacking.result ((j : ℕ) → LacksDhResultAt w c.args.known.now c.args.psks.now us j → ⊥)
+      (λ want. LacksDhResultFor w c.args.known.now c.args.psks.now us want.0 want.1)) (tokens-take c.args.placed.now c.args.k) c.write_lacking.ensures.wants;
+}

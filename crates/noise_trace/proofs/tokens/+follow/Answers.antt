@@ -26,7 +26,7 @@ returns-clause-followed g t c r xs more s carries spelled =
     let here : drop to m ≡ tail =
     ap (λ (n : ℕ). drop n m) place ∙ sym (drop-drop (length piece) from m) ∙ ap (drop (length piece)) p.spelled ∙ drop_at piece tail (length piece) refl in
     let c1 = subst (λ (z : Remote). CarriesAll reads v z (psks_after c.args.psks.now token) later p.others) (sym knows) p.carries in
-    let c2 = subst (λ (z : List (List ℕ)). CarriesAll reads v learned z later p.others) (sym c.psks_after-others.ensures) c1 in
+    let c2 = subst (λ (z : List (List ℕ)). CarriesAll reads v learned z later p.others) (sym c.psks_after-others.ensures.value) c1 in
     followed-on v.has_psks r reads known learned c.args.tokens.now later token xs p.others p.first from to c.follow.new.state c.follow.result
     c.args.steps.now.items c.follow_one.new.steps.items c.follow.new.steps.items c.in-Some.ensures.cases.0 p.parts place knows d.2
     (c.follow.ensures.followed after p.others more d.1 c2 here)

@@ -5,7 +5,7 @@ use Rattle.noise_handshake.proofs.Next.{has-next, lacks-next}
 use Rattle.noise_handshake.proofs.handshake.Handshake.lacks_psk.Goals as goal
 
 pub overflow_cast-result : goal.overflow_cast-result
-overflow_cast-result g c = omega (arith, c.in-Some.ensures.within, length-tokens_of c.deref.result.now, c.deref.ensures.1)
+overflow_cast-result g c = omega (arith, c.in-Some.ensures.place.within, length-tokens_of c.deref.result.now, c.deref.ensures.1)
 
 pub returns-in-Some : goal.returns-in-Some
 returns-in-Some g c =
@@ -14,7 +14,7 @@ returns-in-Some g c =
     let len : c.len.result ≡ length c.self.inside.psks.items = search rules in
     record {
       lacks = lacks-next g.K.Keys.pairs c.self.inside c.self.invariant less c.deref.result.now c.deref.ensures.0 c.args.self.now c.self.view_is
-          c.len.result c.in-Some.k len c.in-Some.ensures;
+          c.len.result c.in-Some.k len c.in-Some.ensures.place;
     }
 
 pub returns-in-None : goal.returns-in-None

@@ -41,6 +41,6 @@ returns g c = record {
       (λ stop. (stop.token < c.args.k) × Stops w z s v.history us c.args.message.now stop.token stop.cause × MatchOption stop.want
       ((j : ℕ) → Stops w z s v.history us c.args.message.now j Agreement → ⊥)
       (λ want. StopsFor w z s v.history us c.args.message.now want.0 want.1)))
-      (c.read_before.ensures v.history trial) in
+      (c.read_before.ensures.read v.history trial) in
       before-of v c.args.message.now c.args.k c.read_before.result l.listens q;
 }

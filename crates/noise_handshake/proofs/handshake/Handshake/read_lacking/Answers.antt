@@ -26,5 +26,5 @@ returns g c = record {
       let l = listening-next g.K.Keys.pairs c.self.inside c.self.invariant less c.deref-2.result.now c.deref-2.ensures.0 c.args.self.now c.self.view_is v s
       c.deref.result.now c.deref.ensures.0 c.requires.due in
       let trial = trial-next g.K.Keys.pairs c.self.inside c.self.invariant less c.deref-2.result.now c.deref-2.ensures.0 c.args.self.now c.self.view_is v s a.state refl in
-      wants v c.args.message.now c.read_lacking.result a.means.role a.means.has_psks (P a.means.keys).agree _ a.remote _ l (c.read_lacking.ensures v.history trial);
+      wants v c.args.message.now c.read_lacking.result a.means.role a.means.has_psks (P a.means.keys).agree _ a.remote _ l (c.read_lacking.ensures.wants v.history trial);
 }

@@ -34,6 +34,6 @@ returns g c = record {
         l.speaks,
         for-view v a.means.role a.means.has_psks (P a.means.keys).public (P a.means.keys).agree _ a.remote _ l
             (λ w z s us. MatchOption c.write_lacking_before.result ((j : ℕ) → LacksDhResultAt w z s (take c.args.k us) j → ⊥)
-            (λ want. LacksDhResultFor w z s (take c.args.k us) want.0 want.1)) c.write_lacking_before.ensures,
+            (λ want. LacksDhResultFor w z s (take c.args.k us) want.0 want.1)) c.write_lacking_before.ensures.wants,
       );
 }

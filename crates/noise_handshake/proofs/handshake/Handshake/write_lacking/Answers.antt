@@ -22,5 +22,5 @@ returns g c = record {
       let less = speaks-next g.K.Keys.pairs c.self.inside c.self.invariant c.args.self.now c.self.view_is c.requires.due in
       let l = due-next g.K.Keys.pairs c.self.inside c.self.invariant less c.deref-2.result.now c.deref-2.ensures.0 c.args.self.now c.self.view_is v s
       c.deref.result.now c.deref.ensures.0 c.requires.due in
-      wants v c.write_lacking.result a.means.role a.means.has_psks (P a.means.keys).public (P a.means.keys).agree _ a.remote _ l c.write_lacking.ensures;
+      wants v c.write_lacking.result a.means.role a.means.has_psks (P a.means.keys).public (P a.means.keys).agree _ a.remote _ l c.write_lacking.ensures.wants;
 }
