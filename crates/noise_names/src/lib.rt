@@ -19,6 +19,7 @@ pub use faults::{NameFault, PlaceFault, RuleFault, TextFault, TextFaultKind};
 pub use name::ProtocolName;
 pub use pattern::{Message, Pattern};
 pub use places::PskPlaces;
+pub use section::base_len;
 pub use table::{fundamental, fundamental_at};
 pub use token::{Role, Token};
 pub use valid::ValidPattern;

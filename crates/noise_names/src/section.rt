@@ -24,8 +24,8 @@ fn is_base_byte(byte: u8) -> bool
     byte.is_ascii_uppercase() || byte.is_ascii_digit()
 }
 
-// How many upper-case letters and digits are at the front.
-fn base_len(section: &[u8]) -> usize
+/// How many upper-case letters and digits are at the front of a pattern section.
+pub fn base_len(section: &[u8]) -> usize
     ensures { result ≡ length (base_front section.now) }
 {
     section.iter().take_while(|b| is_base_byte(**b)).count()

@@ -11,7 +11,7 @@ ghost use Rattle.noise_names.specs.Tokens.{is_psk, own_tokens, turn_from};
 ghost use Rattle.noise_names.specs.WrongText.{IsTextFault, arrow_then, dots, first_line, has_dots, heading_of};
 ghost use Rattle.noise_names.specs.Judging.{HasTokens, IsLineBefore, IsNextJudged, AreRightLines, RightLines, Matches};
 
-use super::read::{first_word, is_pre_message, read_arrow, read_heading};
+use super::read::{is_pre_message, read_arrow, read_heading};
 use crate::psks::message_with_psks;
 use crate::{Role, TextFault, TextFaultKind, Token};
 use arrayvec::ArrayVec;
@@ -292,7 +292,7 @@ impl Words {
         };
         let mut left = list;
         loop {
-            let (token, after) = first_word(left)?;
+            let (token, after) = Token::parse_first(left)?;
             words.add(token);
             if after.is_empty() {
                 return Some(words);

@@ -194,7 +194,7 @@ fn read_words(list: &[u8]) -> (ArrayVec<Token, 8>, &[u8])
 {
     let mut tokens = ArrayVec::new();
     let mut left = list;
-    while let Some((token, after)) = first_word(left) {
+    while let Some((token, after)) = Token::parse_first(left) {
         push_own(&mut tokens, token);
         let Some(more) = after.strip_prefix(b", ") else {
             return (tokens, after);
@@ -218,19 +218,6 @@ fn push_own(tokens: &mut ArrayVec<Token, 8>, token: Token)
     }
 }
 
-// The token whose word is at the front, and what follows that.
-pub(super) fn first_word(list: &[u8]) -> Option<(Token, &[u8])>
-    ensures shorter { IfSome result (λ r. length r.1.now ≤ length list.now) }
-    ensures every { (t : Token) (b : ℕ) (more : List ℕ) → is_lower b ≡ false → list.now ≡ word_of t ++ b ∷ more
-        → MatchOption result (Unit {0} → ⊥) (λ r. (r.0 ≡ t) × (r.1.now ≡ b ∷ more)) }
-    ensures last { (t : Token) → list.now ≡ word_of t
-        → MatchOption result (Unit {0} → ⊥) (λ r. (r.0 ≡ t) × (r.1.now ≡ [])) }
-    ensures some { IfSome result (λ r. list.now ≡ word_of r.0 ++ r.1.now) }
-{
-    let (word, after) = list.split_at(word_len(list));
-    Some((Token::named(word)?, after))
-}
-
 // How many lower-case letters are at the front.
 fn word_len(list: &[u8]) -> usize
     ensures { result ≡ length (take_while is_lower list.now) }
@@ -239,6 +226,20 @@ fn word_len(list: &[u8]) -> usize
 }
 
 impl Token {
+    /// The token whose word is at the front of a list, and what follows that. All lower-case letters at the front are
+    /// the word.
+    pub fn parse_first(list: &[u8]) -> Option<(Token, &[u8])>
+        ensures shorter { IfSome result (λ r. length r.1.now ≤ length list.now) }
+        ensures every { (t : Token) (b : ℕ) (more : List ℕ) → is_lower b ≡ false → list.now ≡ word_of t ++ b ∷ more
+            → MatchOption result (Unit {0} → ⊥) (λ r. (r.0 ≡ t) × (r.1.now ≡ b ∷ more)) }
+        ensures last { (t : Token) → list.now ≡ word_of t
+            → MatchOption result (Unit {0} → ⊥) (λ r. (r.0 ≡ t) × (r.1.now ≡ [])) }
+        ensures some { IfSome result (λ r. list.now ≡ word_of r.0 ++ r.1.now) }
+    {
+        let (word, after) = list.split_at(word_len(list));
+        Some((Token::named(word)?, after))
+    }
+
     // The token of this word.
     pub(crate) fn named(word: &[u8]) -> Option<Token>
         ensures { result ≡ token_named word.now }
