@@ -163,8 +163,9 @@ func TestDeadlinesInEachMessage(t *testing.T) {
 	}
 }
 
-// TestWriteDeadline fills a connection until a deadline passes, in the handshake and after it. A Write counts what it has sent; a later one continues there,
-// and what was sealed isn't sealed again. Close sends no end unless a later Write has gone well.
+// TestWriteDeadline fills a connection until a deadline passes, in the handshake and after it. A Write counts what
+// it has sent; a later one continues there, and what was sealed isn't sealed again. Close sends no end unless a
+// later Write has gone well.
 func TestWriteDeadline(t *testing.T) {
 	for _, goesOn := range []bool{false, true} {
 		client, server := configs(t, "NN")
@@ -257,8 +258,8 @@ func TestCloseInACall(t *testing.T) {
 	}
 }
 
-// TestCloseWhileACallRuns closes the connection, and ends a context, while such a function waits for its context: that ends, and nobody waits for the
-// function.
+// TestCloseWhileACallRuns closes the connection, and ends a context, while such a function waits for its context: that
+// ends, and nobody waits for the function.
 func TestCloseWhileACallRuns(t *testing.T) {
 	began, left, goOn := make(chan bool), make(chan error, 1), make(chan bool)
 	for name, both := range asking(t, func(ctx context.Context) error {
@@ -282,7 +283,8 @@ func TestCloseWhileACallRuns(t *testing.T) {
 	}
 }
 
-// TestTimeoutOfACall has such a function fail with a timeout of its own, which ends the handshake as any other error does.
+// TestTimeoutOfACall has such a function fail with a timeout of its own, which ends the handshake
+// as any other error does.
 func TestTimeoutOfACall(t *testing.T) {
 	for name, both := range asking(t, func(context.Context) error { return os.ErrDeadlineExceeded }) {
 		c, s := connected(t, both[0], both[1])
@@ -337,7 +339,8 @@ func TestContextOfAMessage(t *testing.T) {
 	wants(t, err, ErrEnded)
 }
 
-// TestListenerGoesOn serves HTTP while VerifyPeer fails for one client, another is silent, and a third sends what is no handshake.
+// TestListenerGoesOn serves HTTP while VerifyPeer fails for one client, another is silent, and a third
+// sends what is no handshake.
 func TestListenerGoesOn(t *testing.T) {
 	for _, pattern := range []string{"KK", "IK"} {
 		client, server := configs(t, pattern)

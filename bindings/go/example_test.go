@@ -284,7 +284,8 @@ func ExampleHandshakeState_Datagrams() {
 	// true
 }
 
-// Packets of a protocol's own: the header is associated data, and its counter is the nonce. The receiver keeps a window of counters itself.
+// Packets of a protocol's own: the header is associated data, and its counter is the nonce. The receiver keeps a
+// window of counters itself.
 func ExampleCipherState() {
 	config := &noise.Config{Pattern: "NN", InsecureAcceptAnyKey: true}
 	a, err := noise.NewHandshakeState(config, true)

@@ -381,7 +381,8 @@ func TestEnds(t *testing.T) {
 	}
 }
 
-// TestCutInAHandshake ends the connection between the messages of a handshake, within the length of one, and within one.
+// TestCutInAHandshake ends the connection between the messages of a handshake, within the
+// length of one, and within one.
 func TestCutInAHandshake(t *testing.T) {
 	for _, it := range []struct {
 		sent []byte

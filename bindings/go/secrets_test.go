@@ -71,7 +71,8 @@ func secretsOf(one, two DH) (map[PublicKey]PSK, func(context.Context, PublicKey)
 	}
 }
 
-// TestSecretOfEachPeer runs a server that has a secret with each of two clients, with both; with a third; and with one that has another's secret.
+// TestSecretOfEachPeer runs a server that has a secret with each of two clients, with both; with a third; and with one
+// that has another's secret.
 func TestSecretOfEachPeer(t *testing.T) {
 	for _, it := range []struct {
 		pattern string

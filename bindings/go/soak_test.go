@@ -50,7 +50,8 @@ var wanted = [faults][]error{
 
 const soakMessages = 100
 
-// soaked is one channel of the soak: its fault strikes frame `at` of one direction, where the first after the handshake is 0.
+// soaked is one channel of the soak: its fault strikes frame `at` of one direction, where the first
+// after the handshake is 0.
 type soaked struct {
 	seed      int64
 	fault, at int
@@ -58,10 +59,10 @@ type soaked struct {
 	low, high [2]net.Conn // the relay's ends, and the parties': of the client, of the server
 }
 
-// TestSoak runs many channels at once over TCP, with 100 messages each way, through a relay that changes, loses, repeats and exchanges frames, and
-// cuts connections. What is handed out is what was sent, up to the fault; the error is of the fault's kind; in the other direction the first of what was
-// sent comes, and an end only after all of it; and nothing is left.
-// NOISE_SOAK is the count of channels, NOISE_SEED where the dice begin.
+// TestSoak runs many channels at once over TCP, with 100 messages each way, through a relay that changes, loses,
+// repeats and exchanges frames, and cuts connections. What is handed out is what was sent, up to the fault; the error
+// is of the fault's kind; in the other direction the first of what was sent comes, and an end only after all of it; and
+// nothing is left. NOISE_SOAK is the count of channels, NOISE_SEED where the dice begin.
 func TestSoak(t *testing.T) {
 	count, seed := atMost(t, number(t, "NOISE_SOAK", 1000)), int64(number(t, "NOISE_SEED", int(time.Now().UnixNano()&0xffffffff)))
 	t.Logf("NOISE_SEED=%d NOISE_SOAK=%d", seed, count)

@@ -6,8 +6,8 @@ import (
 	"testing"
 )
 
-// TestTryReadMessage tries what strangers send in the place of each message of several patterns: altered, cut, longer, repeated and other messages, and keys
-// of which X25519 is zeros. Then the right one comes.
+// TestTryReadMessage tries what strangers send in the place of each message of several patterns: altered, cut, longer,
+// repeated and other messages, and keys of which X25519 is zeros. Then the right one comes.
 func TestTryReadMessage(t *testing.T) {
 	ctx := context.Background()
 	for _, pattern := range []string{"IK", "IKpsk2", "NNpsk0", "KK", "Kpsk0", "IKpsk1", "XX", "XXpsk3"} {
@@ -65,7 +65,8 @@ func TestTryReadMessage(t *testing.T) {
 	}
 }
 
-// TestTryAfterARefusal has a server whose VerifyPeer refuses one client, and one that panics: the next client is accepted by the same handshake.
+// TestTryAfterARefusal has a server whose VerifyPeer refuses one client, and one that panics: the next client is
+// accepted by the same handshake.
 func TestTryAfterARefusal(t *testing.T) {
 	client, server := configs(t, "IK")
 	other := *client

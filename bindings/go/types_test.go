@@ -55,7 +55,8 @@ func TestPublicKeysPrint(t *testing.T) {
 	}
 }
 
-// TestNonceOfEachPacket encrypts from many goroutines packets whose header has the nonce, and opens them in another order.
+// TestNonceOfEachPacket encrypts from many goroutines packets whose header has the nonce, and
+// opens them in another order.
 func TestNonceOfEachPacket(t *testing.T) {
 	s, r, back := ciphers(t, "NN")
 	const each = 1000
@@ -105,7 +106,8 @@ func TestNonceOfEachPacket(t *testing.T) {
 	wants(t, err, ErrClosed)
 }
 
-// TestPeerHasPayloadAndAddress verifies a certificate, which the payload beside the key is, and answers with a payload of the peer's own.
+// TestPeerHasPayloadAndAddress verifies a certificate, which the payload beside the key is, and answers with a
+// payload of the peer's own.
 func TestPeerHasPayloadAndAddress(t *testing.T) {
 	refused := errors.New("no certificate of this key")
 	for pattern, message := range map[string]int{"XX": 3, "IX": 1, "IK": 1} {
@@ -152,7 +154,8 @@ func TestPeerHasPayloadAndAddress(t *testing.T) {
 	wants(t, client.Check(true), errTwoOf)
 }
 
-// TestPatternFaults has pattern texts with a fault in a line, and one that breaks a rule: se needs the initiator's s, which isn't sent (the framework's 7.3).
+// TestPatternFaults has pattern texts with a fault in a line, and one that breaks a rule: se needs the initiator's s,
+// which isn't sent (the framework's 7.3).
 func TestPatternFaults(t *testing.T) {
 	for text, want := range map[string]PatternError{
 		"MINE:\n  -> e\n  <- e, eee\n":            {Line: 3},

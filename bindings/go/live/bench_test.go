@@ -77,7 +77,8 @@ func connectFlynn(b testing.TB, client, server flynn.DHKey) (sealing, opening *f
 	return sealing, opening
 }
 
-// BenchmarkMessage seals a message and opens it: by this package, by a loop in C over the same library, and by flynn/noise.
+// BenchmarkMessage seals a message and opens it: by this package, by a loop in C over the same
+// library, and by flynn/noise.
 func BenchmarkMessage(b *testing.B) {
 	for _, size := range []int{64, 1024, 16384} {
 		payload, room := make([]byte, size), make([]byte, 0, size+noise.TagLen)

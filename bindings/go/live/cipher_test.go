@@ -10,8 +10,8 @@ import (
 	flynn "github.com/flynn/noise"
 )
 
-// TestFlynnCipherStates passes a handshake IX with flynn's, and then packets each way with associated data: in order, after a rekey, and with the
-// nonces named (which flynn's does by its Cipher).
+// TestFlynnCipherStates passes a handshake IX with flynn's, and then packets each way with associated data: in order,
+// after a rekey, and with the nonces named (which flynn's does by its Cipher).
 func TestFlynnCipherStates(t *testing.T) {
 	for _, initiator := range []bool{true, false} {
 		send, receive, encrypts, decrypts := ciphersWithFlynn(t, initiator)

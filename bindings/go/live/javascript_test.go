@@ -10,7 +10,8 @@ import (
 	"example.org/yulimosar/noise"
 )
 
-// TestJavaScript runs the package against checks/web/echo.mjs, which has the JavaScript module. NOISE_JS_ECHO has the path of a program that runs it.
+// TestJavaScript runs the package against checks/web/echo.mjs, which has the JavaScript module. NOISE_JS_ECHO has the
+// path of a program that runs it.
 func TestJavaScript(t *testing.T) {
 	program := os.Getenv("NOISE_JS_ECHO")
 	if program == "" {

@@ -81,8 +81,8 @@ func hexOfPSK(client int) string {
 	return hex.EncodeToString(psk[:])
 }
 
-// pskOfEachPeer passes the patterns in which a server may choose the psk by the client's key, with the server in either language, and two clients
-// that have a psk each.
+// pskOfEachPeer passes the patterns in which a server may choose the psk by the client's key, with the server in either
+// language, and two clients that have a psk each.
 func pskOfEachPeer(t *testing.T, program string) {
 	keys := newKeys(t, 3)
 	server, public := keys[2], keys[2].Public()

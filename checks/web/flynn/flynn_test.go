@@ -1,5 +1,5 @@
-// Package flynn runs the JavaScript module against github.com/flynn/noise over TCP on 127.0.0.1. NOISE_JS_ECHO has the path of a program that runs
-// checks/web/echo.mjs.
+// Package flynn runs the JavaScript module against github.com/flynn/noise over TCP on 127.0.0.1. NOISE_JS_ECHO has the
+// path of a program that runs checks/web/echo.mjs.
 package flynn
 
 import (

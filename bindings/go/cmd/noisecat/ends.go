@@ -50,7 +50,8 @@ func forwarded(address string, timeout time.Duration) (*local, error) {
 	}}, nil
 }
 
-// executed joins to the standard input and output of a new process, which after a fault is killed. A status other than 0 is a fault.
+// executed joins to the standard input and output of a new process, which after a fault is killed. A status
+// other than 0 is a fault.
 func executed(command string) (*local, error) {
 	cmd := exec.Command("/bin/sh", "-c", command)
 	cmd.Stderr = os.Stderr
@@ -90,7 +91,8 @@ func (u *untilEnd) Read(b []byte) (int, error) {
 	return n, err
 }
 
-// setInput sets what is read for a connection: with -keep all that is left of a file, for each anew, or nothing of a terminal.
+// setInput sets what is read for a connection: with -keep all that is left of a file, for each anew,
+// or nothing of a terminal.
 func (o *options) setInput(in *os.File) error {
 	if o.forward != "" || o.exec != "" {
 		return nil

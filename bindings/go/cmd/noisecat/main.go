@@ -1,19 +1,23 @@
-// Noisecat joins standard input and output to a secure channel by the Noise Protocol Framework, as nc does to a plain one.
+// Noisecat joins standard input and output to a secure channel by the Noise Protocol Framework,
+// as nc does to a plain one.
 //
 //	noisecat keygen -o server.key             makes a file with a new key, and prints the public key
 //	noisecat pubkey < server.key              prints the public key
 //	noisecat -listen :9000 -key server.key -allow KEY,..
 //	noisecat -connect host:9000 -key client.key -peer KEY
 //
-// A listener accepts the first connection whose handshake succeeds, and tells the failures on standard error; with -keep it accepts one
-// after another, and sends each the file that standard input is. Of a terminal, or /dev/null, it sends nothing then, and a pipe, of which
-// only one could get what comes, is refused. With port 0 it listens at a free port, and prints the address on standard error.
+// A listener accepts the first connection whose handshake succeeds, and tells the failures on standard error; with
+// -keep it accepts one after another, and sends each the file that standard input is. Of a terminal, or /dev/null, it
+// sends nothing then, and a pipe, of which only one could get what comes, is refused. With port 0 it listens at a free
+// port, and prints the address on standard error.
 //
-// -forward HOST:PORT joins each channel to a TCP connection of its own, and -exec COMMAND to a process of its own; with -keep all of them at once.
+// -forward HOST:PORT joins each channel to a TCP connection of its own, and -exec COMMAND to a process of its own; with
+// -keep all of them at once.
 //
-// The status is 0 if both parties have sent all and, where both are noisecat, each has said over the channel that it has written out all; 1 after a fault, and
-// 2 if the words of the command are wrong, each with a sentence on standard error. Where the other party is another program, the status 0 says that its
-// stream has ended. After a fault of one party, as a full disk at its output, the connection is reset, and the other party's status is 1 too.
+// The status is 0 if both parties have sent all and, where both are noisecat, each has said over the channel that it
+// has written out all; 1 after a fault, and 2 if the words of the command are wrong, each with a sentence on standard
+// error. Where the other party is another program, the status 0 says that its stream has ended. After a fault of one
+// party, as a full disk at its output, the connection is reset, and the other party's status is 1 too.
 package main
 
 import (

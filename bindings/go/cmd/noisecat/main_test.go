@@ -58,7 +58,8 @@ func keyFile(t *testing.T, name string, cat func(...string) *exec.Cmd) string {
 	return strings.TrimSpace(string(public))
 }
 
-// side is one process: its standard input, where its output goes, what it has written to standard error, and its status.
+// side is one process: its standard input, where its output goes, what it has written to
+// standard error, and its status.
 type side struct {
 	in     io.Reader
 	out    io.Writer
@@ -142,7 +143,8 @@ func run2(t *testing.T, server *exec.Cmd, connect func(address string) *exec.Cmd
 	l.wait()
 }
 
-// pair returns the command, the public keys of the files s and c in its folder, and a client that expects this key of the server.
+// pair returns the command, the public keys of the files s and c in its folder, and a client that
+// expects this key of the server.
 func pair(t *testing.T) (cat func(...string) *exec.Cmd, server, client string, to func(peer string) func(string) *exec.Cmd) {
 	t.Helper()
 	_, cat = built(t)
@@ -214,7 +216,8 @@ func TestVerbose(t *testing.T) {
 	}
 }
 
-// TestListenerGoesOn has clients that are refused, refuse, differ, are silent and send what is no handshake, and then one that is accepted.
+// TestListenerGoesOn has clients that are refused, refuse, differ, are silent and send what is no handshake, and
+// then one that is accepted.
 func TestListenerGoesOn(t *testing.T) {
 	cat, server, own, to := pair(t)
 	other := keyFile(t, "other", cat)
@@ -296,7 +299,8 @@ func fileFrom(t *testing.T, text string, first int) *os.File {
 	return file
 }
 
-// TestKeep has one client after another, of which one is cut off: each other gets the file from where it was, and of no file nothing.
+// TestKeep has one client after another, of which one is cut off: each other gets the file from where it
+// was, and of no file nothing.
 func TestKeep(t *testing.T) {
 	t.Run("file", func(t *testing.T) { testKeep(t, fileFrom(t, "head\nto each\n", 5), "to each\n") })
 	t.Run("none", func(t *testing.T) { testKeep(t, nil, "") })
@@ -539,7 +543,8 @@ func TestKeyThatOthersCanRead(t *testing.T) {
 	}
 }
 
-// TestFaults changes and cuts what a client sends to a server, which has sent the end of its own stream or not, and looks at both statuses.
+// TestFaults changes and cuts what a client sends to a server, which has sent the end of its own stream or not,
+// and looks at both statuses.
 func TestFaults(t *testing.T) {
 	cat, server, client, to := pair(t)
 	for _, it := range []struct {
@@ -642,7 +647,8 @@ func passFrames(to io.Writer, from io.Reader, count int) {
 	}
 }
 
-// pass accepts one connection, and carries what it reads to the server, changed, and back what the server writes. A reset goes through.
+// pass accepts one connection, and carries what it reads to the server, changed, and back what the server
+// writes. A reset goes through.
 func pass(middle net.Listener, at string, change func(io.Writer, io.Reader)) {
 	from, err := middle.Accept()
 	if err != nil {

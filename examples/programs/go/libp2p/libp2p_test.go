@@ -24,7 +24,8 @@ func must(t *testing.T, errs ...error) {
 	}
 }
 
-// other is the other party: the steps of libp2p's specification over flynn/noise, with the bytes of its payload written out.
+// other is the other party: the steps of libp2p's specification over flynn/noise, with the bytes of
+// its payload written out.
 type other struct {
 	conn          net.Conn
 	identity      ed25519.PrivateKey
@@ -90,7 +91,8 @@ func (o *other) shake(initiator bool) error {
 	return err
 }
 
-// TestWithFlynn has both roles: each party finds the other's identity, and texts pass both ways, also longer ones than a message.
+// TestWithFlynn has both roles: each party finds the other's identity, and texts pass both ways, also
+// longer ones than a message.
 func TestWithFlynn(t *testing.T) {
 	for _, initiator := range []bool{true, false} {
 		_, mine, err := ed25519.GenerateKey(rand.Reader)

@@ -116,7 +116,8 @@ func parseCertificate(b []byte) (*certificate, error) {
 	return c, nil
 }
 
-// withKey returns the encoded details with this public key, or without one: in a handshake a certificate travels without it, as the message has it.
+// withKey returns the encoded details with this public key, or without one: in a handshake a certificate travels
+// without it, as the message has it.
 func (c *certificate) withKey(key []byte) (b []byte) {
 	isDue := key != nil
 	for _, f := range c.details {

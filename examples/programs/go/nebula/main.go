@@ -1,4 +1,5 @@
-// Nebula is a client of a Nebula node: it shakes hands, verifies the node's certificate, and exchanges a test request and its reply.
+// Nebula is a client of a Nebula node: it shakes hands, verifies the node's certificate, and exchanges a
+// test request and its reply.
 //
 //	nebula -ca ca.crt -cert me.crt -key me.key 127.0.0.1:4242
 package main

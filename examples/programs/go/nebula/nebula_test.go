@@ -222,8 +222,8 @@ func TestForgedAnswers(t *testing.T) {
 	must(t, tunnel.ping(conn, soon()))
 }
 
-// answer returns the next packet of type test that comes, if one comes soon. At a counter that it has seen the node also sends an error packet, which isn't
-// authenticated.
+// answer returns the next packet of type test that comes, if one comes soon. At a counter that it has seen the node
+// also sends an error packet, which isn't authenticated.
 func answer(t *testing.T, conn net.Conn) []byte {
 	t.Helper()
 	room := make([]byte, 9001)

@@ -12,7 +12,8 @@ import (
 	"time"
 )
 
-// A node with a tun, in a network namespace of its own, which reaches this process by a pair of veth: this process is 192.168.100.2 to it.
+// A node with a tun, in a network namespace of its own, which reaches this process by a pair of veth: this
+// process is 192.168.100.2 to it.
 const networkConfig = `
 pki: {ca: %[1]s/ca.crt, cert: %[1]s/node.crt, key: %[1]s/node.key}
 static_host_map: {"192.168.100.2": ["%[2]s"]}
@@ -70,7 +71,8 @@ func joined(t *testing.T) error {
 	return nil
 }
 
-// network starts a node in the namespace. It returns the folder of the certificates, and this process's socket, which the node knows.
+// network starts a node in the namespace. It returns the folder of the certificates, and this process's
+// socket, which the node knows.
 func network(t *testing.T) (room string, own *net.UDPConn, said *nodeLog) {
 	t.Helper()
 	if _, err := exec.LookPath("nebula"); err != nil {
@@ -110,7 +112,8 @@ func checksum(b []byte) uint16 {
 	return ^uint16(sum)
 }
 
-// message waits for a packet with data, of this protocol of IPv4, from the node to this process, and returns what IPv4 carries.
+// message waits for a packet with data, of this protocol of IPv4, from the node to this process, and
+// returns what IPv4 carries.
 func message(t *testing.T, conn net.Conn, tunnel *tunnel, protocol byte) []byte {
 	t.Helper()
 	room := make([]byte, 9001)
@@ -157,8 +160,8 @@ func TestData(t *testing.T) {
 	must(t, tunnel.ping(conn, soon()))
 }
 
-// TestResponder has a node as the initiator: a program in the namespace sends a datagram to this process's address in Nebula's network, and waits for its
-// answer. A first message that was altered, or is by a stranger, changes nothing.
+// TestResponder has a node as the initiator: a program in the namespace sends a datagram to this process's address in
+// Nebula's network, and waits for its answer. A first message that was altered, or is by a stranger, changes nothing.
 func TestResponder(t *testing.T) {
 	room, own, said := network(t)
 	program := exec.Command("ip", "netns", "exec", namespace, "bash", "-c",

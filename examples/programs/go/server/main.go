@@ -1,4 +1,5 @@
-// The responder: it takes connections on 127.0.0.1, port 4042, says which client it is, and sends its text back. It keeps its key in the file server.key.
+// The responder: it takes connections on 127.0.0.1, port 4042, says which client it is, and sends its text back. It
+// keeps its key in the file server.key.
 package main
 
 import (

@@ -1,4 +1,5 @@
-// Udp is an echo over a tunnel of datagrams by IK, whose handshake survives junk, loss, repetition and another order: a server, and a client that sends lines.
+// Udp is an echo over a tunnel of datagrams by IK, whose handshake survives junk, loss, repetition and another order: a
+// server, and a client that sends lines.
 package main
 
 import (

@@ -20,7 +20,8 @@ func pair(t *testing.T) *noise.KeyPair {
 	return key
 }
 
-// bad is a connection over which each packet may be lost, repeated, altered or late, and junk and old packets come between.
+// bad is a connection over which each packet may be lost, repeated, altered or late, and junk and
+// old packets come between.
 type bad struct {
 	net.PacketConn
 	mutex sync.Mutex
@@ -72,7 +73,8 @@ func listen(t *testing.T, seed int64) *bad {
 	return &bad{PacketConn: conn, dice: rand.New(rand.NewSource(seed))}
 }
 
-// TestBadNetwork has clients over such connections, each of which asks until all has come back; one that isn't accepted; and one that connects again.
+// TestBadNetwork has clients over such connections, each of which asks until all has come back; one that isn't
+// accepted; and one that connects again.
 func TestBadNetwork(t *testing.T) {
 	key, clients := pair(t), []*noise.KeyPair{pair(t), pair(t), pair(t)}
 	accepted := map[noise.PublicKey]bool{}
@@ -111,7 +113,8 @@ func TestBadNetwork(t *testing.T) {
 	}
 }
 
-// ask sends texts until each has come back. Where nothing comes back any more, the server has another session of this key: ask dials again.
+// ask sends texts until each has come back. Where nothing comes back any more, the server has another session of
+// this key: ask dials again.
 func ask(conn net.Conn, key noise.DH, server noise.PublicKey) error {
 	left, until := map[string]bool{}, time.Now().Add(30*time.Second)
 	for i := 0; i < 20; i++ {

@@ -1,5 +1,5 @@
-// One end over TCP, as examples/live/main.rs says: main noise|flynn PATTERN OWN_SECRET PEER_KEY PSK ADDRESS ORDER SIZE, by the package for Go or by
-// flynn/noise.
+// One end over TCP, as examples/live/main.rs says: main noise|flynn PATTERN OWN_SECRET PEER_KEY PSK ADDRESS ORDER SIZE,
+// by the package for Go or by flynn/noise.
 package main
 
 import (
