@@ -39,7 +39,10 @@ func silent(t *testing.T) string {
 
 func TestDialerLimitsTheHandshake(t *testing.T) {
 	client, _ := configs(t, "XX")
-	for _, inner := range []*net.Dialer{{Timeout: 50 * time.Millisecond}, {Deadline: time.Now().Add(50 * time.Millisecond)}} {
+	for _, inner := range []*net.Dialer{
+		{Timeout: 50 * time.Millisecond},
+		{Deadline: time.Now().Add(50 * time.Millisecond)},
+	} {
 		err := soon(t, "Dial", func() error {
 			_, err := (&Dialer{NetDialer: inner, Config: client}).Dial("tcp", silent(t))
 			return err
@@ -201,7 +204,8 @@ func TestWriteDeadline(t *testing.T) {
 		})
 		got, err := readAll(s)
 		must(t, <-failed)
-		if goesOn && (err != io.EOF || !bytes.Equal(got, sent)) || !goesOn && (!errors.Is(err, ErrCut) || len(got) > 0) {
+		if goesOn && (err != io.EOF || !bytes.Equal(got, sent)) ||
+			!goesOn && (!errors.Is(err, ErrCut) || len(got) > 0) {
 			t.Errorf("%v: %d bytes, %v", goesOn, len(got), err)
 		}
 	}
@@ -210,12 +214,16 @@ func TestWriteDeadline(t *testing.T) {
 // asking are Configs whose server calls a function in its handshake.
 func asking(t *testing.T, call func(ctx context.Context) error) map[string][2]*Config {
 	all := map[string][2]*Config{}
-	for name, pattern := range map[string]string{"VerifyPeer": "XX", "a key known before": "KK", "PSKFor": "XXpsk3", "DH": "IK"} {
+	for name, pattern := range map[string]string{
+		"VerifyPeer": "XX", "a key known before": "KK", "PSKFor": "XXpsk3", "DH": "IK",
+	} {
 		client, server := configs(t, pattern)
 		switch name {
 		case "PSKFor":
 			psks := server.PSKs
-			server.PSKs, server.PSKFor = nil, func(ctx context.Context, _ PublicKey) ([]PSK, error) { return psks, call(ctx) }
+			server.PSKs, server.PSKFor = nil, func(ctx context.Context, _ PublicKey) ([]PSK, error) {
+				return psks, call(ctx)
+			}
 		case "DH":
 			server.Static = &calling{server.Static, call}
 		default:
@@ -357,7 +365,9 @@ func TestListenerGoesOn(t *testing.T) {
 		l, err := Listen("tcp", "127.0.0.1:0", server)
 		must(t, err)
 		served := goes(func() error {
-			return http.Serve(l, http.HandlerFunc(func(w http.ResponseWriter, _ *http.Request) { io.WriteString(w, "hello") }))
+			return http.Serve(l, http.HandlerFunc(func(w http.ResponseWriter, _ *http.Request) {
+				io.WriteString(w, "hello")
+			}))
 		})
 		stranger, err := net.Dial("tcp", l.Addr().String())
 		must(t, err)
@@ -373,7 +383,10 @@ func TestListenerGoesOn(t *testing.T) {
 		wants(t, soon(t, "Handshake", c.Handshake), ErrCut)
 		expect(t, said, refused, away.Error())
 		fails = false
-		web := http.Client{Transport: &http.Transport{DialContext: (&Dialer{Config: client}).DialContext, DisableKeepAlives: true}}
+		web := http.Client{Transport: &http.Transport{
+			DialContext:       (&Dialer{Config: client}).DialContext,
+			DisableKeepAlives: true,
+		}}
 		answer, err := web.Get("http://" + l.Addr().String())
 		must(t, err)
 		text, err := io.ReadAll(answer.Body)
@@ -396,7 +409,8 @@ func expect(t *testing.T, said chan string, from net.Conn, why string) {
 	t.Helper()
 	select {
 	case line := <-said:
-		if !strings.HasPrefix(line, fmt.Sprintf("noise: handshake with %v: ", from.LocalAddr())) || !strings.Contains(line, why) {
+		if !strings.HasPrefix(line, fmt.Sprintf("noise: handshake with %v: ", from.LocalAddr())) ||
+			!strings.Contains(line, why) {
 			t.Errorf("%q, want %q", line, why)
 		}
 	case <-time.After(20 * time.Second):

@@ -63,7 +63,12 @@ func (c *CipherState) encrypt(dst, ad, plaintext []byte) ([]byte, error) {
 	m := &c.memory
 	reads(ad)
 	writes(room)
-	code := library.CipherEncrypt(&m.opaque, place(ad), uint(len(ad)), place(room), uint(len(room)), uint(len(plaintext)), &m.result)
+	code := library.CipherEncrypt(
+		&m.opaque,
+		place(ad), uint(len(ad)),
+		place(room), uint(len(room)), uint(len(plaintext)),
+		&m.result,
+	)
 	if code != 0 {
 		return dst, Code(code)
 	}

@@ -70,7 +70,8 @@ type ConnectionState struct {
 	Initiator         bool         // this party wrote the first message
 	HandshakeHash     [KeyLen]byte // the same at both parties: to bind other data to the channel (the framework's 11.2)
 	PeerStatic        *PublicKey   // the other party's static key; nil if the handshake has none
-	Payloads          [][]byte     // those of the messages that this party has read, Payloads[0] that of message 1; nil at its own
+	// Payloads are those of the messages that this party has read, Payloads[0] that of message 1; nil at its own.
+	Payloads [][]byte
 }
 
 // Client returns the initiator's side of a channel over conn, and writes nothing yet. A *ConfigError says what
@@ -292,7 +293,12 @@ var errEnded = errors.New("noise: a Write after CloseWrite")
 func (c *Conn) seal(payload []byte) (int, error) {
 	room, result := roomFor(len(payload)+streamOverhead), &c.sender.result
 	reads(payload)
-	code := library.StreamWrite(&c.sender.opaque, place(payload), uint(len(payload)), place(room.bytes), uint(len(room.bytes)), result)
+	code := library.StreamWrite(
+		&c.sender.opaque,
+		place(payload), uint(len(payload)),
+		place(room.bytes), uint(len(room.bytes)),
+		result,
+	)
 	if code != 0 {
 		room.free(0)
 		if code == codeClosed {

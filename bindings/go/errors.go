@@ -85,7 +85,8 @@ var (
 	// the end would say that all was written.
 	ErrUnfinished = errors.New("noise: the last Write has failed, and no other one has succeeded since")
 	// ErrUnauthenticated is returned if nothing says who may be the other party.
-	ErrUnauthenticated = errors.New("noise: nothing says who may be the other party: set VerifyPeer, PeerStatic, PSKs or PSKFor, or InsecureAcceptAnyKey")
+	ErrUnauthenticated = errors.New("noise: nothing says who may be the other party: " +
+		"set VerifyPeer, PeerStatic, PSKs or PSKFor, or InsecureAcceptAnyKey")
 	// ErrPeerKey is returned if the other party's static key isn't Config.PeerStatic.
 	ErrPeerKey = errors.New("noise: the other party has another static key than the one expected")
 	// ErrDirection is returned if a CipherState for receiving has to encrypt, or one for sending to decrypt.
@@ -184,7 +185,9 @@ func (e *HandshakeError) Unwrap() error { return withoutEOF(e.Err) }
 
 // WantedPSKError says that the message that is due needs a psk, which SetPSK passes. The handshake is as it was.
 type WantedPSKError struct {
-	PeerStatic *PublicKey // the other party's static key, of which it hasn't shown yet that it has the secret key; nil if it isn't known
+	// PeerStatic is the other party's static key, of which it hasn't shown yet that it has the secret key; nil if it
+	// isn't known.
+	PeerStatic *PublicKey
 }
 
 // Error returns what is needed.

@@ -93,8 +93,9 @@ func ExampleConn_Abort() {
 	go func() {
 		conn, err := noise.Server(there, config)
 		must(err)
-		defer conn.Close()                                                                        // after Abort it does nothing
-		source := io.MultiReader(strings.NewReader("a part"), iotest.ErrReader(io.ErrNoProgress)) // as a disk that fails
+		defer conn.Close() // after Abort it does nothing
+		// As a disk that fails.
+		source := io.MultiReader(strings.NewReader("a part"), iotest.ErrReader(io.ErrNoProgress))
 		if _, err := io.Copy(conn, source); err != nil {
 			conn.Abort()
 		}
@@ -156,7 +157,11 @@ func ExampleConfig_pSKFor() {
 		io.WriteString(conn, "hello")
 		conn.Close()
 	}()
-	conn, err := noise.Client(here, &noise.Config{Pattern: "XXpsk3", Static: clientKey, PSKs: []noise.PSK{psks[clientPublic]}})
+	conn, err := noise.Client(here, &noise.Config{
+		Pattern: "XXpsk3",
+		Static:  clientKey,
+		PSKs:    []noise.PSK{psks[clientPublic]},
+	})
 	must(err)
 	text, err := io.ReadAll(conn)
 	fmt.Println(string(text), err)

@@ -59,7 +59,8 @@ func ofConn(config *Config, initiator bool, below net.Conn) (*HandshakeState, er
 	if err != nil {
 		return nil, err
 	}
-	return started(config, &HandshakeState{initiator: initiator, ephemeral: ephemeral, below: below, isOfConn: true}, false)
+	h := &HandshakeState{initiator: initiator, ephemeral: ephemeral, below: below, isOfConn: true}
+	return started(config, h, false)
 }
 
 // deep makes a call of the library that needs much stack.
@@ -115,7 +116,12 @@ func (h *HandshakeState) start() Code {
 	pattern, prologue := []byte(h.config.pattern()), h.config.Prologue
 	var code Code
 	h.deep(func() {
-		code = Code(library.Start(&h.memory.opaque, place(pattern), uint(len(pattern)), place(prologue), uint(len(prologue)), setup))
+		code = Code(library.Start(
+			&h.memory.opaque,
+			place(pattern), uint(len(pattern)),
+			place(prologue), uint(len(prologue)),
+			setup,
+		))
 		h.look()
 	})
 	return code

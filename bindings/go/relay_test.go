@@ -16,7 +16,10 @@ import (
 // What a relay does at one byte of one direction.
 var relayFaults = []string{"flip", "cut", "repeat", "drop"}
 
-var relayTexts = [2][]string{{"a first text", "b", "the last of the client"}, {"1", "what the server has to say", "and good bye"}}
+var relayTexts = [2][]string{
+	{"a first text", "b", "the last of the client"},
+	{"1", "what the server has to say", "and good bye"},
+}
 
 // relayed is one session through a relay. `direction` is 0 for what the client sends.
 type relayed struct {

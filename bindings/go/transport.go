@@ -43,7 +43,12 @@ func (s *Sender) seal(dst, payload []byte) ([]byte, error) {
 	payload = apart(room, payload, &s.spare)
 	reads(payload)
 	writes(room)
-	code := library.Seal(&s.memory.opaque, place(payload), uint(len(payload)), place(room), uint(len(room)), &s.memory.result)
+	code := library.Seal(
+		&s.memory.opaque,
+		place(payload), uint(len(payload)),
+		place(room), uint(len(room)),
+		&s.memory.result,
+	)
 	if code != 0 {
 		return dst, Code(code)
 	}

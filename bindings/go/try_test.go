@@ -21,8 +21,14 @@ func TestTryReadMessage(t *testing.T) {
 			message, err := w.WriteMessage(nil, []byte("payload"))
 			must(t, err)
 			hash := r.HandshakeHash()
-			isPlain := len(before) == 0 && pattern[:2] == "XX" // nothing of this message is encrypted: an altered one can't be told
-			junk := append([][]byte{nil, make([]byte, len(message)), append(append([]byte(nil), message...), 0), make([]byte, MaxMessage+1)}, before...)
+			// Nothing of this message is encrypted: an altered one can't be told.
+			isPlain := len(before) == 0 && pattern[:2] == "XX"
+			junk := append([][]byte{
+				nil,
+				make([]byte, len(message)),
+				append(append([]byte(nil), message...), 0),
+				make([]byte, MaxMessage+1),
+			}, before...)
 			if isPlain {
 				junk = [][]byte{nil, message[:31], make([]byte, MaxMessage+1)}
 			}

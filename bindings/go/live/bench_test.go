@@ -36,7 +36,8 @@ func ours(b testing.TB, pattern string) (client, server *noise.Config) {
 	must(b, err)
 	two, err := noise.GenerateKeyPair()
 	must(b, err)
-	return &noise.Config{Pattern: pattern, Static: one, InsecureAcceptAnyKey: true}, &noise.Config{Pattern: pattern, Static: two, InsecureAcceptAnyKey: true}
+	return &noise.Config{Pattern: pattern, Static: one, InsecureAcceptAnyKey: true},
+		&noise.Config{Pattern: pattern, Static: two, InsecureAcceptAnyKey: true}
 }
 
 func connectOurs(b testing.TB, client, server *noise.Config) (*noise.Sender, *noise.Receiver) {

@@ -24,7 +24,9 @@ func TestRatios(t *testing.T) {
 	must(t, err)
 	two, err := suite.GenerateKeypair(rand.Reader)
 	must(t, err)
-	ratio(t, "a handshake XX, over flynn/noise", pairs, func() { connectOurs(t, client, server) }, func() { connectFlynn(t, one, two) })
+	ratio(t, "a handshake XX, over flynn/noise", pairs,
+		func() { connectOurs(t, client, server) },
+		func() { connectFlynn(t, one, two) })
 	client, server = ours(t, "NN")
 	sender, receiver := connectOurs(t, client, server)
 	sealing, opening := connectFlynn(t, one, two)

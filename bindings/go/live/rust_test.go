@@ -44,7 +44,8 @@ func withRust(t *testing.T, program, name string, psk, initiator, oneWay bool) {
 	must(t, err)
 	config := &noise.Config{Pattern: name, Prologue: []byte("live"), Static: own, InsecureAcceptAnyKey: true}
 	letters, _, _ := strings.Cut(name, "psk")
-	if at := strings.LastIndex(letters, "K"); initiator && (oneWay || at == len(letters)-1) || !initiator && letters[0] == 'K' {
+	if at := strings.LastIndex(letters, "K"); initiator && (oneWay || at == len(letters)-1) ||
+		!initiator && letters[0] == 'K' {
 		key := other.Public()
 		config.PeerStatic = &key
 	}
@@ -89,14 +90,23 @@ func pskOfEachPeer(t *testing.T, program string) {
 	table := fmt.Sprintf("%x=%s,%x=%s", keys[0].Public(), hexOfPSK(0), keys[1].Public(), hexOfPSK(1))
 	for _, name := range choosing {
 		for i, client := range keys[:2] {
-			config := &noise.Config{Pattern: name, Prologue: []byte("live"), Static: client, PSKs: []noise.PSK{pskOfClient(i)}}
+			config := &noise.Config{
+				Pattern:  name,
+				Prologue: []byte("live"),
+				Static:   client,
+				PSKs:     []noise.PSK{pskOfClient(i)},
+			}
 			if strings.HasPrefix(name, "IK") {
 				config.PeerStatic = &public
 			}
 			words := []string{name, hexOf(server), fmt.Sprintf("%x", client.Public()), table, "@127.0.0.1:0"}
-			t.Run(fmt.Sprintf("%s/%d/true", name, i), func(t *testing.T) { toRust(t, exec.Command(program, words...), config, false) })
+			t.Run(fmt.Sprintf("%s/%d/true", name, i), func(t *testing.T) {
+				toRust(t, exec.Command(program, words...), config, false)
+			})
 			words = []string{name, hexOf(client), fmt.Sprintf("%x", public), hexOfPSK(i)}
-			t.Run(fmt.Sprintf("%s/%d/false", name, i), func(t *testing.T) { fromRust(t, program, words, chooser(server, name, keys[:2]), false) })
+			t.Run(fmt.Sprintf("%s/%d/false", name, i), func(t *testing.T) {
+				fromRust(t, program, words, chooser(server, name, keys[:2]), false)
+			})
 		}
 	}
 }

@@ -106,7 +106,8 @@ func (o *options) setInput(in *os.File) error {
 		o.input = func() io.Reader { return strings.NewReader("") }
 		return nil
 	case !info.Mode().IsRegular():
-		return wrong{errors.New("-keep: standard input can be sent to one connection alone: redirect it from a file, or from /dev/null")}
+		return wrong{errors.New("-keep: standard input can be sent to one connection alone: " +
+			"redirect it from a file, or from /dev/null")}
 	}
 	start, err := in.Seek(0, io.SeekCurrent)
 	o.input = func() io.Reader { return io.NewSectionReader(in, start, math.MaxInt64-start) }

@@ -160,7 +160,10 @@ func TestSilentClient(t *testing.T) {
 
 // TestFaultsOfTargets has targets that aren't there, and a command that fails.
 func TestFaultsOfTargets(t *testing.T) {
-	for _, it := range [][3]string{{"-forward", "127.0.0.1:1", "connection refused"}, {"-exec", "cat; exit 3", "-exec: exit status 3"}} {
+	for _, it := range [][3]string{
+		{"-forward", "127.0.0.1:1", "connection refused"},
+		{"-exec", "cat; exit 3", "-exec: exit status 3"},
+	} {
 		cat, server, own, to := pair(t)
 		var ends [2]side
 		ends[1].in = strings.NewReader("hello")

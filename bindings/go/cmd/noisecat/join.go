@@ -138,7 +138,8 @@ func (o *options) watch(below *counted, idle func()) (stop func()) {
 
 // plainSend sends the input, and ends the stream.
 func plainSend(c *noise.Conn, from io.Reader) error {
-	_, err := io.CopyBuffer(struct{ io.Writer }{c}, struct{ io.Reader }{from}, make([]byte, noise.MaxMessage-noise.TagLen))
+	room := make([]byte, noise.MaxMessage-noise.TagLen)
+	_, err := io.CopyBuffer(struct{ io.Writer }{c}, struct{ io.Reader }{from}, room)
 	if err == nil {
 		err = c.CloseWrite()
 	}
