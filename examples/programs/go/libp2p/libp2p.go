@@ -97,18 +97,28 @@ type Channel struct {
 }
 
 // Secure runs the handshake over conn. It calls verify, which decides on the other party, with that party's identity.
-func Secure(ctx context.Context, conn net.Conn, identity ed25519.PrivateKey, initiator bool, verify func(ed25519.PublicKey) error) (*Channel, error) {
+func Secure(
+	ctx context.Context,
+	conn net.Conn,
+	identity ed25519.PrivateKey,
+	initiator bool,
+	verify func(ed25519.PublicKey) error,
+) (*Channel, error) {
 	static, err := noise.GenerateKeyPair()
 	if err != nil {
 		return nil, err
 	}
 	c := &Channel{conn: conn}
-	h, err := noise.NewHandshakeState(&noise.Config{Pattern: "XX", Static: static, VerifyPeer: func(_ context.Context, peer noise.Peer) (err error) {
-		if c.Remote, err = identityOf(peer.Payload, peer.Static); err != nil {
-			return err
-		}
-		return verify(c.Remote)
-	}}, initiator)
+	h, err := noise.NewHandshakeState(&noise.Config{
+		Pattern: "XX",
+		Static:  static,
+		VerifyPeer: func(_ context.Context, peer noise.Peer) (err error) {
+			if c.Remote, err = identityOf(peer.Payload, peer.Static); err != nil {
+				return err
+			}
+			return verify(c.Remote)
+		},
+	}, initiator)
 	if err != nil {
 		return nil, err
 	}

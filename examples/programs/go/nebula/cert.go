@@ -151,7 +151,8 @@ func (c *certificate) verify(authority *certificate, key noise.PublicKey, now ti
 		return errors.New("the certificate is for another key")
 	case !bytes.Equal(c.issuer, fingerprint[:]):
 		return errors.New("the certificate is by another authority")
-	case now.Before(c.notBefore) || now.After(c.notAfter) || now.Before(authority.notBefore) || now.After(authority.notAfter):
+	case now.Before(c.notBefore) || now.After(c.notAfter) ||
+		now.Before(authority.notBefore) || now.After(authority.notAfter):
 		return errors.New("the certificate has expired, or isn't valid yet")
 	case !ed25519.Verify(authority.key, c.withKey(key[:]), c.signature):
 		return errors.New("the certificate's signature is wrong")

@@ -13,7 +13,8 @@ import (
 )
 
 func main() {
-	ca, cert := flag.String("ca", "ca.crt", "the authority's certificate"), flag.String("cert", "me.crt", "this party's certificate")
+	ca := flag.String("ca", "ca.crt", "the authority's certificate")
+	cert := flag.String("cert", "me.crt", "this party's certificate")
 	key := flag.String("key", "me.key", "this party's key")
 	flag.Parse()
 	if flag.NArg() != 1 {

@@ -126,7 +126,8 @@ func message(t *testing.T, conn net.Conn, tunnel *tunnel, protocol byte) []byte 
 		}
 		text, err := tunnel.open(room[:n])
 		must(t, err)
-		if len(text) > 20 && text[9] == protocol && bytes.Equal(text[12:20], []byte{192, 168, 100, 1, 192, 168, 100, 2}) {
+		addresses := []byte{192, 168, 100, 1, 192, 168, 100, 2}
+		if len(text) > 20 && text[9] == protocol && bytes.Equal(text[12:20], addresses) {
 			return text[20:]
 		}
 	}
@@ -176,7 +177,8 @@ func TestResponder(t *testing.T) {
 	n, from, err := own.ReadFromUDP(first)
 	must(t, err)
 	me := member(t, room, "ca.crt", "me")
-	for _, at := range []int{0, headerLen - 1, headerLen + 32, headerLen + 64 + 20} { // the header, the static key, the certificate
+	// The header, the static key, the certificate.
+	for _, at := range []int{0, headerLen - 1, headerLen + 32, headerLen + 64 + 20} {
 		altered := append([]byte(nil), first[:n]...)
 		altered[at] ^= 1
 		if _, reply, err := me.answer(altered); err == nil || reply != nil {

@@ -57,9 +57,13 @@ func (p *party) hello() []byte {
 // is why nothing else has come.
 func (p *party) connect(conn net.Conn, until time.Time) (*tunnel, error) {
 	t := &tunnel{own: ownIndex}
-	h, err := noise.NewHandshakeState(&noise.Config{Pattern: "IX", Static: p.key, VerifyPeer: func(_ context.Context, peer noise.Peer) error {
-		return t.accept(p.authority, peer)
-	}}, true)
+	h, err := noise.NewHandshakeState(&noise.Config{
+		Pattern: "IX",
+		Static:  p.key,
+		VerifyPeer: func(_ context.Context, peer noise.Peer) error {
+			return t.accept(p.authority, peer)
+		},
+	}, true)
 	if err != nil {
 		return nil, err
 	}
@@ -92,9 +96,13 @@ func (p *party) answer(packet []byte) (*tunnel, []byte, error) {
 		return nil, nil, errors.New("not the first packet of a handshake")
 	}
 	t := &tunnel{own: ownIndex}
-	h, err := noise.NewHandshakeState(&noise.Config{Pattern: "IX", Static: p.key, VerifyPeer: func(_ context.Context, peer noise.Peer) error {
-		return t.accept(p.authority, peer)
-	}}, false)
+	h, err := noise.NewHandshakeState(&noise.Config{
+		Pattern: "IX",
+		Static:  p.key,
+		VerifyPeer: func(_ context.Context, peer noise.Peer) error {
+			return t.accept(p.authority, peer)
+		},
+	}, false)
 	if err != nil {
 		return nil, nil, err
 	}

@@ -25,7 +25,12 @@ func main() {
 		conn, err := net.ListenPacket("udp", os.Args[2])
 		must(err)
 		var s *server
-		s = newServer(conn, key, func(client noise.PublicKey) bool { return client == other }, func(it *session, text []byte) { s.write(it, text) })
+		s = newServer(
+			conn,
+			key,
+			func(client noise.PublicKey) bool { return client == other },
+			func(it *session, text []byte) { s.write(it, text) },
+		)
 		must(s.run())
 		return
 	}

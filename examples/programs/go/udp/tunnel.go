@@ -55,15 +55,31 @@ type server struct {
 	received func(s *session, text []byte)
 }
 
-func newServer(conn net.PacketConn, key noise.DH, accepted func(noise.PublicKey) bool, received func(*session, []byte)) *server {
-	config := &noise.Config{Pattern: pattern, Prologue: prologue, Static: key, VerifyPeer: func(_ context.Context, peer noise.Peer) error {
-		if !accepted(peer.Static) {
-			return errors.New("a client that isn't accepted")
-		}
-		return nil
-	}}
-	return &server{conn: conn, config: config, used: map[noise.PublicKey]*session{}, new: map[noise.PublicKey]*session{}, indices: map[uint32]*session{},
-		received: received}
+func newServer(
+	conn net.PacketConn,
+	key noise.DH,
+	accepted func(noise.PublicKey) bool,
+	received func(*session, []byte),
+) *server {
+	config := &noise.Config{
+		Pattern:  pattern,
+		Prologue: prologue,
+		Static:   key,
+		VerifyPeer: func(_ context.Context, peer noise.Peer) error {
+			if !accepted(peer.Static) {
+				return errors.New("a client that isn't accepted")
+			}
+			return nil
+		},
+	}
+	return &server{
+		conn:     conn,
+		config:   config,
+		used:     map[noise.PublicKey]*session{},
+		new:      map[noise.PublicKey]*session{},
+		indices:  map[uint32]*session{},
+		received: received,
+	}
 }
 
 // run takes packets until the connection is closed. What isn't right changes nothing.
@@ -162,7 +178,8 @@ func (s *server) write(it *session, text []byte) error {
 // dial runs the handshake over conn until the deadline: it sends message 1 until a right message 2 has come, and takes
 // no notice of what else comes.
 func dial(conn net.Conn, key noise.DH, server noise.PublicKey, until time.Time) (*session, error) {
-	h, err := noise.NewHandshakeState(&noise.Config{Pattern: pattern, Prologue: prologue, Static: key, PeerStatic: &server}, true)
+	config := &noise.Config{Pattern: pattern, Prologue: prologue, Static: key, PeerStatic: &server}
+	h, err := noise.NewHandshakeState(config, true)
 	if err != nil {
 		return nil, err
 	}

@@ -83,7 +83,12 @@ func TestBadNetwork(t *testing.T) {
 	}
 	conn := listen(t, 1)
 	var s *server
-	s = newServer(conn, key, func(client noise.PublicKey) bool { return accepted[client] }, func(it *session, text []byte) { s.write(it, text) })
+	s = newServer(
+		conn,
+		key,
+		func(client noise.PublicKey) bool { return accepted[client] },
+		func(it *session, text []byte) { s.write(it, text) },
+	)
 	ended := make(chan error, 1)
 	go func() { ended <- s.run() }()
 	var group sync.WaitGroup
@@ -101,7 +106,8 @@ func TestBadNetwork(t *testing.T) {
 		}(i)
 	}
 	group.Wait()
-	if _, err := dial(&toOne{listen(t, 9), conn.LocalAddr()}, pair(t), key.Public(), time.Now().Add(time.Second)); err == nil {
+	stranger := &toOne{listen(t, 9), conn.LocalAddr()}
+	if _, err := dial(stranger, pair(t), key.Public(), time.Now().Add(time.Second)); err == nil {
 		t.Error("a client that isn't accepted has a session")
 	}
 	conn.Close()
