@@ -1,6 +1,8 @@
-# make           builds the libraries and the command of the assembly text in dist/, in OUT (packaging/out); CC is the compiler
+# make           builds the libraries and the command of the assembly text in dist/, in OUT (packaging/out); CC is the
+#                compiler
 # make noisecat  builds noisecat, the command of the package for Go; needs Go
-# make check     tries what was built, with a C compiler alone, in seconds; RUN is what runs a program for another machine, as qemu-aarch64
+# make check     tries what was built, with a C compiler alone, in seconds; RUN is what runs a program for another
+#                machine, as qemu-aarch64
 # make install   installs what was built: PREFIX (/usr/local), LIBDIR (PREFIX/lib), DESTDIR
 # make uninstall removes what `make install` installs
 # make prove     proves the library and the command from the sources, and compares what comes out with dist/; needs `rt`
@@ -32,7 +34,10 @@ export CC
 shared := $(OUT)/$(or $(shell CC='$(CC)' $(top)packaging/link name 2>/dev/null),libnoise_c.so)
 text := $(shell CC='$(CC)' $(top)packaging/assemble --text noise 2>/dev/null)
 command := $(if $(text),$(OUT)/noise$(if $(findstring windows,$(text)),.exe))
-every := $(top)include/noise.h $(addprefix $(top)packaging/,version assemble link sections.ld) $(addprefix $(top)dist/,MANIFEST is-current) $(OUT)/compiler
+every := $(top)include/noise.h $(addprefix $(top)packaging/,version assemble link sections.ld) \
+	$(addprefix $(top)dist/,MANIFEST is-current) $(OUT)/compiler
+built := $(addprefix $(OUT)/,compiler sections.a libnoise_c.a libnoise_c.so.* libnoise_c.*.dylib libnoise_c.dll.a \
+	noise_c.dll noise noise.exe noisecat)
 
 all: $(OUT)/libnoise_c.a $(shared) $(command)
 	@$(if $(command),,echo "make: left out: noise: dist/ has no text of the command for the machine of $(CC)")
@@ -72,7 +77,7 @@ web:
 	@$(top)web/build
 
 clean:
-	rm -f $(addprefix $(OUT)/,compiler sections.a libnoise_c.a libnoise_c.so.* libnoise_c.*.dylib libnoise_c.dll.a noise_c.dll noise noise.exe noisecat)
+	rm -f $(built)
 	rm -rf $(top)packaging/out $(top)out/web
 
 FORCE:

@@ -1,5 +1,6 @@
-/* The sections of the static library, for `ld -r`: the code that a handshake takes, and what several calls share, is one, and so is the data. Each call
-   of halves, streams and cipher states stays a section of its own, so that a linker with --gc-sections leaves out those that a program doesn't use. */
+/* The sections of the static library, for `ld -r`: the code that a handshake takes, and what several calls share, is
+   one, and so is the data. Each call of halves, streams and cipher states stays a section of its own, so that a linker
+   with --gc-sections leaves out those that a program doesn't use. */
 SECTIONS {
     .text 0 : {
         *(.text ".text.*::*" .text.noise_*_size .text.noise_find_level)

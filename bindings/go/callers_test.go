@@ -39,7 +39,10 @@ func silent(t *testing.T) string {
 
 func TestDialerLimitsTheHandshake(t *testing.T) {
 	client, _ := configs(t, "XX")
-	for _, inner := range []*net.Dialer{{Timeout: 50 * time.Millisecond}, {Deadline: time.Now().Add(50 * time.Millisecond)}} {
+	for _, inner := range []*net.Dialer{
+		{Timeout: 50 * time.Millisecond},
+		{Deadline: time.Now().Add(50 * time.Millisecond)},
+	} {
 		err := soon(t, "Dial", func() error {
 			_, err := (&Dialer{NetDialer: inner, Config: client}).Dial("tcp", silent(t))
 			return err
@@ -163,8 +166,9 @@ func TestDeadlinesInEachMessage(t *testing.T) {
 	}
 }
 
-// TestWriteDeadline fills a connection until a deadline passes, in the handshake and after it. A Write counts what it has sent; a later one continues there,
-// and what was sealed isn't sealed again. Close sends no end unless a later Write has gone well.
+// TestWriteDeadline fills a connection until a deadline passes, in the handshake and after it. A Write counts what
+// it has sent; a later one continues there, and what was sealed isn't sealed again. Close sends no end unless a
+// later Write has gone well.
 func TestWriteDeadline(t *testing.T) {
 	for _, goesOn := range []bool{false, true} {
 		client, server := configs(t, "NN")
@@ -200,7 +204,8 @@ func TestWriteDeadline(t *testing.T) {
 		})
 		got, err := readAll(s)
 		must(t, <-failed)
-		if goesOn && (err != io.EOF || !bytes.Equal(got, sent)) || !goesOn && (!errors.Is(err, ErrCut) || len(got) > 0) {
+		if goesOn && (err != io.EOF || !bytes.Equal(got, sent)) ||
+			!goesOn && (!errors.Is(err, ErrCut) || len(got) > 0) {
 			t.Errorf("%v: %d bytes, %v", goesOn, len(got), err)
 		}
 	}
@@ -209,12 +214,16 @@ func TestWriteDeadline(t *testing.T) {
 // asking are Configs whose server calls a function in its handshake.
 func asking(t *testing.T, call func(ctx context.Context) error) map[string][2]*Config {
 	all := map[string][2]*Config{}
-	for name, pattern := range map[string]string{"VerifyPeer": "XX", "a key known before": "KK", "PSKFor": "XXpsk3", "DH": "IK"} {
+	for name, pattern := range map[string]string{
+		"VerifyPeer": "XX", "a key known before": "KK", "PSKFor": "XXpsk3", "DH": "IK",
+	} {
 		client, server := configs(t, pattern)
 		switch name {
 		case "PSKFor":
 			psks := server.PSKs
-			server.PSKs, server.PSKFor = nil, func(ctx context.Context, _ PublicKey) ([]PSK, error) { return psks, call(ctx) }
+			server.PSKs, server.PSKFor = nil, func(ctx context.Context, _ PublicKey) ([]PSK, error) {
+				return psks, call(ctx)
+			}
 		case "DH":
 			server.Static = &calling{server.Static, call}
 		default:
@@ -257,8 +266,8 @@ func TestCloseInACall(t *testing.T) {
 	}
 }
 
-// TestCloseWhileACallRuns closes the connection, and ends a context, while such a function waits for its context: that ends, and nobody waits for the
-// function.
+// TestCloseWhileACallRuns closes the connection, and ends a context, while such a function waits for its context: that
+// ends, and nobody waits for the function.
 func TestCloseWhileACallRuns(t *testing.T) {
 	began, left, goOn := make(chan bool), make(chan error, 1), make(chan bool)
 	for name, both := range asking(t, func(ctx context.Context) error {
@@ -282,7 +291,8 @@ func TestCloseWhileACallRuns(t *testing.T) {
 	}
 }
 
-// TestTimeoutOfACall has such a function fail with a timeout of its own, which ends the handshake as any other error does.
+// TestTimeoutOfACall has such a function fail with a timeout of its own, which ends the handshake
+// as any other error does.
 func TestTimeoutOfACall(t *testing.T) {
 	for name, both := range asking(t, func(context.Context) error { return os.ErrDeadlineExceeded }) {
 		c, s := connected(t, both[0], both[1])
@@ -337,7 +347,8 @@ func TestContextOfAMessage(t *testing.T) {
 	wants(t, err, ErrEnded)
 }
 
-// TestListenerGoesOn serves HTTP while VerifyPeer fails for one client, another is silent, and a third sends what is no handshake.
+// TestListenerGoesOn serves HTTP while VerifyPeer fails for one client, another is silent, and a third
+// sends what is no handshake.
 func TestListenerGoesOn(t *testing.T) {
 	for _, pattern := range []string{"KK", "IK"} {
 		client, server := configs(t, pattern)
@@ -354,7 +365,9 @@ func TestListenerGoesOn(t *testing.T) {
 		l, err := Listen("tcp", "127.0.0.1:0", server)
 		must(t, err)
 		served := goes(func() error {
-			return http.Serve(l, http.HandlerFunc(func(w http.ResponseWriter, _ *http.Request) { io.WriteString(w, "hello") }))
+			return http.Serve(l, http.HandlerFunc(func(w http.ResponseWriter, _ *http.Request) {
+				io.WriteString(w, "hello")
+			}))
 		})
 		stranger, err := net.Dial("tcp", l.Addr().String())
 		must(t, err)
@@ -370,7 +383,10 @@ func TestListenerGoesOn(t *testing.T) {
 		wants(t, soon(t, "Handshake", c.Handshake), ErrCut)
 		expect(t, said, refused, away.Error())
 		fails = false
-		web := http.Client{Transport: &http.Transport{DialContext: (&Dialer{Config: client}).DialContext, DisableKeepAlives: true}}
+		web := http.Client{Transport: &http.Transport{
+			DialContext:       (&Dialer{Config: client}).DialContext,
+			DisableKeepAlives: true,
+		}}
 		answer, err := web.Get("http://" + l.Addr().String())
 		must(t, err)
 		text, err := io.ReadAll(answer.Body)
@@ -393,7 +409,8 @@ func expect(t *testing.T, said chan string, from net.Conn, why string) {
 	t.Helper()
 	select {
 	case line := <-said:
-		if !strings.HasPrefix(line, fmt.Sprintf("noise: handshake with %v: ", from.LocalAddr())) || !strings.Contains(line, why) {
+		if !strings.HasPrefix(line, fmt.Sprintf("noise: handshake with %v: ", from.LocalAddr())) ||
+			!strings.Contains(line, why) {
 			t.Errorf("%q, want %q", line, why)
 		}
 	case <-time.After(20 * time.Second):

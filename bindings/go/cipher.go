@@ -6,9 +6,10 @@ import (
 	"example.org/yulimosar/noise/internal/library"
 )
 
-// CipherState is one direction's key and nonce (the framework's 5.1), for a protocol whose packets have associated data, name their nonces or have a form of
-// their own. HandshakeState.CipherStates makes two, one to send and one to receive, at nonce 0. Any goroutine may call it; of a one-way pattern, the one for
-// the responder's messages has no key: each call returns ErrOneWay.
+// CipherState is one direction's key and nonce (the framework's 5.1), for a protocol whose packets have associated
+// data, name their nonces or have a form of their own. HandshakeState.CipherStates makes two, one to send and one to
+// receive, at nonce 0. Any goroutine may call it; of a one-way pattern, the one for the responder's messages has no
+// key: each call returns ErrOneWay.
 type CipherState struct {
 	mutex    sync.Mutex
 	memory   cipherMemory
@@ -17,17 +18,19 @@ type CipherState struct {
 	spare    []byte // a copy of the associated data, if it is where the message goes
 }
 
-// Encrypt appends the message of a plaintext to dst, with this associated data (EncryptWithAd): 16 bytes longer than the plaintext, which has at most 65519;
-// neither the data nor the nonce is in it. The next nonce is one greater. It allocates no memory if dst has room; dst may be plaintext[:0]. At an error
-// nothing changes: ErrTooLong, ErrLength if the data has more than 65535 bytes, ErrOneWay, ErrExhausted, ErrDirection, ErrClosed.
+// Encrypt appends the message of a plaintext to dst, with this associated data (EncryptWithAd): 16 bytes longer than
+// the plaintext, which has at most 65519; neither the data nor the nonce is in it. The next nonce is one greater. It
+// allocates no memory if dst has room; dst may be plaintext[:0]. At an error nothing changes: ErrTooLong, ErrLength if
+// the data has more than 65535 bytes, ErrOneWay, ErrExhausted, ErrDirection, ErrClosed.
 func (c *CipherState) Encrypt(dst, ad, plaintext []byte) ([]byte, error) {
 	c.mutex.Lock()
 	defer c.mutex.Unlock()
 	return c.encrypt(dst, ad, plaintext)
 }
 
-// EncryptNext is Encrypt with associated data that a function makes of the nonce, for packets whose header has it: also with other goroutines that encrypt,
-// the message is encrypted at that nonce. The function mustn't call the CipherState. After an error the nonce isn't used up. EncryptNext doesn't call it after
+// EncryptNext is Encrypt with associated data that a function makes of the nonce, for packets whose header
+// has it: also with other goroutines that encrypt, the message is encrypted at that nonce. The function
+// mustn't call the CipherState. After an error the nonce isn't used up. EncryptNext doesn't call it after
 // Close and where there is no key.
 func (c *CipherState) EncryptNext(dst, plaintext []byte, ad func(nonce uint64) []byte) ([]byte, error) {
 	c.mutex.Lock()
@@ -60,23 +63,29 @@ func (c *CipherState) encrypt(dst, ad, plaintext []byte) ([]byte, error) {
 	m := &c.memory
 	reads(ad)
 	writes(room)
-	code := library.CipherEncrypt(&m.opaque, place(ad), uint(len(ad)), place(room), uint(len(room)), uint(len(plaintext)), &m.result)
+	code := library.CipherEncrypt(
+		&m.opaque,
+		place(ad), uint(len(ad)),
+		place(room), uint(len(room)), uint(len(plaintext)),
+		&m.result,
+	)
 	if code != 0 {
 		return dst, Code(code)
 	}
 	return whole, nil
 }
 
-// Decrypt appends the plaintext of a message to dst (DecryptWithAd); dst may be message[:0]. The next nonce is one greater. It allocates no memory if dst has
-// room for the message. At an error nothing changes: ErrTag, ErrShort, ErrTooLong, ErrLength, ErrOneWay, ErrExhausted, ErrDirection, ErrClosed.
+// Decrypt appends the plaintext of a message to dst (DecryptWithAd); dst may be message[:0]. The next nonce is one
+// greater. It allocates no memory if dst has room for the message. At an error nothing changes: ErrTag, ErrShort,
+// ErrTooLong, ErrLength, ErrOneWay, ErrExhausted, ErrDirection, ErrClosed.
 func (c *CipherState) Decrypt(dst, ad, message []byte) ([]byte, error) {
 	c.mutex.Lock()
 	defer c.mutex.Unlock()
 	return c.decrypt(dst, ad, message)
 }
 
-// DecryptAt is Decrypt at this nonce, whatever the next nonce is, also with other goroutines that decrypt. The caller refuses nonces that have come before.
-// At an error nothing changes.
+// DecryptAt is Decrypt at this nonce, whatever the next nonce is, also with other goroutines that decrypt. The caller
+// refuses nonces that have come before. At an error nothing changes.
 func (c *CipherState) DecryptAt(nonce uint64, dst, ad, message []byte) ([]byte, error) {
 	c.mutex.Lock()
 	defer c.mutex.Unlock()
@@ -125,8 +134,8 @@ func (c *CipherState) nonce() (uint64, error) {
 	return uint64(c.memory.nonce), nil
 }
 
-// Nonce returns the nonce of the next message; 0 after Close, and if there is no key. Where several goroutines encrypt, the next message may have another:
-// EncryptNext hands it on.
+// Nonce returns the nonce of the next message; 0 after Close, and if there is no key. Where several goroutines encrypt,
+// the next message may have another: EncryptNext hands it on.
 func (c *CipherState) Nonce() uint64 {
 	c.mutex.Lock()
 	defer c.mutex.Unlock()
@@ -137,8 +146,9 @@ func (c *CipherState) Nonce() uint64 {
 	return nonce
 }
 
-// SetNonce sets the nonce of the next message (the framework's 11.4). Who encrypts must never set it back: whoever sees two messages of one nonce learns the
-// xor of their plaintexts, and can forge messages of that nonce. Who decrypts has to refuse what came before. ErrOneWay, ErrClosed.
+// SetNonce sets the nonce of the next message (the framework's 11.4). Who encrypts must never set it back: whoever sees
+// two messages of one nonce learns the xor of their plaintexts, and can forge messages of that nonce. Who decrypts has
+// to refuse what came before. ErrOneWay, ErrClosed.
 func (c *CipherState) SetNonce(nonce uint64) error {
 	c.mutex.Lock()
 	defer c.mutex.Unlock()
@@ -148,7 +158,8 @@ func (c *CipherState) SetNonce(nonce uint64) error {
 	return asError(uint32(library.CipherSetNonce(&c.memory.opaque, uint64(nonce))))
 }
 
-// Rekey replaces the key by the one that follows from it, and keeps the nonce (the framework's 11.3). ErrOneWay, ErrClosed.
+// Rekey replaces the key by the one that follows from it, and keeps the nonce (the framework's
+// 11.3). ErrOneWay, ErrClosed.
 func (c *CipherState) Rekey() error {
 	c.mutex.Lock()
 	defer c.mutex.Unlock()

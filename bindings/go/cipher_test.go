@@ -18,7 +18,8 @@ func ciphers(t testing.TB, pattern string) (send, receive, back *CipherState) {
 	return send, receive, back
 }
 
-// TestCipherStates passes packets in another order than theirs, with associated data and nonces named, and refuses what isn't theirs.
+// TestCipherStates passes packets in another order than theirs, with associated data and nonces named, and
+// refuses what isn't theirs.
 func TestCipherStates(t *testing.T) {
 	s, r, _ := ciphers(t, "IX")
 	var packets [5][]byte

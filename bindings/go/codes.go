@@ -29,7 +29,8 @@ const (
 	ErrEnded Code = 13
 	// ErrShort: what came is shorter than such a message.
 	ErrShort Code = 15
-	// ErrTag: a tag is wrong: the parties differ in something, or the message was changed, or isn't the one that is due.
+	// ErrTag: a tag is wrong: the parties differ in something, or the message was changed, or isn't the one that is
+	// due.
 	ErrTag Code = 16
 	// ErrExhausted: this key has encrypted or decrypted 2^64 - 1 messages.
 	ErrExhausted Code = 17

@@ -9,43 +9,52 @@ import (
 	"time"
 )
 
-// Config is what a party starts from. It may serve for many connections at once; while one uses it, it must not be changed. The package doesn't change it.
+// Config is what a party starts from. It may serve for many connections at once; while one uses it, it must not be
+// changed. The package doesn't change it.
 type Config struct {
-	// Pattern is a protocol name, as Noise_XX_25519_ChaChaPoly_SHA256; the name of a pattern alone, as XXpsk3; or the text of your own pattern,
-	// whose last byte is a line feed. "" is XX.
+	// Pattern is a protocol name, as Noise_XX_25519_ChaChaPoly_SHA256; the name of a pattern alone, as XXpsk3; or the
+	// text of your own pattern, whose last byte is a line feed. "" is XX.
 	Pattern string
 	// Prologue is what the parties have agreed on before, at most 65535 bytes: the same bytes at both.
 	Prologue []byte
 	// Static is this party's static key pair, if the pattern has one.
 	Static DH
-	// PeerStatic is the other party's static key; nil if it isn't known. If the pattern needs the key beforehand, the handshake starts with it. If a
-	// message of the handshake has the key, the two are compared, and ErrPeerKey ends the handshake.
+	// PeerStatic is the other party's static key; nil if it isn't known. If the pattern needs the key beforehand,
+	// the handshake starts with it. If a message of the handshake has the key, the two are compared, and
+	// ErrPeerKey ends the handshake.
 	PeerStatic *PublicKey
-	// VerifyPeer is called with the other party's static key as soon as that is known, before anything else is read or written: with the message that has
-	// the key, and that message's payload, which may have a certificate of it; or with a key that is known from the start, before the first message is
-	// written, or once it has come. An error ends the handshake. It isn't called in a handshake without such a key. The context ends with that of
-	// HandshakeContext, at the time limit, and when the connection is closed.
+	// VerifyPeer is called with the other party's static key as soon as that is known, before anything else is read or
+	// written: with the message that has the key, and that message's payload, which may have a certificate of it; or
+	// with a key that is known from the start, before the first message is written, or once it has come. An error ends
+	// the handshake. It isn't called in a handshake without such a key. The context ends with that of HandshakeContext,
+	// at the time limit, and when the connection is closed.
 	VerifyPeer func(ctx context.Context, peer Peer) error
-	// InsecureAcceptAnyKey lets a party talk to anybody, if neither VerifyPeer nor PeerStatic nor PSKs nor PSKFor say who may be the other party.
+	// InsecureAcceptAnyKey lets a party talk to anybody, if neither VerifyPeer nor PeerStatic nor PSKs nor PSKFor say
+	// who may be the other party.
 	InsecureAcceptAnyKey bool
 	// PSKs has one pre-shared key for each psk token of the pattern, in their order.
 	PSKs []PSK
-	// PSKFor, in place of PSKs, returns those that this party shares with the owner of a static key. It is called at the first psk token, before which
-	// that key has to be known. The other party hasn't shown yet that it has the secret key: so choose the psks, and do nothing else. At XXpsk3, where the token is in the message that has the key, VerifyPeer is called after PSKFor, once that message is accepted. An error ends the
-	// handshake, and nothing more is sent; 32 random bytes for a key that you don't know, in place of an error, don't tell which keys you know. The
-	// context is that of VerifyPeer.
+	// PSKFor, in place of PSKs, returns those that this party shares with the owner of a static key. It is called at
+	// the first psk token, before which that key has to be known. The other party hasn't shown yet that it has the
+	// secret key: so choose the psks, and do nothing else. At XXpsk3, where the token is in the message that has the
+	// key, VerifyPeer is called after PSKFor, once that message is accepted. An error ends the handshake, and nothing
+	// more is sent; 32 random bytes for a key that you don't know, in place of an error, don't tell which keys you
+	// know. The context is that of VerifyPeer.
 	PSKFor func(ctx context.Context, key PublicKey) ([]PSK, error)
 	// Interval is the number of messages after which each direction is rekeyed; 0 is never. The same at both parties.
 	Interval uint64
-	// Payloads are those of the handshake: Payloads[0] goes with message 1 of the pattern, Payloads[1] with message 2, if this party writes that message.
+	// Payloads are those of the handshake: Payloads[0] goes with message 1 of the pattern, Payloads[1] with message 2,
+	// if this party writes that message.
 	Payloads [][]byte
-	// PayloadFor, in place of Payloads, returns the payload of the message after peer.Message. It is called once for each message that a Conn writes. An
-	// error ends the handshake. The context is that of VerifyPeer.
+	// PayloadFor, in place of Payloads, returns the payload of the message after peer.Message. It is called once for
+	// each message that a Conn writes. An error ends the handshake. The context is that of VerifyPeer.
 	PayloadFor func(ctx context.Context, peer Peer) ([]byte, error)
-	// MaxHandshakeMessage is how many bytes a message of the handshake may have that a Conn reads; 0 is 4096 more than it has without a payload.
+	// MaxHandshakeMessage is how many bytes a message of the handshake may have that a Conn reads; 0 is 4096 more than
+	// it has without a payload.
 	MaxHandshakeMessage int
-	// HandshakeTimeout is how long the handshake of a Conn may take, from the first call that runs it; 0 is 10 seconds at what a listener of this
-	// package has accepted, and no limit at what Client and Server return. Less than 0 is no limit.
+	// HandshakeTimeout is how long the handshake of a Conn may take, from the first call that runs it; 0 is 10
+	// seconds at what a listener of this package has accepted, and no limit at what Client and Server return.
+	// Less than 0 is no limit.
 	HandshakeTimeout time.Duration
 	// ErrorLog gets a line for each handshake of a Conn that has failed, with the other party's address; nil: no lines.
 	ErrorLog *log.Logger
@@ -126,7 +135,8 @@ func (c *Config) check(p *pattern, initiator, isLate bool) error {
 	return nil
 }
 
-// Check returns the *ConfigError that Client, for the initiator, or Server would return; nil if there is none. It doesn't call VerifyPeer or PSKFor.
+// Check returns the *ConfigError that Client, for the initiator, or Server would return; nil if there is none. It
+// doesn't call VerifyPeer or PSKFor.
 func (c *Config) Check(initiator bool) error {
 	h, err := started(c, &HandshakeState{initiator: initiator, ephemeral: new(KeyPair), isOfConn: true}, false)
 	if err != nil {

@@ -15,11 +15,11 @@ import (
 	"example.org/yulimosar/noise/internal/library"
 )
 
-// Conn is a secure channel over another connection. One goroutine may read while another writes. The first Read or Write runs the handshake, or
-// Handshake does.
+// Conn is a secure channel over another connection. One goroutine may read while another writes. The first Read or
+// Write runs the handshake, or Handshake does.
 //
-// After a refused message, or once the connection below was lost, nothing more is written, and the end of this party's stream isn't sent: Close returns
-// ErrNoEnd then.
+// After a refused message, or once the connection below was lost, nothing more is written, and the end of this party's
+// stream isn't sent: Close returns ErrNoEnd then.
 type Conn struct {
 	conn        net.Conn
 	config      *Config
@@ -70,10 +70,12 @@ type ConnectionState struct {
 	Initiator         bool         // this party wrote the first message
 	HandshakeHash     [KeyLen]byte // the same at both parties: to bind other data to the channel (the framework's 11.2)
 	PeerStatic        *PublicKey   // the other party's static key; nil if the handshake has none
-	Payloads          [][]byte     // those of the messages that this party has read, Payloads[0] that of message 1; nil at its own
+	// Payloads are those of the messages that this party has read, Payloads[0] that of message 1; nil at its own.
+	Payloads [][]byte
 }
 
-// Client returns the initiator's side of a channel over conn, and writes nothing yet. A *ConfigError says what is wrong with the Config.
+// Client returns the initiator's side of a channel over conn, and writes nothing yet. A *ConfigError says what
+// is wrong with the Config.
 func Client(conn net.Conn, config *Config) (*Conn, error) {
 	if err := config.Check(true); err != nil {
 		return nil, err
@@ -81,7 +83,8 @@ func Client(conn net.Conn, config *Config) (*Conn, error) {
 	return newConn(conn, config, true, 0), nil
 }
 
-// Server returns the responder's side of a channel over conn, and writes nothing yet. A *ConfigError says what is wrong with the Config.
+// Server returns the responder's side of a channel over conn, and writes nothing yet. A *ConfigError says what
+// is wrong with the Config.
 func Server(conn net.Conn, config *Config) (*Conn, error) {
 	if err := config.Check(false); err != nil {
 		return nil, err
@@ -102,7 +105,8 @@ func newConn(conn net.Conn, config *Config, initiator bool, limit time.Duration)
 	}
 }
 
-// ConnectionState returns what the handshake has agreed on so far, in memory of the caller's own. It doesn't wait for a handshake that is running.
+// ConnectionState returns what the handshake has agreed on so far, in memory of the caller's own. It doesn't wait for a
+// handshake that is running.
 func (c *Conn) ConnectionState() ConnectionState {
 	c.stateMutex.Lock()
 	defer c.stateMutex.Unlock()
@@ -123,9 +127,10 @@ func (c *Conn) ConnectionState() ConnectionState {
 
 // Read reads what the other party has written. It returns io.EOF once that party has sent the end of its stream.
 //
-// A refused message (ErrTag, ErrShort) and a lost connection (ErrCut) end the channel: the connection below is closed, and nothing more can be read or
-// written. A deadline that passes doesn't: a later Read continues with what has arrived. After an error other than io.EOF, Close is Abort, until a later
-// Read succeeds or the deadline is set anew: a request of which only a part has come isn't answered by an end.
+// A refused message (ErrTag, ErrShort) and a lost connection (ErrCut) end the channel: the connection below is closed,
+// and nothing more can be read or written. A deadline that passes doesn't: a later Read continues with what has
+// arrived. After an error other than io.EOF, Close is Abort, until a later Read succeeds or the deadline is set anew: a
+// request of which only a part has come isn't answered by an end.
 func (c *Conn) Read(b []byte) (int, error) {
 	if err := c.Handshake(); err != nil {
 		return 0, err
@@ -160,7 +165,8 @@ func (c *Conn) read(b []byte) (int, error) {
 	return n, nil
 }
 
-// open decrypts the next payload, or finds the end, in what has come, or receives more. It returns only what a later Read may not meet again: a deadline.
+// open decrypts the next payload, or finds the end, in what has come, or receives more. It returns only what a later
+// Read may not meet again: a deadline.
 func (c *Conn) open() error {
 	if c.isMute {
 		c.inErr = ErrOneWay
@@ -218,8 +224,9 @@ func (c *Conn) closeBelow() error {
 
 // Write writes b, in messages of at most 65519 bytes, and returns how many of its bytes it has sent.
 //
-// After a deadline that has passed, continue with b[n:]: what was sealed of it is then counted, and not sealed again. A Write of other bytes writes them after
-// what was sealed, which can't be taken back. After another error nothing more can be written.
+// After a deadline that has passed, continue with b[n:]: what was sealed of it is then counted, and not sealed
+// again. A Write of other bytes writes them after what was sealed, which can't be taken back. After another error
+// nothing more can be written.
 func (c *Conn) Write(b []byte) (int, error) {
 	if err := c.Handshake(); err != nil {
 		return 0, err
@@ -246,8 +253,8 @@ func (c *Conn) Write(b []byte) (int, error) {
 	}
 }
 
-// countOwed returns how many first bytes of a payload an earlier Write has sealed and not counted. All of them are sent by now; where the payload is another
-// one, they are no longer owed.
+// countOwed returns how many first bytes of a payload an earlier Write has sealed and not counted. All of them are sent
+// by now; where the payload is another one, they are no longer owed.
 func (c *Conn) countOwed(payload []byte) int {
 	n := len(c.owed)
 	if n > len(payload) {
@@ -286,7 +293,12 @@ var errEnded = errors.New("noise: a Write after CloseWrite")
 func (c *Conn) seal(payload []byte) (int, error) {
 	room, result := roomFor(len(payload)+streamOverhead), &c.sender.result
 	reads(payload)
-	code := library.StreamWrite(&c.sender.opaque, place(payload), uint(len(payload)), place(room.bytes), uint(len(room.bytes)), result)
+	code := library.StreamWrite(
+		&c.sender.opaque,
+		place(payload), uint(len(payload)),
+		place(room.bytes), uint(len(room.bytes)),
+		result,
+	)
 	if code != 0 {
 		room.free(0)
 		if code == codeClosed {
@@ -341,8 +353,9 @@ func (c *Conn) failed(err error) error {
 	return err
 }
 
-// CloseWrite sends the end of this party's stream: the other party's Read returns io.EOF. What that party writes can still be read. After a Write that has
-// failed at a deadline, and has sealed bytes that it hasn't counted, it returns ErrUnfinished, and sends no end, until a Write has succeeded.
+// CloseWrite sends the end of this party's stream: the other party's Read returns io.EOF. What that party writes can
+// still be read. After a Write that has failed at a deadline, and has sealed bytes that it hasn't counted, it returns
+// ErrUnfinished, and sends no end, until a Write has succeeded.
 func (c *Conn) CloseWrite() error {
 	if err := c.Handshake(); err != nil {
 		return err
@@ -378,10 +391,11 @@ func (c *Conn) sendEnd() error {
 // endTime is how long Close waits until the end is sent.
 const endTime = 5 * time.Second
 
-// Close sends the end of the stream, for which it waits at most 5 seconds, closes the connection below, and overwrites the keys. It sends no end, and
-// returns ErrNoEnd, if the last Write has failed or is running, if the last Read has failed, or after what Conn says; the other party's Read returns ErrCut
-// then. After a CloseWrite that has succeeded, where there was no handshake, and where the other party has ended its stream and closed, it returns only what
-// closing the connection below returns. If the stream isn't whole for another reason, call Abort.
+// Close sends the end of the stream, for which it waits at most 5 seconds, closes the connection below, and overwrites
+// the keys. It sends no end, and returns ErrNoEnd, if the last Write has failed or is running, if the last Read has
+// failed, or after what Conn says; the other party's Read returns ErrCut then. After a CloseWrite that has succeeded,
+// where there was no handshake, and where the other party has ended its stream and closed, it returns only what closing
+// the connection below returns. If the stream isn't whole for another reason, call Abort.
 func (c *Conn) Close() error {
 	if c.closed.Swap(true) {
 		return net.ErrClosed
@@ -423,7 +437,8 @@ func (c *Conn) end() error {
 	return &noEndError{err}
 }
 
-// Abort closes the connection below, and overwrites the keys. It sends no end, so the other party's Read returns ErrCut.
+// Abort closes the connection below, and overwrites the keys. It sends no end, so the other
+// party's Read returns ErrCut.
 func (c *Conn) Abort() error {
 	if c.closed.Swap(true) {
 		return net.ErrClosed
@@ -485,16 +500,17 @@ func (c *Conn) SetDeadline(t time.Time) error {
 	return err
 }
 
-// SetReadDeadline sets the deadline of Read, also for messages of the handshake that a Read or a Write waits for. After one that has passed the channel is
-// still usable, also if it has passed in the handshake.
+// SetReadDeadline sets the deadline of Read, also for messages of the handshake that a Read or a Write waits for. After
+// one that has passed the channel is still usable, also if it has passed in the handshake.
 func (c *Conn) SetReadDeadline(t time.Time) error {
 	err := c.conn.SetReadDeadline(t)
 	c.isStuck.Store(false)
 	return err
 }
 
-// SetWriteDeadline sets the deadline of Write, also for messages of the handshake that a Read or a Write sends: it doesn't limit how long a Write waits for
-// the other party's messages of the handshake, as SetReadDeadline and Config.HandshakeTimeout do. After one that has passed the channel is still usable.
+// SetWriteDeadline sets the deadline of Write, also for messages of the handshake that a Read or a Write sends: it
+// doesn't limit how long a Write waits for the other party's messages of the handshake, as SetReadDeadline and
+// Config.HandshakeTimeout do. After one that has passed the channel is still usable.
 func (c *Conn) SetWriteDeadline(t time.Time) error {
 	err := c.conn.SetWriteDeadline(t)
 	c.keepWriteDeadline(t)
@@ -512,7 +528,8 @@ func (c *Conn) keepWriteDeadline(t time.Time) {
 // NetConn returns the connection below. To read from it or write to it breaks the channel.
 func (c *Conn) NetConn() net.Conn { return c.conn }
 
-// isDeadline reports whether an error of the connection below says that a deadline has passed, after which the connection is still usable.
+// isDeadline reports whether an error of the connection below says that a deadline has passed, after which the
+// connection is still usable.
 func isDeadline(err error) bool {
 	var t net.Error
 	return errors.As(err, &t) && t.Timeout() && !errors.Is(err, syscall.ETIMEDOUT)

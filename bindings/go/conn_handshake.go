@@ -12,11 +12,11 @@ import (
 // Handshake runs the handshake, if that wasn't done.
 func (c *Conn) Handshake() error { return c.HandshakeContext(context.Background()) }
 
-// HandshakeContext runs the handshake, if that wasn't done, or waits for another goroutine that runs it. If the context ends first, it closes the
-// connection, and returns the context's error.
+// HandshakeContext runs the handshake, if that wasn't done, or waits for another goroutine that runs it. If the context
+// ends first, it closes the connection, and returns the context's error.
 //
-// A deadline of the connection that passes ends this call alone: a later one continues. After any other error the connection below is closed, and each
-// later call returns that error.
+// A deadline of the connection that passes ends this call alone: a later one continues. After any other error the
+// connection below is closed, and each later call returns that error.
 func (c *Conn) HandshakeContext(ctx context.Context) error {
 	if c.handshakeDone.Load() {
 		return nil
@@ -83,7 +83,8 @@ func (c *Conn) fail(err error) {
 	}
 }
 
-// runUnder runs the handshake under a context that ends with ctx, at the time limit, and at Close. It also says whether an error is final.
+// runUnder runs the handshake under a context that ends with ctx, at the time limit, and at Close. It also says
+// whether an error is final.
 func (c *Conn) runUnder(ctx context.Context) (err error, isFinal bool) {
 	inner, cancel := context.WithCancel(ctx)
 	defer cancel()
@@ -107,7 +108,8 @@ func (c *Conn) runUnder(ctx context.Context) (err error, isFinal bool) {
 	return err, !mayContinue
 }
 
-// limited ends a context at the time limit, and closes the connection below then, until its second result is called. That reports whether it was in time.
+// limited ends a context at the time limit, and closes the connection below then, until its second result is called.
+// That reports whether it was in time.
 func (c *Conn) limited(ctx context.Context) (context.Context, func() bool) {
 	if c.limit <= 0 {
 		return ctx, func() bool { return true }
@@ -126,7 +128,8 @@ func (c *Conn) cancelAtClose(cancel context.CancelFunc) {
 	c.cancel = cancel
 }
 
-// closeAtEndOf closes the connection below when the context ends, until its result is called. That reports whether it has closed it.
+// closeAtEndOf closes the connection below when the context ends, until its result is called. That reports
+// whether it has closed it.
 func (c *Conn) closeAtEndOf(ctx context.Context) func() bool {
 	if ctx.Done() == nil {
 		return func() bool { return false }

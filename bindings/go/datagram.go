@@ -21,7 +21,8 @@ type DatagramReceiver struct {
 	closed bool
 }
 
-// Seal appends a datagram to dst: 24 bytes longer than the payload, which has at most 65519. The errors are those of Sender.Seal.
+// Seal appends a datagram to dst: 24 bytes longer than the payload, which has at most 65519. The errors
+// are those of Sender.Seal.
 func (s *DatagramSender) Seal(dst, payload []byte) ([]byte, error) {
 	s.mutex.Lock()
 	defer s.mutex.Unlock()
@@ -35,7 +36,12 @@ func (s *DatagramSender) Seal(dst, payload []byte) ([]byte, error) {
 	payload = apart(room, payload, &s.spare)
 	reads(payload)
 	writes(room)
-	code := library.DatagramSeal(&s.memory.opaque, place(payload), uint(len(payload)), place(room), uint(len(room)), &s.memory.result)
+	code := library.DatagramSeal(
+		&s.memory.opaque,
+		place(payload), uint(len(payload)),
+		place(room), uint(len(room)),
+		&s.memory.result,
+	)
 	if code != 0 {
 		return dst, Code(code)
 	}
@@ -62,8 +68,8 @@ func (s *DatagramSender) Close() error {
 	return nil
 }
 
-// Open opens a datagram, and appends its payload to dst; dst may be datagram[:0]. An error changes nothing: drop the datagram, and wait for the next.
-// ErrOld and ErrRepeated alone are no sign of an attack.
+// Open opens a datagram, and appends its payload to dst; dst may be datagram[:0]. An error changes nothing: drop the
+// datagram, and wait for the next. ErrOld and ErrRepeated alone are no sign of an attack.
 func (r *DatagramReceiver) Open(dst, datagram []byte) ([]byte, error) {
 	r.mutex.Lock()
 	defer r.mutex.Unlock()

@@ -7,8 +7,9 @@ import (
 	"example.org/yulimosar/noise/internal/library"
 )
 
-// The calls of a handshake take some 15 KB of stack. Where they run on a goroutine's stack, as many goroutines as there are processors make those of
-// connections, so that the stacks of the connections, of which there may be many, stay small.
+// The calls of a handshake take some 15 KB of stack. Where they run on a goroutine's stack, as many
+// goroutines as there are processors make those of connections, so that the stacks of the connections, of
+// which there may be many, stay small.
 
 type deepCall struct {
 	call func()

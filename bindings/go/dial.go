@@ -82,9 +82,9 @@ func Listen(network, address string, config *Config) (net.Listener, error) {
 	return &listener{inner, config, nil}, nil
 }
 
-// NewListener accepts connections of inner as the responder. Accept returns a *Conn whose handshake hasn't run yet, so that no peer delays another, and
-// none ends the listener: its errors are those of inner, or the *ConfigError that Config.Check returns. A handshake may take 10 seconds, unless
-// Config.HandshakeTimeout says otherwise.
+// NewListener accepts connections of inner as the responder. Accept returns a *Conn whose handshake hasn't run yet, so
+// that no peer delays another, and none ends the listener: its errors are those of inner, or the *ConfigError that
+// Config.Check returns. A handshake may take 10 seconds, unless Config.HandshakeTimeout says otherwise.
 func NewListener(inner net.Listener, config *Config) net.Listener {
 	return &listener{inner, config, config.Check(false)}
 }

@@ -28,7 +28,8 @@ func shaken(t *testing.T) (*Conn, *Conn) {
 	return c, s
 }
 
-// TestCloseSaysThatThereIsNoEnd closes towards a peer that doesn't read, after a Write that has failed, while one runs, and after a refused message.
+// TestCloseSaysThatThereIsNoEnd closes towards a peer that doesn't read, after a Write that has failed, while one runs,
+// and after a refused message.
 func TestCloseSaysThatThereIsNoEnd(t *testing.T) {
 	past := time.Now().Add(-time.Second)
 	for what, prepare := range map[string]func(c, s *Conn){
@@ -73,7 +74,8 @@ func TestCloseSaysThatThereIsNoEnd(t *testing.T) {
 	must(t, s.Close(), c.Close()) // the responder of a one-way pattern has no stream to end
 }
 
-// TestNoEndAfterAFailedRead has a server that gives up on half a request, and closes: the client's answer isn't an empty one.
+// TestNoEndAfterAFailedRead has a server that gives up on half a request, and closes: the client's
+// answer isn't an empty one.
 func TestNoEndAfterAFailedRead(t *testing.T) {
 	for _, it := range []struct {
 		what  string
@@ -105,8 +107,8 @@ func TestNoEndAfterAFailedRead(t *testing.T) {
 	}
 }
 
-// TestAnswerThatCloseEnds has a server of net/http whose answer has no length: the end of the stream is its end. That server lets a Read time out at the end
-// of each request, and sets the deadline anew.
+// TestAnswerThatCloseEnds has a server of net/http whose answer has no length: the end of the stream is its end. That
+// server lets a Read time out at the end of each request, and sets the deadline anew.
 func TestAnswerThatCloseEnds(t *testing.T) {
 	client, server := configs(t, "NN")
 	l, err := Listen("tcp", "127.0.0.1:0", server)
@@ -130,7 +132,8 @@ func TestAnswerThatCloseEnds(t *testing.T) {
 	}
 }
 
-// TestRetriedWrite writes with deadlines that pass, over a pipe that is read slowly, as such a loop is usually written, and waits for the answer.
+// TestRetriedWrite writes with deadlines that pass, over a pipe that is read slowly, as such a loop is usually written,
+// and waits for the answer.
 func TestRetriedWrite(t *testing.T) {
 	c, s := shaken(t)
 	sent := bytes.Repeat([]byte("0123456789"), 40000)
@@ -161,7 +164,8 @@ func TestRetriedWrite(t *testing.T) {
 	}
 }
 
-// TestOtherBytes doesn't continue a Write whose deadline has passed: what was sealed comes all the same, and the other bytes after it.
+// TestOtherBytes doesn't continue a Write whose deadline has passed: what was sealed comes all the same, and
+// the other bytes after it.
 func TestOtherBytes(t *testing.T) {
 	c, s := shaken(t)
 	for len(c.owed) == 0 {

@@ -8,7 +8,8 @@ import (
 	"strings"
 )
 
-// Code is the number that a call of the library returns for a fault. The constants are errors: compare with errors.Is(err, noise.ErrTag).
+// Code is the number that a call of the library returns for a fault. The constants are errors: compare with
+// errors.Is(err, noise.ErrTag).
 type Code uint32
 
 var texts = map[Code]string{
@@ -73,24 +74,27 @@ func asError(code uint32) error {
 var (
 	// ErrClosed is returned by what was closed.
 	ErrClosed = errors.New("noise: closed")
-	// ErrCut is returned if the connection was lost before the end of the other party's stream, or in the handshake. It is an io.ErrUnexpectedEOF, and
-	// never an io.EOF. If the connection below had an error, as ECONNRESET, errors.Is finds that too.
+	// ErrCut is returned if the connection was lost before the end of the other party's stream, or in the handshake.
+	// It is an io.ErrUnexpectedEOF, and never an io.EOF. If the connection below had an error, as ECONNRESET,
+	// errors.Is finds that too.
 	ErrCut error = cut{}
-	// ErrNoEnd is returned by Close if the end of this party's stream wasn't sent: the other party's Read returns ErrCut, though it may have read all. If
-	// an error has prevented it, errors.Is finds that too.
+	// ErrNoEnd is returned by Close if the end of this party's stream wasn't sent: the other party's Read returns
+	// ErrCut, though it may have read all. If an error has prevented it, errors.Is finds that too.
 	ErrNoEnd = errors.New("noise: closed without the end of the stream")
-	// ErrUnfinished is returned by CloseWrite after a Write that has failed at a deadline, until a Write has succeeded: the end would say that all was
-	// written.
+	// ErrUnfinished is returned by CloseWrite after a Write that has failed at a deadline, until a Write has succeeded:
+	// the end would say that all was written.
 	ErrUnfinished = errors.New("noise: the last Write has failed, and no other one has succeeded since")
 	// ErrUnauthenticated is returned if nothing says who may be the other party.
-	ErrUnauthenticated = errors.New("noise: nothing says who may be the other party: set VerifyPeer, PeerStatic, PSKs or PSKFor, or InsecureAcceptAnyKey")
+	ErrUnauthenticated = errors.New("noise: nothing says who may be the other party: " +
+		"set VerifyPeer, PeerStatic, PSKs or PSKFor, or InsecureAcceptAnyKey")
 	// ErrPeerKey is returned if the other party's static key isn't Config.PeerStatic.
 	ErrPeerKey = errors.New("noise: the other party has another static key than the one expected")
 	// ErrDirection is returned if a CipherState for receiving has to encrypt, or one for sending to decrypt.
 	ErrDirection = errors.New("noise: the CipherState is for the other direction")
 	// ErrLowOrder is returned if X25519 of the other party's public key is zeros (the framework's 12.1).
 	ErrLowOrder = errors.New("noise: X25519 of the other party's public key is zeros")
-	// ErrHandshakeTimeout is returned if a handshake took longer than Config.HandshakeTimeout. It is an os.ErrDeadlineExceeded, and a net.Error.
+	// ErrHandshakeTimeout is returned if a handshake took longer than Config.HandshakeTimeout. It is an
+	// os.ErrDeadlineExceeded, and a net.Error.
 	ErrHandshakeTimeout error = tooSlow{}
 )
 
@@ -150,7 +154,8 @@ var (
 	errUsedUp          = &overError{"noise: the handshake is used up: its keys were handed on", false}
 )
 
-// HandshakeError says what is wrong with a message of a handshake. Unwrap returns the cause, as ErrTag or the error of VerifyPeer.
+// HandshakeError says what is wrong with a message of a handshake. Unwrap returns the cause, as ErrTag or
+// the error of VerifyPeer.
 type HandshakeError struct {
 	Message int    // the message, from 1 on; 0 if PeerStatic or VerifyPeer refused a key that is known before the first
 	Token   string // where in the message, as "s", "es" or "payload"; "" if the fault isn't at one place
@@ -180,7 +185,9 @@ func (e *HandshakeError) Unwrap() error { return withoutEOF(e.Err) }
 
 // WantedPSKError says that the message that is due needs a psk, which SetPSK passes. The handshake is as it was.
 type WantedPSKError struct {
-	PeerStatic *PublicKey // the other party's static key, of which it hasn't shown yet that it has the secret key; nil if it isn't known
+	// PeerStatic is the other party's static key, of which it hasn't shown yet that it has the secret key; nil if it
+	// isn't known.
+	PeerStatic *PublicKey
 }
 
 // Error returns what is needed.

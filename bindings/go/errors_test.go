@@ -13,7 +13,8 @@ type away struct{ DH }
 
 func (away) Agree(context.Context, PublicKey) (result Secret, err error) { return result, errDevice }
 
-// TestErrorsNameMessageAndToken ends handshakes at each kind of token, and looks at the message, from 1 on, the token and the text.
+// TestErrorsNameMessageAndToken ends handshakes at each kind of token, and looks at the message, from 1
+// on, the token and the text.
 func TestErrorsNameMessageAndToken(t *testing.T) {
 	differ := "a tag is wrong: the message was changed, or the parties differ in the pattern"
 	for _, it := range []struct {
@@ -83,7 +84,8 @@ func flip(at int) func(client, server *Config, message *[]byte) {
 func takenFromClient(client, _ *Config, _ *[]byte) { client.Static = away{client.Static} }
 func takenFromServer(_, server *Config, _ *[]byte) { server.Static = away{server.Static} }
 
-// refusal runs a handshake until a message is refused or can't be written. A change is made to the Configs, with no message, and to the message at hand.
+// refusal runs a handshake until a message is refused or can't be written. A change is made to the Configs, with no
+// message, and to the message at hand.
 func refusal(t *testing.T, pattern string, message int, change func(client, server *Config, message *[]byte)) error {
 	t.Helper()
 	client, server := configs(t, pattern)

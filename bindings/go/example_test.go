@@ -93,8 +93,9 @@ func ExampleConn_Abort() {
 	go func() {
 		conn, err := noise.Server(there, config)
 		must(err)
-		defer conn.Close()                                                                        // after Abort it does nothing
-		source := io.MultiReader(strings.NewReader("a part"), iotest.ErrReader(io.ErrNoProgress)) // as a disk that fails
+		defer conn.Close() // after Abort it does nothing
+		// As a disk that fails.
+		source := io.MultiReader(strings.NewReader("a part"), iotest.ErrReader(io.ErrNoProgress))
 		if _, err := io.Copy(conn, source); err != nil {
 			conn.Abort()
 		}
@@ -156,7 +157,11 @@ func ExampleConfig_pSKFor() {
 		io.WriteString(conn, "hello")
 		conn.Close()
 	}()
-	conn, err := noise.Client(here, &noise.Config{Pattern: "XXpsk3", Static: clientKey, PSKs: []noise.PSK{psks[clientPublic]}})
+	conn, err := noise.Client(here, &noise.Config{
+		Pattern: "XXpsk3",
+		Static:  clientKey,
+		PSKs:    []noise.PSK{psks[clientPublic]},
+	})
 	must(err)
 	text, err := io.ReadAll(conn)
 	fmt.Println(string(text), err)
@@ -284,7 +289,8 @@ func ExampleHandshakeState_Datagrams() {
 	// true
 }
 
-// Packets of a protocol's own: the header is associated data, and its counter is the nonce. The receiver keeps a window of counters itself.
+// Packets of a protocol's own: the header is associated data, and its counter is the nonce. The receiver keeps a
+// window of counters itself.
 func ExampleCipherState() {
 	config := &noise.Config{Pattern: "NN", InsecureAcceptAnyKey: true}
 	a, err := noise.NewHandshakeState(config, true)

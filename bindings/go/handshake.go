@@ -10,8 +10,8 @@ import (
 
 // HandshakeState runs a handshake message by message. One goroutine at a time may use it.
 //
-// The parties write in turn, the initiator first. After the last message, Split, Datagrams or CipherStates uses it up. A refused message, or another party that isn't
-// accepted, ends it: each later call returns ErrEnded.
+// The parties write in turn, the initiator first. After the last message, Split, Datagrams or CipherStates uses it up.
+// A refused message, or another party that isn't accepted, ends it: each later call returns ErrEnded.
 type HandshakeState struct {
 	memory    *handshakeMemory
 	config    Config
@@ -43,8 +43,8 @@ func (k remoteKeys) with(m *message, received []byte) remoteKeys {
 	return k
 }
 
-// NewHandshakeState starts a handshake with a new ephemeral key pair. A *ConfigError says what is wrong with the Config. If it has neither PSKs nor
-// PSKFor, SetPSK passes the psks.
+// NewHandshakeState starts a handshake with a new ephemeral key pair. A *ConfigError says what is wrong with the
+// Config. If it has neither PSKs nor PSKFor, SetPSK passes the psks.
 func NewHandshakeState(config *Config, initiator bool) (*HandshakeState, error) {
 	ephemeral, err := GenerateKeyPair()
 	if err != nil {
@@ -59,7 +59,8 @@ func ofConn(config *Config, initiator bool, below net.Conn) (*HandshakeState, er
 	if err != nil {
 		return nil, err
 	}
-	return started(config, &HandshakeState{initiator: initiator, ephemeral: ephemeral, below: below, isOfConn: true}, false)
+	h := &HandshakeState{initiator: initiator, ephemeral: ephemeral, below: below, isOfConn: true}
+	return started(config, h, false)
 }
 
 // deep makes a call of the library that needs much stack.
@@ -115,7 +116,12 @@ func (h *HandshakeState) start() Code {
 	pattern, prologue := []byte(h.config.pattern()), h.config.Prologue
 	var code Code
 	h.deep(func() {
-		code = Code(library.Start(&h.memory.opaque, place(pattern), uint(len(pattern)), place(prologue), uint(len(prologue)), setup))
+		code = Code(library.Start(
+			&h.memory.opaque,
+			place(pattern), uint(len(pattern)),
+			place(prologue), uint(len(prologue)),
+			setup,
+		))
 		h.look()
 	})
 	return code
@@ -154,7 +160,8 @@ func (h *HandshakeState) MessageIndex() int {
 	return passed
 }
 
-// end ends the handshake at a token of the message that is due, and overwrites keys and X25519 results. A tokenError says itself at which.
+// end ends the handshake at a token of the message that is due, and overwrites keys and X25519 results. A
+// tokenError says itself at which.
 func (h *HandshakeState) end(token string, cause error) error {
 	fault := &HandshakeError{Message: h.next + 1, Token: token, Err: cause}
 	if at, ok := cause.(*tokenError); ok {
@@ -215,7 +222,8 @@ func (h *HandshakeState) verifyFirst(ctx context.Context) error {
 	return h.verify(ctx, "", Peer{})
 }
 
-// supply passes the X25519 result for a DH token to the library: of one of this party's key pairs and a public key of the other party.
+// supply passes the X25519 result for a DH token to the library: of one of this party's key pairs and a
+// public key of the other party.
 func (h *HandshakeState) supply(ctx context.Context, token string, remote PublicKey) error {
 	var own DH = h.ephemeral
 	of := byte(0)
@@ -255,8 +263,8 @@ func (h *HandshakeState) wanted(keys *remoteKeys) string {
 	return string([]byte{token[index(!h.initiator)], token[index(h.initiator)]})
 }
 
-// called makes a call of the library, and supplies the results of X25519 and the psks that it asks for. A *WantedPSKError leaves the handshake as it was;
-// after another error it has ended.
+// called makes a call of the library, and supplies the results of X25519 and the psks that it asks for. A
+// *WantedPSKError leaves the handshake as it was; after another error it has ended.
 func (h *HandshakeState) called(ctx context.Context, keys *remoteKeys, call func() uint32) (Code, error) {
 	result := &h.memory.result
 	for {
@@ -311,8 +319,9 @@ func (h *HandshakeState) choose(ctx context.Context) error {
 	return nil
 }
 
-// SetPSK passes the psk of the first psk token that has none: after a *WantedPSKError, or before. It is for a Config with neither PSKs nor PSKFor.
-// ErrPSKCount: no token that is still to come lacks its psk. A psk that was passed can't be replaced: if it is wrong, ReadMessage returns ErrTag.
+// SetPSK passes the psk of the first psk token that has none: after a *WantedPSKError, or before. It is for a Config
+// with neither PSKs nor PSKFor. ErrPSKCount: no token that is still to come lacks its psk. A psk that was passed can't
+// be replaced: if it is wrong, ReadMessage returns ErrTag.
 func (h *HandshakeState) SetPSK(psk PSK) error {
 	if h.ended != nil {
 		return h.ended
@@ -323,8 +332,8 @@ func (h *HandshakeState) SetPSK(psk PSK) error {
 	return asError(code)
 }
 
-// WriteMessage appends the next message, with this payload, to dst. ErrNotYourTurn, ErrDone, ErrTooLong and a *WantedPSKError leave the handshake as it
-// was.
+// WriteMessage appends the next message, with this payload, to dst. ErrNotYourTurn, ErrDone, ErrTooLong and a
+// *WantedPSKError leave the handshake as it was.
 func (h *HandshakeState) WriteMessage(dst, payload []byte) ([]byte, error) {
 	return h.WriteMessageContext(context.Background(), dst, payload)
 }
@@ -365,8 +374,8 @@ func (h *HandshakeState) WriteMessageContext(ctx context.Context, dst, payload [
 	return whole[:len(dst)+int(m.result.Len)], nil
 }
 
-// ReadMessage reads the message that is due, and appends its payload to dst. A *HandshakeError says what is wrong with the message, and the handshake has
-// ended; ErrNotYourTurn, ErrDone and a *WantedPSKError leave it as it was.
+// ReadMessage reads the message that is due, and appends its payload to dst. A *HandshakeError says what is wrong with
+// the message, and the handshake has ended; ErrNotYourTurn, ErrDone and a *WantedPSKError leave it as it was.
 func (h *HandshakeState) ReadMessage(dst, message []byte) ([]byte, error) {
 	return h.ReadMessageContext(context.Background(), dst, message)
 }
@@ -376,8 +385,9 @@ func (h *HandshakeState) ReadMessageContext(ctx context.Context, dst, message []
 	return h.readMessage(ctx, dst, message, library.Read)
 }
 
-// TryReadMessage is ReadMessageContext for messages that a stranger can send, as over UDP: also after a *HandshakeError the handshake is as it was, and
-// another message can be read in the place of the one that is refused. So a message that was altered, repeated or invented doesn't end the handshake.
+// TryReadMessage is ReadMessageContext for messages that a stranger can send, as over UDP: also after a *HandshakeError
+// the handshake is as it was, and another message can be read in the place of the one that is refused. So a message
+// that was altered, repeated or invented doesn't end the handshake.
 func (h *HandshakeState) TryReadMessage(ctx context.Context, dst, message []byte) ([]byte, error) {
 	if h.ended != nil {
 		return dst, h.ended
@@ -449,7 +459,8 @@ func (h *HandshakeState) read(ctx context.Context, received []byte, read readCal
 	return work[m.result.From : m.result.From+m.result.Len], nil
 }
 
-// verify decides whether the other party's static key is accepted, which is known from a token of a message, or from the start.
+// verify decides whether the other party's static key is accepted, which is known from a token of a
+// message, or from the start.
 func (h *HandshakeState) verify(ctx context.Context, token string, peer Peer) error {
 	isAccepted := false
 	defer func() {
@@ -487,7 +498,8 @@ func (h *HandshakeState) PeerStatic() (key PublicKey, known bool) {
 	return k.Bytes, true
 }
 
-// HandshakeHash returns the hash of what has passed so far. After the last message it is the same at both parties (the framework's 11.2).
+// HandshakeHash returns the hash of what has passed so far. After the last message it is the same at both
+// parties (the framework's 11.2).
 func (h *HandshakeState) HandshakeHash() (hash [KeyLen]byte) {
 	if h.memory != nil {
 		h.deep(func() { library.Hash(&h.memory.opaque, &hash[0]) })
@@ -526,8 +538,8 @@ func (h *HandshakeState) splitStream(s *streamSenderMemory, r *streamReceiverMem
 	return nil
 }
 
-// Datagrams returns the two directions for datagrams, after all messages have passed. A datagram may arrive after others whose nonces are less than
-// window greater; window is 64, 256 or 1024. The handshake is used up.
+// Datagrams returns the two directions for datagrams, after all messages have passed. A datagram may arrive after
+// others whose nonces are less than window greater; window is 64, 256 or 1024. The handshake is used up.
 func (h *HandshakeState) Datagrams(window int) (*DatagramSender, *DatagramReceiver, error) {
 	if h.ended != nil {
 		return nil, nil, h.ended
@@ -547,8 +559,8 @@ func (h *HandshakeState) Datagrams(window int) (*DatagramSender, *DatagramReceiv
 	return s, r, nil
 }
 
-// CipherStates returns the standard's CipherStates (the framework's 5.2), after all messages have passed: for a protocol whose packets have associated
-// data, name their nonces or have a form of their own. The handshake is used up.
+// CipherStates returns the standard's CipherStates (the framework's 5.2), after all messages have passed: for a
+// protocol whose packets have associated data, name their nonces or have a form of their own. The handshake is used up.
 func (h *HandshakeState) CipherStates() (send, receive *CipherState, err error) {
 	if h.ended != nil {
 		return nil, nil, h.ended

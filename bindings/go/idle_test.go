@@ -22,8 +22,8 @@ func rss(t *testing.T) int {
 	return kilobytes << 10
 }
 
-// TestIdlePairs opens NOISE_IDLE pairs, which then wait in Read: what a pair takes of the process's memory. The stacks, which a handshake has made grow, shrink
-// at garbage collections.
+// TestIdlePairs opens NOISE_IDLE pairs, which then wait in Read: what a pair takes of the process's memory. The stacks,
+// which a handshake has made grow, shrink at garbage collections.
 func TestIdlePairs(t *testing.T) {
 	count, err := strconv.Atoi(os.Getenv("NOISE_IDLE"))
 	if err != nil {

@@ -82,12 +82,14 @@ func (PSK) String() string { return hidden }
 // Format prints no byte of the key, for any verb of the package fmt.
 func (PSK) Format(to fmt.State, _ rune) { io.WriteString(to, hidden) }
 
-// DH is the static key pair of a party. The secret key may be in a device: nothing but the results of X25519 is asked of it.
+// DH is the static key pair of a party. The secret key may be in a device: nothing but the results
+// of X25519 is asked of it.
 type DH interface {
 	// Public returns the public key.
 	Public() PublicKey
-	// Agree returns X25519 of the secret key and this public key of the other party. An error ends the handshake, and so do zeros. The context is that of
-	// the handshake: it ends with that of HandshakeContext, at the time limit, and when the connection is closed.
+	// Agree returns X25519 of the secret key and this public key of the other party. An error ends the handshake, and
+	// so do zeros. The context is that of the handshake: it ends with that of HandshakeContext, at the time limit, and
+	// when the connection is closed.
 	Agree(ctx context.Context, remote PublicKey) (Secret, error)
 }
 
@@ -119,7 +121,8 @@ func NewKeyPair(secret Secret) (*KeyPair, error) {
 	return k, err
 }
 
-// LoadKeyPair returns the key pair whose secret key is in a file, as 64 hexadecimal digits. The command noisecat makes one: noisecat keygen -o FILE.
+// LoadKeyPair returns the key pair whose secret key is in a file, as 64 hexadecimal digits. The command noisecat makes
+// one: noisecat keygen -o FILE.
 func LoadKeyPair(file string) (*KeyPair, error) {
 	text, err := os.ReadFile(file)
 	if err != nil {
@@ -139,13 +142,14 @@ func (k *KeyPair) Public() PublicKey { return k.public }
 // Secret returns the secret key: keep it from others. After Wipe it is zeros.
 func (k *KeyPair) Secret() Secret { return k.secret.bytes() }
 
-// Agree returns X25519 of this secret key and a public one; ErrLowOrder if that is zeros, ErrClosed after Wipe. It ignores the context.
+// Agree returns X25519 of this secret key and a public one; ErrLowOrder if that is zeros, ErrClosed after
+// Wipe. It ignores the context.
 func (k *KeyPair) Agree(_ context.Context, remote PublicKey) (Secret, error) {
 	return k.secret.agree(&remote)
 }
 
-// Wipe forgets the secret key. With Go 1.20 or later its memory is that of crypto/ecdh, which is overwritten once the garbage collector has freed it and
-// something else takes its place.
+// Wipe forgets the secret key. With Go 1.20 or later its memory is that of crypto/ecdh, which is overwritten once the
+// garbage collector has freed it and something else takes its place.
 func (k *KeyPair) Wipe() { k.secret.wipe() }
 
 // Format prints the public key alone, for any verb of the package fmt.

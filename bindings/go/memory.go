@@ -65,7 +65,8 @@ func wipeAt(at unsafe.Pointer, size uintptr) { wipe(unsafe.Slice((*byte)(at), si
 
 var nothing [1]byte
 
-// place returns the address of a slice's bytes; for an empty slice, of a byte that nobody reads or writes: the library accepts no NULL.
+// place returns the address of a slice's bytes; for an empty slice, of a byte that nobody reads or writes: the
+// library accepts no NULL.
 func place(b []byte) *byte {
 	if len(b) == 0 {
 		return &nothing[0]

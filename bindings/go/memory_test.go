@@ -103,7 +103,13 @@ func TestLongestHandshakeMessage(t *testing.T) {
 	for _, it := range []struct {
 		payload, limit int
 		want           error
-	}{{4096, 0, nil}, {4097, 0, ErrTooLong}, {20000, 20048, nil}, {20001, 20048, ErrTooLong}, {MaxMessage - 48, MaxMessage, nil}} {
+	}{
+		{4096, 0, nil},
+		{4097, 0, ErrTooLong},
+		{20000, 20048, nil},
+		{20001, 20048, ErrTooLong},
+		{MaxMessage - 48, MaxMessage, nil},
+	} {
 		client, server := configs(t, "NNpsk2")
 		server.Payloads = [][]byte{nil, make([]byte, it.payload)} // message 2 has 48 bytes more
 		client.MaxHandshakeMessage = it.limit

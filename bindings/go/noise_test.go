@@ -168,7 +168,8 @@ func TestPatterns(t *testing.T) {
 				if a.HandshakeHash != b.HandshakeHash || a.HandshakeHash == [KeyLen]byte{} || !a.HandshakeComplete {
 					t.Fatal("the hashes differ")
 				}
-				if client.PeerStatic != nil && *a.PeerStatic != server.Static.Public() || a.ProtocolName != "Noise_"+pattern+suite {
+				if client.PeerStatic != nil && *a.PeerStatic != server.Static.Public() ||
+					a.ProtocolName != "Noise_"+pattern+suite {
 					t.Fatal("the state is wrong")
 				}
 				exchange(t, c, s)
@@ -251,14 +252,30 @@ func TestConfigFaults(t *testing.T) {
 		{"two psks", &Config{Pattern: "NNpsk0", PSKs: []PSK{psk, psk}}, "PSKs", ErrPSKCount},
 		{"no psk", &Config{Pattern: "NNpsk0", InsecureAcceptAnyKey: true}, "PSKs", ErrPSKCount},
 		{"ten psks", &Config{Pattern: "NNpsk0", PSKs: make([]PSK, 10)}, "PSKs", ErrPSKCount},
-		{"PSKs and PSKFor", &Config{Pattern: "NKpsk2", PeerStatic: key(k), PSKs: []PSK{psk}, PSKFor: psksFor}, "PSKFor", errTwo},
-		{"a psk too late", &Config{Pattern: "XXpsk1", Static: k, VerifyPeer: ok, PSKFor: psksFor}, "PSKFor", errPSKTooLate},
+		{
+			"PSKs and PSKFor",
+			&Config{Pattern: "NKpsk2", PeerStatic: key(k), PSKs: []PSK{psk}, PSKFor: psksFor},
+			"PSKFor", errTwo,
+		},
+		{
+			"a psk too late",
+			&Config{Pattern: "XXpsk1", Static: k, VerifyPeer: ok, PSKFor: psksFor},
+			"PSKFor", errPSKTooLate,
+		},
 		{"anybody", &Config{Static: k}, "VerifyPeer", ErrUnauthenticated},
 		{"anybody, without keys", &Config{Pattern: "NN"}, "VerifyPeer", ErrUnauthenticated},
 		{"a verifier that isn't asked", &Config{Pattern: "NN", VerifyPeer: ok}, "VerifyPeer", errNoKey},
 		{"PSKFor in a pattern without psks", &Config{Static: k, PSKFor: psksFor}, "PSKFor", ErrPSKCount},
-		{"an ephemeral key beforehand", &Config{Pattern: "EARLY:\n  <- e\n  ...\n  -> e, ee\n", InsecureAcceptAnyKey: true}, "Pattern", errEarly},
-		{"a long prologue", &Config{Static: k, VerifyPeer: ok, Prologue: make([]byte, MaxPrologue+1)}, "Prologue", ErrLength},
+		{
+			"an ephemeral key beforehand",
+			&Config{Pattern: "EARLY:\n  <- e\n  ...\n  -> e, ee\n", InsecureAcceptAnyKey: true},
+			"Pattern", errEarly,
+		},
+		{
+			"a long prologue",
+			&Config{Static: k, VerifyPeer: ok, Prologue: make([]byte, MaxPrologue+1)},
+			"Prologue", ErrLength,
+		},
 	} {
 		a, _ := net.Pipe()
 		_, err := Client(a, it.config)
@@ -381,7 +398,8 @@ func TestEnds(t *testing.T) {
 	}
 }
 
-// TestCutInAHandshake ends the connection between the messages of a handshake, within the length of one, and within one.
+// TestCutInAHandshake ends the connection between the messages of a handshake, within the
+// length of one, and within one.
 func TestCutInAHandshake(t *testing.T) {
 	for _, it := range []struct {
 		sent []byte

@@ -31,9 +31,12 @@ var tokenNames = [...]string{"", "e", "s", "ee", "es", "se", "ss", "psk", payloa
 
 // PatternError is a fault of a pattern text. It is an ErrPattern.
 type PatternError struct {
-	Line           int // of the text, counted from 1; 0 if the pattern breaks a rule of validity
-	Rule           int // the lowest rule, 1 to 5, that is broken at the first place where any is; 0 if the text has a fault
-	Message, Token int // where a rule is broken: the message, counted from 1, and the token, counted from 0
+	// Line is that of the text, counted from 1; 0 if the pattern breaks a rule of validity.
+	Line int
+	// Rule is the lowest rule, 1 to 5, that is broken at the first place where any is; 0 if the text has a fault.
+	Rule int
+	// Message and Token say where a rule is broken: the message is counted from 1, and the token from 0.
+	Message, Token int
 	code           Code
 }
 
@@ -42,7 +45,8 @@ func (e *PatternError) Error() string {
 	if e.Line > 0 {
 		return fmt.Sprintf("noise: line %d of the pattern text: %s", e.Line, texts[e.code])
 	}
-	return fmt.Sprintf("noise: the pattern breaks rule %d of validity in message %d, token %d", e.Rule, e.Message, e.Token)
+	return fmt.Sprintf("noise: the pattern breaks rule %d of validity in message %d, token %d",
+		e.Rule, e.Message, e.Token)
 }
 
 // Is reports whether an error is ErrPattern.
@@ -72,7 +76,12 @@ func (p *pattern) ask(text []byte) {
 		p.fault = ErrName
 		return
 	case codeRule:
-		p.fault = &PatternError{Rule: int(result.Rule), Message: int(result.Message), Token: int(result.Token), code: code}
+		p.fault = &PatternError{
+			Rule:    int(result.Rule),
+			Message: int(result.Message),
+			Token:   int(result.Token),
+			code:    code,
+		}
 		return
 	default:
 		p.fault = &PatternError{Line: int(result.Line), code: code}

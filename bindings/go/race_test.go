@@ -9,7 +9,8 @@ import (
 	"testing"
 )
 
-// TestRaceIsSeen runs itself with two goroutines of which one changes a payload while the other seals it: the race detector has to say so.
+// TestRaceIsSeen runs itself with two goroutines of which one changes a payload while the other seals it: the
+// race detector has to say so.
 func TestRaceIsSeen(t *testing.T) {
 	if os.Getenv("NOISE_RACES") != "" {
 		a, _ := finished(t, "NN")

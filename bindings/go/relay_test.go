@@ -16,7 +16,10 @@ import (
 // What a relay does at one byte of one direction.
 var relayFaults = []string{"flip", "cut", "repeat", "drop"}
 
-var relayTexts = [2][]string{{"a first text", "b", "the last of the client"}, {"1", "what the server has to say", "and good bye"}}
+var relayTexts = [2][]string{
+	{"a first text", "b", "the last of the client"},
+	{"1", "what the server has to say", "and good bye"},
+}
 
 // relayed is one session through a relay. `direction` is 0 for what the client sends.
 type relayed struct {
@@ -27,7 +30,8 @@ type relayed struct {
 	tail          []byte // what came in that direction from the fault's place on
 }
 
-// isAfterTheEnd says whether the fault is a byte more after all that came: a last byte, or one of several equal ones, is repeated.
+// isAfterTheEnd says whether the fault is a byte more after all that came: a last byte, or one of several
+// equal ones, is repeated.
 func (it *relayed) isAfterTheEnd() bool {
 	return it.fault == "repeat" && bytes.Count(it.tail, it.tail[:1]) == len(it.tail)
 }
@@ -41,10 +45,11 @@ type report struct {
 	afterRead, afterClosing error // of Write after Read has failed
 }
 
-// TestRelay runs two parties through a relay that flips, cuts, repeats or drops each byte of each direction, once, with both parties closing in each order and
-// by defer, and compares what each party reports with the theorem on streams: what was read is the first of what was written; an end is reported only if the
-// other party has ended its stream and all of it was read; else an error is, and after it nothing can be written, and no end is sent. With -short it is each
-// sixteenth byte.
+// TestRelay runs two parties through a relay that flips, cuts, repeats or drops each byte of each direction, once,
+// with both parties closing in each order and by defer, and compares what each party reports with the theorem on
+// streams: what was read is the first of what was written; an end is reported only if the other party has ended its
+// stream and all of it was read; else an error is, and after it nothing can be written, and no end is sent. With
+// -short it is each sixteenth byte.
 func TestRelay(t *testing.T) {
 	sessions, free := 0, make(chan bool, 32)
 	var running sync.WaitGroup
@@ -137,7 +142,8 @@ func goEnd(it *relayed, c *Conn, i int) chan report {
 	return ends
 }
 
-// end is one party, as a program would be written: it writes its texts and reads what comes at once, and closes by defer.
+// end is one party, as a program would be written: it writes its texts and reads what comes at
+// once, and closes by defer.
 func end(it *relayed, c *Conn, i int) (r report) {
 	defer func() {
 		r.afterClosing = func() error { _, err := c.Write([]byte("late")); return err }()

@@ -40,7 +40,8 @@ func (r *room) free(used int) {
 	spareRooms[r.class].Put(r)
 }
 
-// received are bytes that have come over a connection and aren't used yet. Their room grows with what comes, and is given back once all is used.
+// received are bytes that have come over a connection and aren't used yet. Their room grows with what comes, and is
+// given back once all is used.
 type received struct {
 	room       *room
 	start, end int // room.bytes[start:end] are the bytes

@@ -10,8 +10,11 @@ func TestSecretsOfAKey(t *testing.T) {
 	for _, it := range []struct {
 		pattern   string
 		initiator bool
-	}{{"IKpsk2", false}, {"IXpsk2", false}, {"XXpsk3", true}, {"XXpsk3", false}, {"IKpsk1", false}, {"KKpsk0", false}, {"KKpsk0", true}, {"IKpsk1+psk2", false},
-		{"XA1psk3:\n  -> e\n  <- e, ee, s, es\n  -> s, se, psk\n", true}} {
+	}{
+		{"IKpsk2", false}, {"IXpsk2", false}, {"XXpsk3", true}, {"XXpsk3", false}, {"IKpsk1", false},
+		{"KKpsk0", false}, {"KKpsk0", true}, {"IKpsk1+psk2", false},
+		{"XA1psk3:\n  -> e\n  <- e, ee, s, es\n  -> s, se, psk\n", true},
+	} {
 		client, server := configs(t, it.pattern)
 		asked, other := client, server.Static
 		if !it.initiator {
@@ -40,8 +43,12 @@ func TestKeyBeforeSecret(t *testing.T) {
 	for _, it := range []struct {
 		pattern           string
 		initiator, server bool
-	}{{"XXpsk3", true, true}, {"XXpsk2", true, false}, {"XXpsk1", false, false}, {"IKpsk2", true, true}, {"IKpsk1", true, true}, {"IKpsk0", true, false},
-		{"IXpsk1", false, true}, {"IXpsk0", false, false}, {"NNpsk2", false, false}, {"KKpsk0", true, true}, {"XXpsk0+psk3", false, false}} {
+	}{
+		{"XXpsk3", true, true}, {"XXpsk2", true, false}, {"XXpsk1", false, false},
+		{"IKpsk2", true, true}, {"IKpsk1", true, true}, {"IKpsk0", true, false},
+		{"IXpsk1", false, true}, {"IXpsk0", false, false},
+		{"NNpsk2", false, false}, {"KKpsk0", true, true}, {"XXpsk0+psk3", false, false},
+	} {
 		for i, may := range []bool{it.server, it.initiator} {
 			config, server := configs(t, it.pattern)
 			if i == 0 {
@@ -71,7 +78,8 @@ func secretsOf(one, two DH) (map[PublicKey]PSK, func(context.Context, PublicKey)
 	}
 }
 
-// TestSecretOfEachPeer runs a server that has a secret with each of two clients, with both; with a third; and with one that has another's secret.
+// TestSecretOfEachPeer runs a server that has a secret with each of two clients, with both; with a third; and with one
+// that has another's secret.
 func TestSecretOfEachPeer(t *testing.T) {
 	for _, it := range []struct {
 		pattern string
@@ -117,7 +125,10 @@ func TestFaultsOfPSKFor(t *testing.T) {
 	}{{nil, ErrPSKCount}, {make([]PSK, 2), ErrPSKCount}, {make([]PSK, 1), ErrTag}, {[]PSK{pskOf(1)}, errUnknown}} {
 		client, server := configs(t, "XXpsk3")
 		isAsked := false
-		server.PSKs, server.PSKFor = nil, func(context.Context, PublicKey) ([]PSK, error) { isAsked = true; return it.secrets, nil }
+		server.PSKs, server.PSKFor = nil, func(context.Context, PublicKey) ([]PSK, error) {
+			isAsked = true
+			return it.secrets, nil
+		}
 		server.VerifyPeer = func(context.Context, Peer) error {
 			if !isAsked {
 				t.Error("VerifyPeer is called before message 3 is accepted")

@@ -50,7 +50,8 @@ var wanted = [faults][]error{
 
 const soakMessages = 100
 
-// soaked is one channel of the soak: its fault strikes frame `at` of one direction, where the first after the handshake is 0.
+// soaked is one channel of the soak: its fault strikes frame `at` of one direction, where the first
+// after the handshake is 0.
 type soaked struct {
 	seed      int64
 	fault, at int
@@ -58,12 +59,13 @@ type soaked struct {
 	low, high [2]net.Conn // the relay's ends, and the parties': of the client, of the server
 }
 
-// TestSoak runs many channels at once over TCP, with 100 messages each way, through a relay that changes, loses, repeats and exchanges frames, and
-// cuts connections. What is handed out is what was sent, up to the fault; the error is of the fault's kind; in the other direction the first of what was
-// sent comes, and an end only after all of it; and nothing is left.
-// NOISE_SOAK is the count of channels, NOISE_SEED where the dice begin.
+// TestSoak runs many channels at once over TCP, with 100 messages each way, through a relay that changes, loses,
+// repeats and exchanges frames, and cuts connections. What is handed out is what was sent, up to the fault; the error
+// is of the fault's kind; in the other direction the first of what was sent comes, and an end only after all of it; and
+// nothing is left. NOISE_SOAK is the count of channels, NOISE_SEED where the dice begin.
 func TestSoak(t *testing.T) {
-	count, seed := atMost(t, number(t, "NOISE_SOAK", 1000)), int64(number(t, "NOISE_SEED", int(time.Now().UnixNano()&0xffffffff)))
+	count := atMost(t, number(t, "NOISE_SOAK", 1000))
+	seed := int64(number(t, "NOISE_SEED", int(time.Now().UnixNano()&0xffffffff)))
 	t.Logf("NOISE_SEED=%d NOISE_SOAK=%d", seed, count)
 	first, second := tcp(t) // so that what the network needs is there before it is counted
 	first.Close()
@@ -76,7 +78,12 @@ func TestSoak(t *testing.T) {
 	ready.Add(2 * count)
 	dice := rand.New(rand.NewSource(seed))
 	for i := 0; i < count; i++ {
-		it := &soaked{seed: seed + int64(i), fault: i % faults, at: dice.Intn(soakMessages), toServer: dice.Intn(2) == 0}
+		it := &soaked{
+			seed:     seed + int64(i),
+			fault:    i % faults,
+			at:       dice.Intn(soakMessages),
+			toServer: dice.Intn(2) == 0,
+		}
 		switch it.fault {
 		case unsaid:
 			it.at = soakMessages
@@ -90,15 +97,18 @@ func TestSoak(t *testing.T) {
 		go func() {
 			defer done.Done()
 			for _, fault := range it.run(client, server, &ready) {
-				t.Errorf("channel %d, fault %d at %d, to the server %v: %v", it.seed-seed, it.fault, it.at, it.toServer, fault)
+				t.Errorf("channel %d, fault %d at %d, to the server %v: %v",
+					it.seed-seed, it.fault, it.at, it.toServer, fault)
 			}
 		}()
 	}
 	done.Wait()
 	listener.Close()
-	for end := time.Now().Add(10 * time.Second); runtime.NumGoroutine() > goroutines || openDescriptors(t) > descriptors; {
+	end := time.Now().Add(10 * time.Second)
+	for runtime.NumGoroutine() > goroutines || openDescriptors(t) > descriptors {
 		if time.Now().After(end) {
-			t.Fatalf("%d goroutines and %d descriptors; before %d and %d", runtime.NumGoroutine(), openDescriptors(t), goroutines, descriptors)
+			t.Fatalf("%d goroutines and %d descriptors; before %d and %d",
+				runtime.NumGoroutine(), openDescriptors(t), goroutines, descriptors)
 		}
 		time.Sleep(10 * time.Millisecond)
 	}
@@ -177,7 +187,12 @@ func (it *soaked) payloads(from int) [][]byte {
 }
 
 // end is one party: it sends all, says that it is done, and compares what comes.
-func (it *soaked) end(begin func(net.Conn, *Config) (*Conn, error), config *Config, side int, ready *sync.WaitGroup) error {
+func (it *soaked) end(
+	begin func(net.Conn, *Config) (*Conn, error),
+	config *Config,
+	side int,
+	ready *sync.WaitGroup,
+) error {
 	below := it.high[side]
 	defer below.Close()
 	c, err := begin(below, config)
@@ -197,7 +212,8 @@ func (it *soaked) end(begin func(net.Conn, *Config) (*Conn, error), config *Conf
 		sent = goes(func() error { return it.send(c, side) })
 	}
 	got, err := readAll(c)
-	io.Copy(io.Discard, below) // what is unread when a connection is closed takes away what the other direction has on its way
+	// What is unread when a connection is closed takes away what the other direction has on its way.
+	io.Copy(io.Discard, below)
 	if err := <-sent; err != nil && it.fault == noFault {
 		return fmt.Errorf("writing: %w", err)
 	}

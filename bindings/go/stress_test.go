@@ -16,8 +16,9 @@ import (
 	"example.org/yulimosar/noise/internal/library"
 )
 
-// TestStress runs NOISE_STRESS handshakes, and messages, in many goroutines, while a CPU profile interrupts the library's code a thousand times a second, the
-// collector runs all the time and moves stacks, and profiles of all goroutines walk over their stacks.
+// TestStress runs NOISE_STRESS handshakes, and messages, in many goroutines, while a CPU profile interrupts the
+// library's code a thousand times a second, the collector runs all the time and moves stacks, and profiles of all
+// goroutines walk over their stacks.
 func TestStress(t *testing.T) {
 	count := 200
 	if n, err := strconv.Atoi(os.Getenv("NOISE_STRESS")); err == nil {

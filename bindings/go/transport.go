@@ -6,7 +6,8 @@ import (
 	"example.org/yulimosar/noise/internal/library"
 )
 
-// Sender seals transport messages. Any goroutine may call it; messages have to arrive in the order in which they were sealed.
+// Sender seals transport messages. Any goroutine may call it; messages have to arrive in the order
+// in which they were sealed.
 type Sender struct {
 	mutex  sync.Mutex
 	memory senderMemory
@@ -21,8 +22,9 @@ type Receiver struct {
 	closed bool
 }
 
-// Seal appends the next message to dst: 16 bytes longer than the payload, which has at most 65519. It allocates no memory if dst has room, unless that
-// room overlaps the payload. At an error nothing changes: ErrTooLong, ErrOneWay, ErrExhausted, ErrClosed.
+// Seal appends the next message to dst: 16 bytes longer than the payload, which has at most 65519. It allocates no
+// memory if dst has room, unless that room overlaps the payload. At an error nothing changes: ErrTooLong, ErrOneWay,
+// ErrExhausted, ErrClosed.
 func (s *Sender) Seal(dst, payload []byte) ([]byte, error) {
 	s.mutex.Lock()
 	whole, err := s.seal(dst, payload)
@@ -41,7 +43,12 @@ func (s *Sender) seal(dst, payload []byte) ([]byte, error) {
 	payload = apart(room, payload, &s.spare)
 	reads(payload)
 	writes(room)
-	code := library.Seal(&s.memory.opaque, place(payload), uint(len(payload)), place(room), uint(len(room)), &s.memory.result)
+	code := library.Seal(
+		&s.memory.opaque,
+		place(payload), uint(len(payload)),
+		place(room), uint(len(room)),
+		&s.memory.result,
+	)
 	if code != 0 {
 		return dst, Code(code)
 	}
@@ -68,8 +75,9 @@ func (s *Sender) Close() error {
 	return nil
 }
 
-// Open opens the next message, and appends its payload to dst; dst may be message[:0]. It allocates no memory if dst has room for the message. At an error
-// nothing changes: ErrTag, ErrShort, ErrLength, ErrOneWay, ErrExhausted, ErrClosed. Over a stream close at the first ErrTag or ErrShort.
+// Open opens the next message, and appends its payload to dst; dst may be message[:0]. It allocates no memory if dst
+// has room for the message. At an error nothing changes: ErrTag, ErrShort, ErrLength, ErrOneWay, ErrExhausted,
+// ErrClosed. Over a stream close at the first ErrTag or ErrShort.
 func (r *Receiver) Open(dst, message []byte) ([]byte, error) {
 	r.mutex.Lock()
 	whole, err := r.open(dst, message)

@@ -6,8 +6,8 @@ import (
 	"testing"
 )
 
-// TestTryReadMessage tries what strangers send in the place of each message of several patterns: altered, cut, longer, repeated and other messages, and keys
-// of which X25519 is zeros. Then the right one comes.
+// TestTryReadMessage tries what strangers send in the place of each message of several patterns: altered, cut, longer,
+// repeated and other messages, and keys of which X25519 is zeros. Then the right one comes.
 func TestTryReadMessage(t *testing.T) {
 	ctx := context.Background()
 	for _, pattern := range []string{"IK", "IKpsk2", "NNpsk0", "KK", "Kpsk0", "IKpsk1", "XX", "XXpsk3"} {
@@ -21,8 +21,14 @@ func TestTryReadMessage(t *testing.T) {
 			message, err := w.WriteMessage(nil, []byte("payload"))
 			must(t, err)
 			hash := r.HandshakeHash()
-			isPlain := len(before) == 0 && pattern[:2] == "XX" // nothing of this message is encrypted: an altered one can't be told
-			junk := append([][]byte{nil, make([]byte, len(message)), append(append([]byte(nil), message...), 0), make([]byte, MaxMessage+1)}, before...)
+			// Nothing of this message is encrypted: an altered one can't be told.
+			isPlain := len(before) == 0 && pattern[:2] == "XX"
+			junk := append([][]byte{
+				nil,
+				make([]byte, len(message)),
+				append(append([]byte(nil), message...), 0),
+				make([]byte, MaxMessage+1),
+			}, before...)
 			if isPlain {
 				junk = [][]byte{nil, message[:31], make([]byte, MaxMessage+1)}
 			}
@@ -65,7 +71,8 @@ func TestTryReadMessage(t *testing.T) {
 	}
 }
 
-// TestTryAfterARefusal has a server whose VerifyPeer refuses one client, and one that panics: the next client is accepted by the same handshake.
+// TestTryAfterARefusal has a server whose VerifyPeer refuses one client, and one that panics: the next client is
+// accepted by the same handshake.
 func TestTryAfterARefusal(t *testing.T) {
 	client, server := configs(t, "IK")
 	other := *client

@@ -16,10 +16,19 @@ func TestSecretsDontPrint(t *testing.T) {
 	own := pair(t)
 	secret, psk := own.Secret(), pskOf(0xa7)
 	config := &Config{Static: own, PSKs: []PSK{psk}}
-	forbidden := []string{hex.EncodeToString(psk[:]), fmt.Sprint([KeyLen]byte(psk)), hex.EncodeToString(secret[:]), fmt.Sprint([KeyLen]byte(secret)),
-		strings.Trim(fmt.Sprintf("%#v", [KeyLen]byte(secret)), "[32]uint8{}"), strings.Trim(fmt.Sprintf("%#v", [KeyLen]byte(psk)), "[32]uint8{}")}
+	forbidden := []string{
+		hex.EncodeToString(psk[:]),
+		fmt.Sprint([KeyLen]byte(psk)),
+		hex.EncodeToString(secret[:]),
+		fmt.Sprint([KeyLen]byte(secret)),
+		strings.Trim(fmt.Sprintf("%#v", [KeyLen]byte(secret)), "[32]uint8{}"),
+		strings.Trim(fmt.Sprintf("%#v", [KeyLen]byte(psk)), "[32]uint8{}"),
+	}
 	for _, verb := range []string{"%v", "%+v", "%#v", "%s", "%q", "%x", "%X", "%d", "%t"} {
-		for _, what := range []any{secret, &secret, psk, &psk, own, *own, config, *config, []PSK{psk}, map[PublicKey]PSK{own.Public(): psk}} {
+		for _, what := range []any{
+			secret, &secret, psk, &psk, own, *own, config, *config,
+			[]PSK{psk}, map[PublicKey]PSK{own.Public(): psk},
+		} {
 			said := strings.ToLower(fmt.Sprintf(verb, what))
 			for _, it := range forbidden {
 				if strings.Contains(said, it) {
@@ -33,7 +42,13 @@ func TestSecretsDontPrint(t *testing.T) {
 func TestPublicKeysPrint(t *testing.T) {
 	key := PublicKey{0xab, 1}
 	digits := "ab01" + strings.Repeat("00", 30)
-	for verb, want := range map[string]string{"%v": digits, "%s": digits, "%x": digits, "%X": strings.ToUpper(digits), "%q": `"` + digits + `"`} {
+	for verb, want := range map[string]string{
+		"%v": digits,
+		"%s": digits,
+		"%x": digits,
+		"%X": strings.ToUpper(digits),
+		"%q": `"` + digits + `"`,
+	} {
 		if got := fmt.Sprintf(verb, key); got != want {
 			t.Errorf("%s: %s", verb, got)
 		}
@@ -55,7 +70,8 @@ func TestPublicKeysPrint(t *testing.T) {
 	}
 }
 
-// TestNonceOfEachPacket encrypts from many goroutines packets whose header has the nonce, and opens them in another order.
+// TestNonceOfEachPacket encrypts from many goroutines packets whose header has the nonce, and
+// opens them in another order.
 func TestNonceOfEachPacket(t *testing.T) {
 	s, r, back := ciphers(t, "NN")
 	const each = 1000
@@ -68,7 +84,8 @@ func TestNonceOfEachPacket(t *testing.T) {
 			for k := 0; k < each; k++ {
 				packet := make([]byte, 4, 100)
 				packet, err := s.EncryptNext(packet, []byte("text"), func(nonce uint64) []byte {
-					packet[0], packet[1], packet[2], packet[3] = byte(nonce>>24), byte(nonce>>16), byte(nonce>>8), byte(nonce)
+					packet[0], packet[1] = byte(nonce>>24), byte(nonce>>16)
+					packet[2], packet[3] = byte(nonce>>8), byte(nonce)
 					return packet
 				})
 				if err != nil {
@@ -86,7 +103,8 @@ func TestNonceOfEachPacket(t *testing.T) {
 		_, err := r.DecryptAt(nonce+1, nil, packet[:4], packet[4:])
 		wants(t, err, ErrTag)
 		before := r.Nonce()
-		if text, err := r.DecryptAt(nonce, nil, packet[:4], packet[4:]); err != nil || string(text) != "text" || used[nonce] {
+		text, err := r.DecryptAt(nonce, nil, packet[:4], packet[4:])
+		if err != nil || string(text) != "text" || used[nonce] {
 			t.Fatalf("nonce %d: %q, %v", nonce, text, err)
 		}
 		if used[nonce] = true; r.Nonce() != nonce+1 || before != r.Nonce() && i == len(packets)-1 && before != 0 {
@@ -105,7 +123,8 @@ func TestNonceOfEachPacket(t *testing.T) {
 	wants(t, err, ErrClosed)
 }
 
-// TestPeerHasPayloadAndAddress verifies a certificate, which the payload beside the key is, and answers with a payload of the peer's own.
+// TestPeerHasPayloadAndAddress verifies a certificate, which the payload beside the key is, and answers with a
+// payload of the peer's own.
 func TestPeerHasPayloadAndAddress(t *testing.T) {
 	refused := errors.New("no certificate of this key")
 	for pattern, message := range map[string]int{"XX": 3, "IX": 1, "IK": 1} {
@@ -122,7 +141,8 @@ func TestPeerHasPayloadAndAddress(t *testing.T) {
 				return own[:], nil
 			}
 			server.PayloadFor = func(_ context.Context, peer Peer) ([]byte, error) {
-				if peer.Message != 1 || string(peer.Payload) != string(own[:]) || peer.Static != client.Static.Public() && pattern != "XX" {
+				if peer.Message != 1 || string(peer.Payload) != string(own[:]) ||
+					peer.Static != client.Static.Public() && pattern != "XX" {
 					t.Errorf("%+v", peer)
 				}
 				return []byte("for you"), nil
@@ -152,7 +172,8 @@ func TestPeerHasPayloadAndAddress(t *testing.T) {
 	wants(t, client.Check(true), errTwoOf)
 }
 
-// TestPatternFaults has pattern texts with a fault in a line, and one that breaks a rule: se needs the initiator's s, which isn't sent (the framework's 7.3).
+// TestPatternFaults has pattern texts with a fault in a line, and one that breaks a rule: se needs the initiator's s,
+// which isn't sent (the framework's 7.3).
 func TestPatternFaults(t *testing.T) {
 	for text, want := range map[string]PatternError{
 		"MINE:\n  -> e\n  <- e, eee\n":            {Line: 3},
@@ -163,7 +184,8 @@ func TestPatternFaults(t *testing.T) {
 		key := pair(t)
 		err := (&Config{Pattern: text, Static: key, InsecureAcceptAnyKey: true}).Check(true)
 		var fault *PatternError
-		if !errors.Is(err, ErrPattern) || !errors.As(err, &fault) || fault.Line != want.Line || fault.Rule > 0 != (want.Rule > 0) {
+		if !errors.Is(err, ErrPattern) || !errors.As(err, &fault) ||
+			fault.Line != want.Line || fault.Rule > 0 != (want.Rule > 0) {
 			t.Errorf("%q: %v", text, err)
 		}
 	}

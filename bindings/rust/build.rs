@@ -1,5 +1,6 @@
-// Writes the library's text for this target to OUT_DIR/assembly.s, with names of this version alone: so another version of the crate, or the static library
-// for C, can be in the same program, and the compiler can join their texts. OUT_DIR/assembly.rs hands it to rustc's assembler, or says that there is none.
+// Writes the library's text for this target to OUT_DIR/assembly.s, with names of this version alone: so another version
+// of the crate, or the static library for C, can be in the same program, and the compiler can join their texts.
+// OUT_DIR/assembly.rs hands it to rustc's assembler, or says that there is none.
 use std::collections::{HashMap, HashSet};
 use std::path::{Path, PathBuf};
 use std::{env, fs};
@@ -28,7 +29,10 @@ fn main() {
             fs::write(out.join("assembly.s"), for_target(&renamed(&assembly, &prefix)))
                 .expect("OUT_DIR can be written");
             let options = if text.is_att { "raw, att_syntax" } else { "raw" };
-            format!("core::arch::global_asm!(include_str!(concat!(env!(\"OUT_DIR\"), \"/assembly.s\")), options({options}));\n")
+            format!(
+                "core::arch::global_asm!(include_str!(concat!(env!(\"OUT_DIR\"), \"/assembly.s\")), \
+                 options({options}));\n"
+            )
         }
         Err(why) => format!("compile_error!({why:?});\n"),
     };
@@ -45,7 +49,8 @@ fn find() -> Result<Text, String> {
     let (os, arch, vendor, features) = (of("OS"), of("ARCH"), of("VENDOR"), of("FEATURE"));
     let missing = || {
         format!(
-            "yulimosar has no code for the target {}: build the C library noise_c for it (packaging/build --library), and link that by the feature `system`",
+            "yulimosar has no code for the target {}: build the C library noise_c for it (packaging/build --library), \
+             and link that by the feature `system`",
             variable("TARGET")
         )
     };
@@ -68,8 +73,8 @@ fn find() -> Result<Text, String> {
     Ok(Text { file, is_att: arch == "x86_64" })
 }
 
-/// The text as this target needs it. The MSVC runtime has another name for the function that large frames call, which on x86-64 does what that of mingw-w64
-/// does. The text for macOS says so, and is right for each system of Apple.
+/// The text as this target needs it. The MSVC runtime has another name for the function that large frames call, which
+/// on x86-64 does what that of mingw-w64 does. The text for macOS says so, and is right for each system of Apple.
 fn for_target(assembly: &str) -> String {
     let of = |name: &str| env::var(format!("CARGO_CFG_TARGET_{name}")).unwrap_or_default();
     match (of("ENV").as_str(), of("VENDOR").as_str()) {
@@ -79,7 +84,8 @@ fn for_target(assembly: &str) -> String {
     }
 }
 
-/// The text with a prefix in each name that it defines, and in no other. Not every assembler takes a quoted name everywhere: so none is left.
+/// The text with a prefix in each name that it defines, and in no other. Not every assembler takes a quoted name
+/// everywhere: so none is left.
 fn renamed(assembly: &str, prefix: &str) -> String {
     let names: HashMap<&str, String> =
         assembly.lines().filter_map(label).map(|name| (name, new_name(name, prefix))).collect();
@@ -121,7 +127,8 @@ fn token_len(text: &str) -> usize {
     }
 }
 
-/// How many bytes stand before a name for the assembler or the linker: `.L`, `L` and `l` make it local, and Mach-O has `_` before each name of C.
+/// How many bytes stand before a name for the assembler or the linker: `.L`, `L` and `l` make it local, and Mach-O has
+/// `_` before each name of C.
 fn mark_len(name: &str) -> usize {
     let marks: &[&str] = match env::var("CARGO_CFG_TARGET_VENDOR").as_deref() {
         Ok("apple") => &["L", "l", "_"],

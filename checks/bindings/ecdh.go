@@ -1,4 +1,5 @@
-// Package ecdh is what the package noise uses of crypto/ecdh, which Go has since 1.20: with it checks/bindings/run compiles that source by an older Go.
+// Package ecdh is what the package noise uses of crypto/ecdh, which Go has since 1.20: with it checks/bindings/run
+// compiles that source by an older Go.
 package ecdh
 
 import (

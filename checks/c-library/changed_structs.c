@@ -1,6 +1,6 @@
-// Opaque structs that no call has left: each byte of some changed to other values, some bytes of a random choice, and structs of random bytes,
-// each handed to each call. A call has to answer one of its codes; and all that it is handed ends right in front of memory that may not be
-// touched, so that a read or a write beyond it stops the check.
+// Opaque structs that no call has left: each byte of some changed to other values, some bytes of a random choice, and
+// structs of random bytes, each handed to each call. A call has to answer one of its codes; and all that it is handed
+// ends right in front of memory that may not be touched, so that a read or a write beyond it stops the check.
 #include "ends.h"
 
 enum { MOST = 300, SNAPSHOTS = 40, RANDOM_ROUNDS = 1000 };
@@ -29,8 +29,8 @@ static uint64_t *nonce;
 static size_t *len;
 static unsigned long calls, usable;
 
-static const uint64_t handshake_faults = CODE(NOISE_STRUCT) | CODE(NOISE_ENDED) | CODE(NOISE_DONE) | CODE(NOISE_NOT_YOUR_TURN) | CODE(NOISE_WANTED)
-    | CODE(NOISE_WANTED_PSK);
+static const uint64_t handshake_faults = CODE(NOISE_STRUCT) | CODE(NOISE_ENDED) | CODE(NOISE_DONE)
+    | CODE(NOISE_NOT_YOUR_TURN) | CODE(NOISE_WANTED) | CODE(NOISE_WANTED_PSK);
 
 static void make_places(void) {
     h = (noise_handshake *)place_at_edge(sizeof *h);
@@ -72,8 +72,8 @@ static void must_be(uint32_t code, uint64_t codes) {
 
 static const uint64_t seal_faults = CODE(NOISE_STRUCT) | CODE(NOISE_ONE_WAY) | CODE(NOISE_EXHAUSTED);
 static const uint64_t open_faults = CODE(NOISE_STRUCT) | CODE(NOISE_ONE_WAY) | CODE(NOISE_EXHAUSTED) | CODE(NOISE_TAG);
-static const uint64_t datagram_faults =
-    CODE(NOISE_STRUCT) | CODE(NOISE_ONE_WAY) | CODE(NOISE_RESERVED) | CODE(NOISE_OLD) | CODE(NOISE_REPEATED) | CODE(NOISE_TAG);
+static const uint64_t datagram_faults = CODE(NOISE_STRUCT) | CODE(NOISE_ONE_WAY) | CODE(NOISE_RESERVED)
+    | CODE(NOISE_OLD) | CODE(NOISE_REPEATED) | CODE(NOISE_TAG);
 
 // Seals and opens with halves of any content.
 static void use_halves(const noise_sender *sender, const noise_receiver *receiver, const uint8_t *message) {
@@ -92,7 +92,8 @@ static void use_halves(const noise_sender *sender, const noise_receiver *receive
     must_be(noise_receiver_nonce(tr, nonce), CODE(NOISE_STRUCT));
 }
 
-static void use_datagram_halves(const noise_datagram_sender *sender, const noise_datagram_receiver *receiver, const uint8_t *datagram) {
+static void use_datagram_halves(const noise_datagram_sender *sender, const noise_datagram_receiver *receiver,
+                                const uint8_t *datagram) {
     *ds = *sender;
     *dr = *receiver;
     uint32_t code = noise_datagram_seal(ds, bytes_of(1, 0, 24), 24, bytes_of(0, 0, 48), 48, result);
@@ -122,7 +123,8 @@ static void use_ciphers(const noise_cipher *send, const noise_cipher *receive, c
     must_be(noise_cipher_set_nonce(cr, 5), held);
 }
 
-static void use_stream(const noise_stream_sender *sender, const noise_stream_receiver *receiver, const uint8_t *message) {
+static void use_stream(const noise_stream_sender *sender, const noise_stream_receiver *receiver,
+                       const uint8_t *message) {
     uint8_t frame[42] = {0, 40};
     memcpy(frame + 2, message, 40);
     *xs = *sender;
@@ -239,7 +241,8 @@ static void try_bytes(const snapshot *s) {
 static void try_random(const snapshot *s) {
     for (unsigned round = 0; round < RANDOM_ROUNDS; round++) {
         snapshot changed = *s;
-        for (unsigned n = 1 + random_number() % 12; n; n--) changed.h.opaque[random_number() % sizeof s->h] = (uint8_t)random_number();
+        for (unsigned n = 1 + random_number() % 12; n; n--)
+            changed.h.opaque[random_number() % sizeof s->h] = (uint8_t)random_number();
         use_handshake(&changed);
     }
 }
@@ -282,7 +285,8 @@ static void read_and_keep(end *reader, uint8_t message[MOST], size_t size, snaps
     MUST(code == NOISE_OK);
 }
 
-// The handshakes at each stage of a run: before each write and each read that succeeds, at the end, and ended by a refused message.
+// The handshakes at each stage of a run: before each write and each read that succeeds, at the end, and
+// ended by a refused message.
 static unsigned run_of(const plan *p, snapshot *at) {
     end ends[2] = {begin(p, 0), begin(p, 1)};
     unsigned count = 0;
@@ -299,7 +303,8 @@ static unsigned run_of(const plan *p, snapshot *at) {
     return count;
 }
 
-// Structs with a changed byte, with some random ones, and of random bytes alone: all that one party has after a handshake.
+// Structs with a changed byte, with some random ones, and of random bytes alone: all that one
+// party has after a handshake.
 typedef struct {
     transport t;
     datagrams d;
@@ -323,10 +328,13 @@ static void try_opened(const plan *p) {
     unsigned taker = p->one_way;                         // who can take messages, of the other
     pass_all(p, ends);
     MUST(finish(&ends[taker].h, 3, &right.t) == NOISE_OK && finish(&ends[!taker].h, 3, &other) == NOISE_OK);
-    MUST(finish_datagrams(&ends[taker].h, 256, &right.d) == NOISE_OK && finish_datagrams(&ends[!taker].h, 256, &others) == NOISE_OK);
-    MUST(finish_cipher_states(&ends[taker].h, &right.send, &right.receive) == NOISE_OK && finish_stream(&ends[taker].h, 3, &right.x) == NOISE_OK);
+    MUST(finish_datagrams(&ends[taker].h, 256, &right.d) == NOISE_OK
+        && finish_datagrams(&ends[!taker].h, 256, &others) == NOISE_OK);
+    MUST(finish_cipher_states(&ends[taker].h, &right.send, &right.receive) == NOISE_OK
+        && finish_stream(&ends[taker].h, 3, &right.x) == NOISE_OK);
     MUST(noise_seal(&other.s, public_key(1, true), 24, message, 40, result) == NOISE_OK);
-    for (unsigned i = 0; i < 5; i++) MUST(noise_datagram_seal(&others.s, public_key(1, true), 24, datagram, 48, result) == NOISE_OK);
+    for (unsigned i = 0; i < 5; i++)
+        MUST(noise_datagram_seal(&others.s, public_key(1, true), 24, datagram, 48, result) == NOISE_OK);
     for (size_t i = 0; i < sizeof right; i++)
         for (size_t v = 0; v < sizeof values; v++) {
             opened changed = right;
@@ -335,7 +343,8 @@ static void try_opened(const plan *p) {
         }
     for (unsigned round = 0; round < RANDOM_ROUNDS; round++) {
         opened changed = right;
-        for (unsigned n = random_number() % 20; n; n--) ((uint8_t *)&changed)[random_number() % sizeof changed] = (uint8_t)random_number();
+        for (unsigned n = random_number() % 20; n; n--)
+            ((uint8_t *)&changed)[random_number() % sizeof changed] = (uint8_t)random_number();
         use_opened(&changed, message, datagram);
         fill_randomly((uint8_t *)&changed, sizeof changed);
         use_opened(&changed, message, datagram);
@@ -349,8 +358,9 @@ static void try_patterns(const plan *p) {
     noise_setup *setup = (noise_setup *)place_at_edge(sizeof *setup);
     const char *pattern = p->text[0] ? p->text : p->name;
     size_t size = strlen(pattern);
-    const uint64_t faults = CODE(NOISE_NAME) | CODE(NOISE_PATTERN) | CODE(NOISE_EPHEMERAL_MISSING) | CODE(NOISE_STATIC_MISSING)
-        | CODE(NOISE_REMOTE_MISSING) | CODE(NOISE_REMOTE_UNEXPECTED) | CODE(NOISE_PSK_COUNT);
+    const uint64_t faults = CODE(NOISE_NAME) | CODE(NOISE_PATTERN) | CODE(NOISE_EPHEMERAL_MISSING)
+        | CODE(NOISE_STATIC_MISSING) | CODE(NOISE_REMOTE_MISSING) | CODE(NOISE_REMOTE_UNEXPECTED)
+        | CODE(NOISE_PSK_COUNT);
     static const char others[] = "\n :>-.,ekps0189AZ_\x80\xff";
     for (size_t i = 0; i <= size; i++)
         for (size_t v = 0; v < sizeof others; v++) {     // the zero after them is tried too
@@ -372,7 +382,8 @@ void check_changed_structs(void) {
     static snapshot at[SNAPSHOTS];
     make_places();
     plan plans[] = {
-        plan_of("XX", -1), plan_of("IK", 2), plan_of_text("NK1:\n  <- s\n  ...\n  -> e\n  <- e, ee, es\n", "NK", 0, true), plan_of("K", 0),
+        plan_of("XX", -1), plan_of("IK", 2),
+        plan_of_text("NK1:\n  <- s\n  ...\n  -> e\n  <- e, ee, es\n", "NK", 0, true), plan_of("K", 0),
     };
     unsigned stages = 0;
     for (size_t i = 0; i < sizeof plans / sizeof *plans; i++) {

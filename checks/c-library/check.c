@@ -1,5 +1,5 @@
-// The library as C calls it. check FOLDER writes vector files, and what `noise talk` has to print for them, into FOLDER. check FOLDER files does no more
-// than that.
+// The library as C calls it. check FOLDER writes vector files, and what `noise talk` has to print for them, into
+// FOLDER. check FOLDER files does no more than that.
 #include "ends.h"
 
 static void check_declared_sizes(void) {
@@ -9,7 +9,8 @@ static void check_declared_sizes(void) {
     MUST(noise_datagram_sender_size() == sizeof(noise_datagram_sender));
     MUST(noise_datagram_receiver_size() == sizeof(noise_datagram_receiver));
     MUST(noise_version() == NOISE_VERSION);
-    MUST(noise_stream_sender_size() == sizeof(noise_stream_sender) && noise_stream_receiver_size() == sizeof(noise_stream_receiver));
+    MUST(noise_stream_sender_size() == sizeof(noise_stream_sender)
+        && noise_stream_receiver_size() == sizeof(noise_stream_receiver));
     MUST(noise_cipher_size() == sizeof(noise_cipher));
 }
 

@@ -1,11 +1,13 @@
-// Cipher states: beside the transport of the same handshake, with associated data, with named nonces, and what is refused.
+// Cipher states: beside the transport of the same handshake, with associated data, with named
+// nonces, and what is refused.
 #include "ends.h"
 
 enum { ROOM = 120, ROUNDS = 20 };
 
 static uint8_t first[NOISE_MAX_MESSAGE + 20], second[NOISE_MAX_MESSAGE + 20], payload[NOISE_MAX_MESSAGE + 20];
 
-static void open_pair(const char *pattern, uint64_t interval, noise_cipher send[2], noise_cipher receive[2], transport t[2]) {
+static void open_pair(const char *pattern, uint64_t interval, noise_cipher send[2], noise_cipher receive[2],
+                      transport t[2]) {
     plan p = plan_of(pattern, -1);
     end ends[2] = {begin(&p, 0), begin(&p, 1)};
     pass_all(&p, ends);
@@ -22,7 +24,8 @@ static void must_be_at(const noise_cipher *c, uint64_t nonce) {
     MUST(noise_cipher_nonce(c, &at) == NOISE_OK && at == nonce);
 }
 
-// Without associated data a message is the transport message of its nonce; a rekey after each `interval` messages is the transport's.
+// Without associated data a message is the transport message of its nonce; a rekey after each `interval`
+// messages is the transport's.
 static void check_beside_transport(uint64_t interval) {
     noise_cipher send[2], receive[2];
     transport t[2];
@@ -35,10 +38,13 @@ static void check_beside_transport(uint64_t interval) {
             must_be_at(&send[role], n);
             memcpy(first, payload, len);
             memset(first + len, 0x55, ROOM - len);
-            MUST(noise_cipher_encrypt(&send[role], NULL, 0, first, ROOM, len, &result) == NOISE_OK && result.from == 0 && result.len == len + 16);
+            MUST(noise_cipher_encrypt(&send[role], NULL, 0, first, ROOM, len, &result) == NOISE_OK && result.from == 0
+                && result.len == len + 16);
             MUST(first[len + 16] == 0x55);
-            MUST(noise_seal(&t[role].s, payload, len, second, ROOM, &result) == NOISE_OK && !memcmp(first, second, len + 16));
-            MUST(noise_cipher_decrypt(&receive[!role], NULL, 0, first, len + 16, &result) == NOISE_OK && result.from == 0 && result.len == len);
+            MUST(noise_seal(&t[role].s, payload, len, second, ROOM, &result) == NOISE_OK
+                && !memcmp(first, second, len + 16));
+            MUST(noise_cipher_decrypt(&receive[!role], NULL, 0, first, len + 16, &result) == NOISE_OK
+                && result.from == 0 && result.len == len);
             MUST(!memcmp(first, payload, len));
             if (interval && (n + 1) % interval == 0) {
                 MUST(noise_cipher_rekey(&send[role]) == NOISE_OK && noise_cipher_rekey(&receive[!role]) == NOISE_OK);
@@ -47,14 +53,17 @@ static void check_beside_transport(uint64_t interval) {
         }
 }
 
-static void must_not_decrypt(noise_cipher *c, const uint8_t *ad, size_t ad_len, const uint8_t *message, size_t len, uint32_t code) {
+static void must_not_decrypt(noise_cipher *c, const uint8_t *ad, size_t ad_len, const uint8_t *message, size_t len,
+                             uint32_t code) {
     noise_cipher old = *c;
     noise_result result;
     memcpy(second, message, len);
-    MUST(noise_cipher_decrypt(c, ad, ad_len, second, len, &result) == code && !memcmp(&old, c, sizeof old) && !memcmp(second, message, len));
+    MUST(noise_cipher_decrypt(c, ad, ad_len, second, len, &result) == code && !memcmp(&old, c, sizeof old)
+        && !memcmp(second, message, len));
 }
 
-static void must_not_encrypt(noise_cipher *c, const uint8_t *ad, size_t ad_len, size_t room, size_t len, uint32_t code) {
+static void must_not_encrypt(noise_cipher *c, const uint8_t *ad, size_t ad_len, size_t room, size_t len,
+                             uint32_t code) {
     noise_cipher old = *c;
     noise_result result;
     memset(second, 0x33, sizeof second);
@@ -73,12 +82,14 @@ static void check_data(void) {
     for (unsigned n = 0; n < 4; n++) {
         fill(payload, 30, n);
         memcpy(sealed[n], payload, 30);
-        MUST(noise_cipher_encrypt(&send[0], head, sizeof head, sealed[n], ROOM, 30, &result) == NOISE_OK && result.len == 46);
+        MUST(noise_cipher_encrypt(&send[0], head, sizeof head, sealed[n], ROOM, 30, &result) == NOISE_OK
+            && result.len == 46);
     }
     must_not_decrypt(&receive[1], head, sizeof head - 1, sealed[0], 46, NOISE_TAG);
     must_not_decrypt(&receive[1], NULL, 0, sealed[0], 46, NOISE_TAG);
     must_not_decrypt(&receive[1], head, sizeof head, sealed[1], 46, NOISE_TAG);
-    for (size_t len = 0; len < 46; len++) must_not_decrypt(&receive[1], head, sizeof head, sealed[0], len, len < 16 ? NOISE_SHORT : NOISE_TAG);
+    for (size_t len = 0; len < 46; len++)
+        must_not_decrypt(&receive[1], head, sizeof head, sealed[0], len, len < 16 ? NOISE_SHORT : NOISE_TAG);
     for (size_t i = 0; i < 46; i++) {
         sealed[0][i] ^= 1;
         must_not_decrypt(&receive[1], head, sizeof head, sealed[0], 46, NOISE_TAG);
@@ -87,7 +98,8 @@ static void check_data(void) {
     for (unsigned i = 4; i; i--) {
         fill(payload, 30, i - 1);
         MUST(noise_cipher_set_nonce(&receive[1], i - 1) == NOISE_OK);
-        MUST(noise_cipher_decrypt(&receive[1], head, sizeof head, sealed[i - 1], 46, &result) == NOISE_OK && result.len == 30);
+        MUST(noise_cipher_decrypt(&receive[1], head, sizeof head, sealed[i - 1], 46, &result) == NOISE_OK
+            && result.len == 30);
         MUST(!memcmp(sealed[i - 1], payload, 30));
         must_be_at(&receive[1], i);
     }
@@ -105,14 +117,17 @@ static void check_refusals_of_ciphers(void) {
     must_not_encrypt(&send[0], NULL, 0, sizeof second, NOISE_MAX_MESSAGE - 15, NOISE_TOO_LONG);
     must_not_encrypt(&send[0], head, sizeof head, sizeof second, 10, NOISE_LENGTH);
     must_not_encrypt(&receive[0], NULL, 0, sizeof second, 10, NOISE_STRUCT);
-    MUST(noise_cipher_encrypt(&send[0], head, NOISE_MAX_MESSAGE, first, sizeof first, NOISE_MAX_MESSAGE - 16, &result) == NOISE_OK);
+    MUST(noise_cipher_encrypt(&send[0], head, NOISE_MAX_MESSAGE, first, sizeof first, NOISE_MAX_MESSAGE - 16, &result)
+        == NOISE_OK);
     MUST(result.len == NOISE_MAX_MESSAGE);
     must_not_decrypt(&receive[1], head, NOISE_MAX_MESSAGE, first, NOISE_MAX_MESSAGE + 1, NOISE_TOO_LONG);
     must_not_decrypt(&receive[1], head, sizeof head, first, NOISE_MAX_MESSAGE, NOISE_LENGTH);
     must_not_decrypt(&send[1], head, NOISE_MAX_MESSAGE, first, NOISE_MAX_MESSAGE, NOISE_STRUCT);
     must_not_decrypt(&receive[0], head, NOISE_MAX_MESSAGE, first, NOISE_MAX_MESSAGE, NOISE_TAG);
-    MUST(noise_cipher_decrypt(&receive[1], head, NOISE_MAX_MESSAGE, first, NOISE_MAX_MESSAGE, &result) == NOISE_OK && result.len == NOISE_MAX_MESSAGE - 16);
-    MUST(noise_cipher_set_nonce(&send[0], UINT64_MAX) == NOISE_OK && noise_cipher_set_nonce(&receive[1], UINT64_MAX) == NOISE_OK);
+    MUST(noise_cipher_decrypt(&receive[1], head, NOISE_MAX_MESSAGE, first, NOISE_MAX_MESSAGE, &result) == NOISE_OK
+        && result.len == NOISE_MAX_MESSAGE - 16);
+    MUST(noise_cipher_set_nonce(&send[0], UINT64_MAX) == NOISE_OK
+        && noise_cipher_set_nonce(&receive[1], UINT64_MAX) == NOISE_OK);
     must_not_encrypt(&send[0], NULL, 0, sizeof second, 10, NOISE_EXHAUSTED);
     must_not_decrypt(&receive[1], NULL, 0, first, 30, NOISE_EXHAUSTED);
     MUST(noise_cipher_set_nonce(&send[0], UINT64_MAX - 1) == NOISE_OK);
@@ -136,8 +151,10 @@ static void check_one_way(void) {
             unsigned set = 0;
             for (size_t at = 8; at < sizeof old; at++) set += old.opaque[at] != 0;
             MUST(set == 0);
-            MUST(noise_cipher_rekey(discarded[n]) == NOISE_ONE_WAY && noise_cipher_set_nonce(discarded[n], 5) == NOISE_ONE_WAY);
-            MUST(noise_cipher_nonce(discarded[n], &nonce) == NOISE_ONE_WAY && nonce == 77 && !memcmp(&old, discarded[n], sizeof old));
+            MUST(noise_cipher_rekey(discarded[n]) == NOISE_ONE_WAY
+                && noise_cipher_set_nonce(discarded[n], 5) == NOISE_ONE_WAY);
+            MUST(noise_cipher_nonce(discarded[n], &nonce) == NOISE_ONE_WAY && nonce == 77
+                && !memcmp(&old, discarded[n], sizeof old));
         }
         MUST(noise_cipher_encrypt(&send[0], NULL, 0, first, ROOM, 10, &result) == NOISE_OK);
         MUST(noise_cipher_decrypt(&receive[1], NULL, 0, first, 26, &result) == NOISE_OK);
@@ -157,7 +174,8 @@ static void check_marks(void) {
             if (!memcmp(sends.opaque, receive[0].opaque, 4) || !memcmp(receives.opaque, send[0].opaque, 4)) continue;
             must_not_encrypt(&sends, NULL, 0, sizeof second, 10, NOISE_STRUCT);
             must_not_decrypt(&receives, NULL, 0, first, 30, NOISE_STRUCT);
-            MUST(noise_cipher_nonce(&sends, &nonce) == NOISE_STRUCT && noise_cipher_set_nonce(&receives, 3) == NOISE_STRUCT);
+            MUST(noise_cipher_nonce(&sends, &nonce) == NOISE_STRUCT
+                && noise_cipher_set_nonce(&receives, 3) == NOISE_STRUCT);
             MUST(noise_cipher_rekey(&sends) == NOISE_STRUCT);
         }
     noise_cipher zeros = {{0}};

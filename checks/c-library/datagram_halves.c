@@ -1,4 +1,5 @@
-// The halves of datagrams: sealing in place, and structs that hold no half: with another mark, or with a window that no opened datagrams leave.
+// The halves of datagrams: sealing in place, and structs that hold no half: with another mark, or with a window that
+// no opened datagrams leave.
 #include "ends.h"
 
 enum { ROOM = 100, COUNT = 72 };
@@ -27,13 +28,16 @@ static void check_in_place(void) {
         memset(first, 0x55, ROOM);
         memset(second, 0x55, ROOM);
         memcpy(first + 8, payload, len);
-        MUST(noise_datagram_seal_in_place(&d[0].s, first, ROOM, len, &result) == NOISE_OK && result.from == 0 && result.len == len + 24);
-        MUST(noise_datagram_seal(&other.s, payload, len, second, ROOM, &result) == NOISE_OK && !memcmp(first, second, ROOM));
+        MUST(noise_datagram_seal_in_place(&d[0].s, first, ROOM, len, &result) == NOISE_OK && result.from == 0
+            && result.len == len + 24);
+        MUST(noise_datagram_seal(&other.s, payload, len, second, ROOM, &result) == NOISE_OK
+            && !memcmp(first, second, ROOM));
         MUST(!memcmp(&d[0], &other, sizeof other));
     }
     for (size_t room = 0; room < 34; room++) {
         memcpy(second, first, ROOM);
-        MUST(noise_datagram_seal_in_place(&d[0].s, first, room, 10, &result) == NOISE_ROOM && !memcmp(first, second, ROOM));
+        MUST(noise_datagram_seal_in_place(&d[0].s, first, room, 10, &result) == NOISE_ROOM
+            && !memcmp(first, second, ROOM));
     }
     MUST(noise_datagram_seal_in_place(&d[0].s, first, ROOM, SIZE_MAX, &result) == NOISE_ROOM);
     MUST(noise_datagram_seal_in_place(&d[0].s, NULL, 0, 0, &result) == NOISE_ROOM);
@@ -63,7 +67,8 @@ static uint64_t word_at(const noise_datagram_receiver *r, size_t at) {
     return word;
 }
 
-// Opens a datagram of one's own with a half whose word at this place is another one: STRUCT where no opened nonces leave it, TAG where some do.
+// Opens a datagram of one's own with a half whose word at this place is another one: STRUCT where no opened nonces
+// leave it, TAG where some do.
 static void must_return(noise_datagram_receiver r, size_t at, uint64_t word, uint32_t code) {
     noise_result result;
     memcpy(r.opaque + at, &word, sizeof word);
@@ -77,7 +82,8 @@ static void check_windows(void) {
     noise_result result;
     open_pair("XX", 64, d);
     noise_datagram_receiver receiver = d[0].r;
-    for (unsigned n = 0; n < 72; n++) MUST(noise_datagram_seal(&d[1].s, payload, 5, sealed[n], ROOM, &result) == NOISE_OK);
+    for (unsigned n = 0; n < 72; n++)
+        MUST(noise_datagram_seal(&d[1].s, payload, 5, sealed[n], ROOM, &result) == NOISE_OK);
     for (unsigned n = 0; n < 80; n++) MUST(noise_datagram_seal(&d[0].s, payload, 5, first, ROOM, &result) == NOISE_OK);
     must_return(receiver, WORDS_AT, 0, NOISE_TAG);
     must_return(receiver, WORDS_AT, 1, NOISE_TAG);
@@ -86,7 +92,8 @@ static void check_windows(void) {
     must_return(receiver, GREATEST_AT, 1, NOISE_STRUCT);
     MUST(noise_datagram_open(&receiver, sealed[70], 29, &result) == NOISE_OK);
     MUST(noise_datagram_open(&receiver, sealed[71], 29, &result) == NOISE_OK);
-    MUST(word_at(&receiver, GREATEST_AT) == 71 && word_at(&receiver, WORDS_AT) == 0 && word_at(&receiver, WORDS_AT + 8) == 0xc0);
+    MUST(word_at(&receiver, GREATEST_AT) == 71 && word_at(&receiver, WORDS_AT) == 0
+        && word_at(&receiver, WORDS_AT + 8) == 0xc0);
     must_return(receiver, WORDS_AT + 8, 0, NOISE_STRUCT);
     must_return(receiver, WORDS_AT + 8, 0x40, NOISE_STRUCT);
     must_return(receiver, WORDS_AT + 8, 0x80, NOISE_TAG);

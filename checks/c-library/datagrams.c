@@ -1,4 +1,5 @@
-// Datagrams: in order, late, repeated, too late, changed, of both directions; and against the transport messages of the same handshake.
+// Datagrams: in order, late, repeated, too late, changed, of both directions; and against the transport
+// messages of the same handshake.
 #include "ends.h"
 
 enum { ROOM = NOISE_MAX_DATAGRAM + 1, COUNT = 3100 };
@@ -84,10 +85,13 @@ static void check_against_transport(void) {
             for (unsigned n = 0; n < 5; n++) {
                 size_t len = length_of(n + role);
                 fill(payload, len, n);
-                MUST(noise_datagram_seal(&d[role].s, payload, len, before, sizeof before, &result) == NOISE_OK && result.len == len + 24);
-                MUST(noise_seal(&t[role].s, payload, len, message, sizeof message, &result) == NOISE_OK && result.len == len + 16);
+                MUST(noise_datagram_seal(&d[role].s, payload, len, before, sizeof before, &result) == NOISE_OK
+                    && result.len == len + 24);
+                MUST(noise_seal(&t[role].s, payload, len, message, sizeof message, &result) == NOISE_OK
+                    && result.len == len + 16);
                 MUST(nonce_of(before) == n && !memcmp(before + 8, message, len + 16));
-                MUST(open_it(&d[!role], before, len + 24, &result) == NOISE_OK && result.len == len && !memcmp(message + result.from, payload, len));
+                MUST(open_it(&d[!role], before, len + 24, &result) == NOISE_OK && result.len == len
+                    && !memcmp(message + result.from, payload, len));
             }
     }
 }
@@ -100,15 +104,19 @@ static void check_sizes(void) {
     open_pair(&p, 64, d, t);
     old = d[0];
     memset(message, 0x44, sizeof message);
-    MUST(noise_datagram_seal(&d[0].s, payload, NOISE_MAX_DATAGRAM - 23, message, sizeof message, &result) == NOISE_TOO_LONG);
+    MUST(noise_datagram_seal(&d[0].s, payload, NOISE_MAX_DATAGRAM - 23, message, sizeof message, &result)
+        == NOISE_TOO_LONG);
     MUST(noise_datagram_seal(&d[0].s, payload, sizeof payload, message, sizeof message, &result) == NOISE_ROOM);
-    for (size_t room = 0; room < 34; room++) MUST(noise_datagram_seal(&d[0].s, payload, 10, message, room, &result) == NOISE_ROOM);
+    for (size_t room = 0; room < 34; room++)
+        MUST(noise_datagram_seal(&d[0].s, payload, 10, message, room, &result) == NOISE_ROOM);
     MUST(!memcmp(&old, &d[0], sizeof old));
     for (size_t i = 0; i < sizeof message; i++) MUST(message[i] == 0x44);
-    MUST(noise_datagram_seal(&d[0].s, payload, 10, message, 34, &result) == NOISE_OK && result.len == 34 && message[34] == 0x44);
+    MUST(noise_datagram_seal(&d[0].s, payload, 10, message, 34, &result) == NOISE_OK && result.len == 34
+        && message[34] == 0x44);
     MUST(noise_datagram_open(&d[1].r, message, 34, &result) == NOISE_OK && result.from == 8 && result.len == 10);
     fill(payload, NOISE_MAX_DATAGRAM - 24, 8);
-    MUST(noise_datagram_seal(&d[0].s, payload, NOISE_MAX_DATAGRAM - 24, before, NOISE_MAX_DATAGRAM, &result) == NOISE_OK);
+    MUST(noise_datagram_seal(&d[0].s, payload, NOISE_MAX_DATAGRAM - 24, before, NOISE_MAX_DATAGRAM, &result)
+        == NOISE_OK);
     MUST(result.len == NOISE_MAX_DATAGRAM);
     MUST(open_it(&d[1], before, ROOM, &result) == NOISE_TOO_LONG);
     MUST(open_it(&d[1], before, NOISE_MAX_DATAGRAM - 1, &result) == NOISE_TAG);
@@ -173,9 +181,11 @@ static void check_exhausted(void) {
     memset(d[0].s.opaque + at, 0xff, 8);
     MUST(noise_datagram_sender_nonce(&d[0].s, &send) == NOISE_OK && send == UINT64_MAX);
     old = d[0];
-    MUST(noise_datagram_seal(&d[0].s, payload, 5, message, sizeof message, &result) == NOISE_EXHAUSTED && !memcmp(&old, &d[0], sizeof old));
+    MUST(noise_datagram_seal(&d[0].s, payload, 5, message, sizeof message, &result) == NOISE_EXHAUSTED
+        && !memcmp(&old, &d[0], sizeof old));
     d[0].s.opaque[at] = 0xfe;
-    MUST(noise_datagram_seal(&d[0].s, payload, 16, before, 40, &result) == NOISE_OK && nonce_of(before) == UINT64_MAX - 1);
+    MUST(noise_datagram_seal(&d[0].s, payload, 16, before, 40, &result) == NOISE_OK
+        && nonce_of(before) == UINT64_MAX - 1);
     MUST(open_it(&d[1], before, 40, &result) == NOISE_OK);
     MUST(open_it(&d[1], before, 40, &result) == NOISE_REPEATED);
     must_open(&d[1], 0, NOISE_OLD);

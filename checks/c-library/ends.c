@@ -5,7 +5,8 @@
 #include <sys/mman.h>
 #include <unistd.h>
 
-const char *const patterns[PATTERNS] = {"N", "K", "X", "NN", "NK", "NX", "KN", "KK", "KX", "XN", "XK", "XX", "IN", "IK", "IX"};
+const char *const patterns[PATTERNS] = {
+    "N", "K", "X", "NN", "NK", "NX", "KN", "KK", "KX", "XN", "XK", "XX", "IN", "IK", "IX"};
 
 void fail(const char *file, int line, const char *what) {
     fprintf(stderr, "%s:%d: not so: %s\n", file, line, what);
@@ -19,7 +20,12 @@ bool is_in(uint32_t code, uint64_t codes) {
 static plan plain_plan(const char *base) {
     bool one_way = !base[1];
     char initiator = base[0], responder = one_way ? 'K' : base[1];
-    plan p = {.one_way = one_way, .messages = one_way ? 1 : initiator == 'X' ? 3 : 2, .interval = 3, .prologue_len = 40};
+    plan p = {
+        .one_way = one_way,
+        .messages = one_way ? 1 : initiator == 'X' ? 3 : 2,
+        .interval = 3,
+        .prologue_len = 40,
+    };
     p.has_e[0] = true;
     p.has_e[1] = !one_way;
     p.has_s[0] = initiator != 'N';
@@ -105,7 +111,8 @@ void hand_in(end *x, const noise_result *result) {
     x->answers++;
 }
 
-uint32_t write_on(end *x, const uint8_t *payload, size_t payload_len, uint8_t *out, size_t out_len, noise_result *result) {
+uint32_t write_on(end *x, const uint8_t *payload, size_t payload_len, uint8_t *out, size_t out_len,
+                  noise_result *result) {
     uint32_t code;
     while ((code = noise_write(&x->h, payload, payload_len, out, out_len, result)) == NOISE_WANTED) hand_in(x, result);
     return code;

@@ -1,5 +1,5 @@
-// Two parties of one handshake in one process, with a toy in the place of X25519: the DH result of two public keys is their xor, as in vector
-// files with `xor` keys.
+// Two parties of one handshake in one process, with a toy in the place of X25519: the DH result of two public keys is
+// their xor, as in vector files with `xor` keys.
 #ifndef ENDS_H
 #define ENDS_H
 
@@ -70,7 +70,8 @@ uint32_t start_with(noise_handshake *h, const plan *p, const noise_setup *setup)
 end begin(const plan *p, unsigned role);
 void hand_in(end *x, const noise_result *result);
 // Writes and reads, with each DH result that is wanted.
-uint32_t write_on(end *x, const uint8_t *payload, size_t payload_len, uint8_t *out, size_t out_len, noise_result *result);
+uint32_t write_on(end *x, const uint8_t *payload, size_t payload_len, uint8_t *out, size_t out_len,
+                  noise_result *result);
 uint32_t read_on(end *x, uint8_t *message, size_t message_len, noise_result *result);
 // A payload whose bytes depend on the number; and a length by number, the same in each run.
 void fill(uint8_t *payload, size_t len, unsigned number);

@@ -1,7 +1,8 @@
-// Calls of the library on random values, for so many seconds: fuzz SECONDS [SEED]. What a call gets as const is on pages that can't be written,
-// every place ends before a page that can't be touched or begins after one, and what a refusal leaves is compared byte by byte. Genuine messages have to be
-// taken and changed ones refused; of structs with changed bytes each call has to answer one of its codes. The seed is printed: with it the run is the
-// same again, as far as it goes.
+// Calls of the library on random values, for so many seconds: fuzz SECONDS [SEED]. What a call gets as const is on
+// pages that can't be written, every place ends before a page that can't be touched or begins after one, and what a
+// refusal leaves is compared byte by byte. Genuine messages have to be taken and changed ones refused; of structs
+// with changed bytes each call has to answer one of its codes. The seed is printed: with it the run is the same
+// again, as far as it goes.
 #define _GNU_SOURCE
 #include "ends.h"
 #include <inttypes.h>
@@ -19,7 +20,8 @@ typedef struct {
     bool is_const;
 } place;
 
-typedef uint32_t writing(void *object, const uint8_t *payload, size_t payload_len, uint8_t *out, size_t out_len, noise_result *result);
+typedef uint32_t writing(void *object, const uint8_t *payload, size_t payload_len, uint8_t *out, size_t out_len,
+                         noise_result *result);
 typedef uint32_t opening(void *object, uint8_t *message, size_t message_len, noise_result *result);
 
 static place struct_place, first_place, second_place, out_place, result_place;
@@ -29,20 +31,24 @@ static uint64_t state;
 static unsigned long calls, went_well, rounds;
 
 static const uint64_t begun = CODE(NOISE_OK) | CODE(NOISE_STRUCT);
-static const uint64_t write_codes = CODE(NOISE_OK) | CODE(NOISE_NOT_YOUR_TURN) | CODE(NOISE_TOO_LONG) | CODE(NOISE_DONE) | CODE(NOISE_ENDED)
-    | CODE(NOISE_AGREEMENT) | CODE(NOISE_ROOM) | CODE(NOISE_WANTED) | CODE(NOISE_WANTED_PSK) | CODE(NOISE_STRUCT);
-static const uint64_t read_codes = CODE(NOISE_OK) | CODE(NOISE_NOT_YOUR_TURN) | CODE(NOISE_DONE) | CODE(NOISE_ENDED) | CODE(NOISE_AGREEMENT)
-    | CODE(NOISE_SHORT) | CODE(NOISE_TAG) | CODE(NOISE_WANTED) | CODE(NOISE_WANTED_PSK) | CODE(NOISE_STRUCT) | CODE(NOISE_LENGTH);
+static const uint64_t write_codes = CODE(NOISE_OK) | CODE(NOISE_NOT_YOUR_TURN) | CODE(NOISE_TOO_LONG) | CODE(NOISE_DONE)
+    | CODE(NOISE_ENDED) | CODE(NOISE_AGREEMENT) | CODE(NOISE_ROOM) | CODE(NOISE_WANTED) | CODE(NOISE_WANTED_PSK)
+    | CODE(NOISE_STRUCT);
+static const uint64_t read_codes = CODE(NOISE_OK) | CODE(NOISE_NOT_YOUR_TURN) | CODE(NOISE_DONE) | CODE(NOISE_ENDED)
+    | CODE(NOISE_AGREEMENT) | CODE(NOISE_SHORT) | CODE(NOISE_TAG) | CODE(NOISE_WANTED) | CODE(NOISE_WANTED_PSK)
+    | CODE(NOISE_STRUCT) | CODE(NOISE_LENGTH);
 static const uint64_t psk_codes = CODE(NOISE_OK) | CODE(NOISE_STRUCT) | CODE(NOISE_PSK_COUNT);
-static const uint64_t seal_codes = CODE(NOISE_OK) | CODE(NOISE_STRUCT) | CODE(NOISE_ROOM) | CODE(NOISE_ONE_WAY) | CODE(NOISE_TOO_LONG) | CODE(NOISE_EXHAUSTED);
-static const uint64_t open_codes = CODE(NOISE_OK) | CODE(NOISE_STRUCT) | CODE(NOISE_LENGTH) | CODE(NOISE_ONE_WAY) | CODE(NOISE_EXHAUSTED)
-    | CODE(NOISE_SHORT) | CODE(NOISE_TAG);
-static const uint64_t datagram_codes = CODE(NOISE_OK) | CODE(NOISE_STRUCT) | CODE(NOISE_ONE_WAY) | CODE(NOISE_SHORT) | CODE(NOISE_TOO_LONG)
-    | CODE(NOISE_RESERVED) | CODE(NOISE_OLD) | CODE(NOISE_REPEATED) | CODE(NOISE_TAG);
-static const uint64_t cipher_codes = CODE(NOISE_OK) | CODE(NOISE_STRUCT) | CODE(NOISE_ONE_WAY) | CODE(NOISE_LENGTH) | CODE(NOISE_ROOM)
-    | CODE(NOISE_EXHAUSTED) | CODE(NOISE_TOO_LONG) | CODE(NOISE_SHORT) | CODE(NOISE_TAG);
-static const uint64_t start_codes = CODE(NOISE_OK) | CODE(NOISE_NAME) | CODE(NOISE_PATTERN) | CODE(NOISE_EPHEMERAL_MISSING)
-    | CODE(NOISE_STATIC_MISSING) | CODE(NOISE_REMOTE_MISSING) | CODE(NOISE_REMOTE_UNEXPECTED) | CODE(NOISE_PSK_COUNT) | CODE(NOISE_LENGTH);
+static const uint64_t seal_codes = CODE(NOISE_OK) | CODE(NOISE_STRUCT) | CODE(NOISE_ROOM) | CODE(NOISE_ONE_WAY)
+    | CODE(NOISE_TOO_LONG) | CODE(NOISE_EXHAUSTED);
+static const uint64_t open_codes = CODE(NOISE_OK) | CODE(NOISE_STRUCT) | CODE(NOISE_LENGTH) | CODE(NOISE_ONE_WAY)
+    | CODE(NOISE_EXHAUSTED) | CODE(NOISE_SHORT) | CODE(NOISE_TAG);
+static const uint64_t datagram_codes = CODE(NOISE_OK) | CODE(NOISE_STRUCT) | CODE(NOISE_ONE_WAY) | CODE(NOISE_SHORT)
+    | CODE(NOISE_TOO_LONG) | CODE(NOISE_RESERVED) | CODE(NOISE_OLD) | CODE(NOISE_REPEATED) | CODE(NOISE_TAG);
+static const uint64_t cipher_codes = CODE(NOISE_OK) | CODE(NOISE_STRUCT) | CODE(NOISE_ONE_WAY) | CODE(NOISE_LENGTH)
+    | CODE(NOISE_ROOM) | CODE(NOISE_EXHAUSTED) | CODE(NOISE_TOO_LONG) | CODE(NOISE_SHORT) | CODE(NOISE_TAG);
+static const uint64_t start_codes = CODE(NOISE_OK) | CODE(NOISE_NAME) | CODE(NOISE_PATTERN)
+    | CODE(NOISE_EPHEMERAL_MISSING) | CODE(NOISE_STATIC_MISSING) | CODE(NOISE_REMOTE_MISSING)
+    | CODE(NOISE_REMOTE_UNEXPECTED) | CODE(NOISE_PSK_COUNT) | CODE(NOISE_LENGTH);
 
 static uint32_t random_number(void) {
     state = state * 6364136223846793005u + 1442695040888963407u;
@@ -111,19 +117,23 @@ static uint32_t counted(uint32_t code, uint64_t codes) {
     return code;
 }
 
-static uint32_t write_handshake(void *object, const uint8_t *bytes, size_t len, uint8_t *out, size_t out_len, noise_result *result) {
+static uint32_t write_handshake(void *object, const uint8_t *bytes, size_t len, uint8_t *out, size_t out_len,
+                                noise_result *result) {
     return noise_write((noise_handshake *)object, bytes, len, out, out_len, result);
 }
 
-static uint32_t seal_next(void *object, const uint8_t *bytes, size_t len, uint8_t *out, size_t out_len, noise_result *result) {
+static uint32_t seal_next(void *object, const uint8_t *bytes, size_t len, uint8_t *out, size_t out_len,
+                          noise_result *result) {
     return noise_seal((noise_sender *)object, bytes, len, out, out_len, result);
 }
 
-static uint32_t seal_datagram(void *object, const uint8_t *bytes, size_t len, uint8_t *out, size_t out_len, noise_result *result) {
+static uint32_t seal_datagram(void *object, const uint8_t *bytes, size_t len, uint8_t *out, size_t out_len,
+                              noise_result *result) {
     return noise_datagram_seal((noise_datagram_sender *)object, bytes, len, out, out_len, result);
 }
 
-// Puts the payload into the buffer from `from` on, as far as there is room, and at a refusal the filling again: call_writing compares that.
+// Puts the payload into the buffer from `from` on, as far as there is room, and at a refusal the filling again:
+// call_writing compares that.
 static void put_payload(uint8_t *out, size_t out_len, size_t from, const uint8_t *bytes, size_t len) {
     size_t room = out_len > from ? out_len - from : 0, some = len < room ? len : room;
     if (some) memcpy(out + from, bytes, some);
@@ -136,14 +146,16 @@ static void take_payload(uint8_t *out, size_t out_len, size_t from, const uint8_
     memset(out + from, 0x5e, some);
 }
 
-static uint32_t seal_in_place(void *object, const uint8_t *bytes, size_t len, uint8_t *out, size_t out_len, noise_result *result) {
+static uint32_t seal_in_place(void *object, const uint8_t *bytes, size_t len, uint8_t *out, size_t out_len,
+                              noise_result *result) {
     put_payload(out, out_len, 0, bytes, len);
     uint32_t code = noise_seal_in_place((noise_sender *)object, out, out_len, len, result);
     if (code != NOISE_OK) take_payload(out, out_len, 0, bytes, len);
     return code;
 }
 
-static uint32_t seal_datagram_in_place(void *object, const uint8_t *bytes, size_t len, uint8_t *out, size_t out_len, noise_result *result) {
+static uint32_t seal_datagram_in_place(void *object, const uint8_t *bytes, size_t len, uint8_t *out, size_t out_len,
+                                       noise_result *result) {
     put_payload(out, out_len, 8, bytes, len);
     uint32_t code = noise_datagram_seal_in_place((noise_datagram_sender *)object, out, out_len, len, result);
     if (code != NOISE_OK) take_payload(out, out_len, 8, bytes, len);
@@ -169,15 +181,18 @@ static uint32_t open_datagram(void *object, uint8_t *bytes, size_t len, noise_re
 // The associated data of a cipher state: some bytes of the payload's place, and of each other call none.
 static size_t ad_len;
 
-static uint32_t encrypt_in_place(void *object, const uint8_t *bytes, size_t len, uint8_t *out, size_t out_len, noise_result *result) {
+static uint32_t encrypt_in_place(void *object, const uint8_t *bytes, size_t len, uint8_t *out, size_t out_len,
+                                 noise_result *result) {
     put_payload(out, out_len, 0, bytes, len);
-    uint32_t code = noise_cipher_encrypt((noise_cipher *)object, put_bytes(&second_place, payload, ad_len, true), ad_len, out, out_len, len, result);
+    const uint8_t *ad = put_bytes(&second_place, payload, ad_len, true);
+    uint32_t code = noise_cipher_encrypt((noise_cipher *)object, ad, ad_len, out, out_len, len, result);
     if (code != NOISE_OK) take_payload(out, out_len, 0, bytes, len);
     return code;
 }
 
 static uint32_t decrypt_in_place(void *object, uint8_t *bytes, size_t len, noise_result *result) {
-    return noise_cipher_decrypt((noise_cipher *)object, put_bytes(&second_place, payload, ad_len, true), ad_len, bytes, len, result);
+    const uint8_t *ad = put_bytes(&second_place, payload, ad_len, true);
+    return noise_cipher_decrypt((noise_cipher *)object, ad, ad_len, bytes, len, result);
 }
 
 // A refused call of a half returns nothing but its code.
@@ -186,7 +201,8 @@ static void must_be_unreported(const noise_result *result) {
 }
 
 // Writes or seals `len` bytes of `payload` to `message`, with room for `out_len`.
-static uint32_t call_writing(writing *call, void *object, size_t size, uint64_t codes, size_t len, size_t out_len, noise_result *result) {
+static uint32_t call_writing(writing *call, void *object, size_t size, uint64_t codes, size_t len, size_t out_len,
+                             noise_result *result) {
     void *in_place = put(&struct_place, object, size, false);
     const uint8_t *bytes = put_bytes(&first_place, payload, len, true);
     uint8_t *out = put_bytes(&out_place, NULL, out_len, false);
@@ -205,7 +221,8 @@ static uint32_t call_writing(writing *call, void *object, size_t size, uint64_t 
 }
 
 // Reads or opens these bytes. What a refused message of a handshake leaves is a struct that has ended.
-static uint32_t call_opening(opening *call, void *object, size_t size, uint64_t codes, uint8_t *bytes, size_t len, noise_result *result) {
+static uint32_t call_opening(opening *call, void *object, size_t size, uint64_t codes, uint8_t *bytes, size_t len,
+                             noise_result *result) {
     void *in_place = put(&struct_place, object, size, false);
     uint8_t *there = put_bytes(&out_place, bytes, len, false);
     noise_result *result_there = put(&result_place, NULL, sizeof *result, false);
@@ -218,7 +235,8 @@ static uint32_t call_opening(opening *call, void *object, size_t size, uint64_t 
         MUST(!memcmp(out_place.at, bytes, len));
     if (code != NOISE_OK && !may_end) MUST(!memcmp(in_place, object, size));
     if (code != NOISE_OK && call != read_handshake && call != try_handshake) must_be_unreported(result_there);
-    if (is_in(code, CODE(NOISE_STRUCT) | CODE(NOISE_LENGTH) | CODE(NOISE_ENDED) | CODE(NOISE_DONE) | CODE(NOISE_NOT_YOUR_TURN)))
+    if (is_in(code,
+            CODE(NOISE_STRUCT) | CODE(NOISE_LENGTH) | CODE(NOISE_ENDED) | CODE(NOISE_DONE) | CODE(NOISE_NOT_YOUR_TURN)))
         must_be_unreported(result_there);
     memcpy(object, in_place, size);
     memcpy(bytes, out_place.at, len);
@@ -230,7 +248,8 @@ static void hand_in_there(noise_handshake *h, unsigned role, const noise_result 
     const uint8_t *own = public_key(role, result->of_static & 1);
     for (unsigned i = 0; i < 32; i++) answer[i] = own[i] ^ result->remote[i];
     noise_handshake *there = put(&struct_place, h, sizeof *h, false);
-    uint8_t *remote_there = put(&first_place, result->remote, 32, true), *answer_there = put(&second_place, answer, 32, true);
+    uint8_t *remote_there = put(&first_place, result->remote, 32, true),
+            *answer_there = put(&second_place, answer, 32, true);
     uint32_t code = counted(noise_answer(there, result->of_static, remote_there, answer_there), codes);
     if (code != NOISE_OK) MUST(!memcmp(there, h, sizeof *h));
     *h = *there;
@@ -252,8 +271,10 @@ static void unset_psk_there(noise_handshake *h, uint64_t codes) {
     *h = *there;
 }
 
-// Supplies what a call has asked for: a psk at once, or after another one that is taken back. False if it has asked for nothing.
-static bool supply_there(noise_handshake *h, unsigned role, unsigned *given, const noise_result *result, uint32_t code) {
+// Supplies what a call has asked for: a psk at once, or after another one that is taken back. False if
+// it has asked for nothing.
+static bool supply_there(noise_handshake *h, unsigned role, unsigned *given, const noise_result *result,
+                         uint32_t code) {
     if (code == NOISE_WANTED) hand_in_there(h, role, result, CODE(NOISE_OK));
     if (code == NOISE_WANTED_PSK) {
         MUST(result->remote_known <= 1);
@@ -266,14 +287,16 @@ static bool supply_there(noise_handshake *h, unsigned role, unsigned *given, con
     return code == NOISE_WANTED || code == NOISE_WANTED_PSK;
 }
 
-static uint32_t write_there(noise_handshake *h, unsigned role, unsigned *given, size_t len, size_t out_len, noise_result *result) {
+static uint32_t write_there(noise_handshake *h, unsigned role, unsigned *given, size_t len, size_t out_len,
+                            noise_result *result) {
     uint32_t code;
     do code = call_writing(write_handshake, h, sizeof *h, write_codes, len, out_len, result);
     while (supply_there(h, role, given, result, code));
     return code;
 }
 
-static uint32_t read_there(noise_handshake *h, unsigned role, unsigned *given, uint8_t *bytes, size_t len, noise_result *result) {
+static uint32_t read_there(noise_handshake *h, unsigned role, unsigned *given, uint8_t *bytes, size_t len,
+                           noise_result *result) {
     uint32_t code;
     do code = call_opening(one_in(2) ? read_handshake : try_handshake, h, sizeof *h, read_codes, bytes, len, result);
     while (supply_there(h, role, given, result, code));
@@ -285,12 +308,12 @@ static void change_bytes(uint8_t *bytes, size_t len) {
 }
 
 // A call that changes no struct: at OK only what it returns.
-#define ASK(object, object_type, out_size, codes, call)                                                              \
-    do {                                                                                                         \
-        const object_type *k = put(&struct_place, object, sizeof(object_type), true);                                    \
-        void *o = put(&out_place, NULL, out_size, false);                                                        \
-        memset(before, 0x5e, out_size);                                                                          \
-        if (counted(call, codes) != NOISE_OK) MUST(!memcmp(o, before, out_size));                                \
+#define ASK(object, object_type, out_size, codes, call)                               \
+    do {                                                                              \
+        const object_type *k = put(&struct_place, object, sizeof(object_type), true); \
+        void *o = put(&out_place, NULL, out_size, false);                             \
+        memset(before, 0x5e, out_size);                                               \
+        if (counted(call, codes) != NOISE_OK) MUST(!memcmp(o, before, out_size));     \
     } while (0)
 
 static void ask_handshake(const noise_handshake *h) {
@@ -341,19 +364,21 @@ typedef struct {
     noise_cipher send, receive;
 } party;
 
-static const uint64_t stream_write_codes = CODE(NOISE_OK) | CODE(NOISE_STRUCT) | CODE(NOISE_ROOM) | CODE(NOISE_CLOSED) | CODE(NOISE_ONE_WAY)
-    | CODE(NOISE_EXHAUSTED);
-static const uint64_t stream_read_codes = CODE(NOISE_OK) | CODE(NOISE_STRUCT) | CODE(NOISE_MORE) | CODE(NOISE_END) | CODE(NOISE_CLOSED)
-    | CODE(NOISE_SHORT) | CODE(NOISE_TAG) | CODE(NOISE_EXHAUSTED) | CODE(NOISE_ONE_WAY);
+static const uint64_t stream_write_codes = CODE(NOISE_OK) | CODE(NOISE_STRUCT) | CODE(NOISE_ROOM) | CODE(NOISE_CLOSED)
+    | CODE(NOISE_ONE_WAY) | CODE(NOISE_EXHAUSTED);
+static const uint64_t stream_read_codes = CODE(NOISE_OK) | CODE(NOISE_STRUCT) | CODE(NOISE_MORE) | CODE(NOISE_END)
+    | CODE(NOISE_CLOSED) | CODE(NOISE_SHORT) | CODE(NOISE_TAG) | CODE(NOISE_EXHAUSTED) | CODE(NOISE_ONE_WAY);
 
 // Writes a frame of `len` bytes of `payload`, or the end, to `message`, with room for `out_len`.
-static uint32_t write_stream(noise_stream_sender *s, bool ends, size_t len, size_t out_len, noise_stream_result *result) {
+static uint32_t write_stream(noise_stream_sender *s, bool ends, size_t len, size_t out_len,
+                             noise_stream_result *result) {
     noise_stream_sender *there = put(&struct_place, s, sizeof *s, false);
     const uint8_t *bytes = put_bytes(&first_place, payload, len, true);
     uint8_t *out = put_bytes(&out_place, NULL, out_len, false);
     noise_stream_result *result_there = put(&result_place, NULL, sizeof *result, false);
     memset(before, 0x5e, out_len > sizeof *result ? out_len : sizeof *result);
-    uint32_t code = ends ? noise_stream_end(there, out, out_len, result_there) : noise_stream_write(there, bytes, len, out, out_len, result_there);
+    uint32_t code = ends ? noise_stream_end(there, out, out_len, result_there)
+                         : noise_stream_write(there, bytes, len, out, out_len, result_there);
     counted(code, stream_write_codes);
     *result = *result_there;
     size_t written = code == NOISE_OK ? result->len : 0;
@@ -371,12 +396,14 @@ static uint32_t read_stream(noise_stream_receiver *r, uint8_t *bytes, size_t len
     noise_stream_result *result_there = put(&result_place, NULL, sizeof *result, false);
     uint32_t code = counted(noise_stream_read(there, buffer, len, result_there), stream_read_codes);
     *result = *result_there;
-    if (code == NOISE_OK) MUST(result->used <= len && result->from + result->len + NOISE_TAG_LEN == result->used && result->len);
+    if (code == NOISE_OK)
+        MUST(result->used <= len && result->from + result->len + NOISE_TAG_LEN == result->used && result->len);
     if (code == NOISE_END) MUST(result->used == NOISE_STREAM_OVERHEAD && len >= result->used);
     if (code == NOISE_MORE) MUST(result->wanted && result->wanted <= NOISE_MAX_FRAME);
     if (code != NOISE_OK) MUST(!memcmp(out_place.at, bytes, len));
     if (is_in(code, CODE(NOISE_MORE) | CODE(NOISE_CLOSED) | CODE(NOISE_STRUCT))) MUST(!memcmp(there, r, sizeof *r));
-    if (is_in(code, open_codes & ~begun)) MUST(noise_stream_read(there, buffer ? buffer : message, len, result) == NOISE_CLOSED);
+    if (is_in(code, open_codes & ~begun))
+        MUST(noise_stream_read(there, buffer ? buffer : message, len, result) == NOISE_CLOSED);
     *r = *there;
     memcpy(bytes, out_place.at, len);
     return code;
@@ -387,9 +414,11 @@ static void disturb_party(const party *of) {
     noise_result result;
     if (!one_in(3)) change_bytes((uint8_t *)&copy, sizeof copy);
     ask_halves(&copy.t, &copy.d, &copy.x, one_in(2) ? &copy.send : &copy.receive);
-    call_writing(one_in(2) ? seal_next : seal_in_place, &copy.t.s, sizeof copy.t.s, seal_codes, random_len(), random_len(), &result);
+    call_writing(one_in(2) ? seal_next : seal_in_place, &copy.t.s, sizeof copy.t.s, seal_codes, random_len(),
+        random_len(), &result);
     call_opening(open_next, &copy.t.r, sizeof copy.t.r, open_codes, payload, random_len(), &result);
-    call_writing(one_in(2) ? seal_datagram : seal_datagram_in_place, &copy.d.s, sizeof copy.d.s, seal_codes, random_len(), random_len(), &result);
+    call_writing(one_in(2) ? seal_datagram : seal_datagram_in_place, &copy.d.s, sizeof copy.d.s, seal_codes,
+        random_len(), random_len(), &result);
     call_opening(open_datagram, &copy.d.r, sizeof copy.d.r, datagram_codes, payload, random_len(), &result);
     noise_stream_result place;
     write_stream(&copy.x.s, one_in(4), random_len(), random_len(), &place);
@@ -398,16 +427,19 @@ static void disturb_party(const party *of) {
     call_writing(encrypt_in_place, &copy.send, sizeof copy.send, cipher_codes, random_len(), random_len(), &result);
     call_opening(decrypt_in_place, &copy.receive, sizeof copy.receive, cipher_codes, payload, random_len(), &result);
     noise_cipher *there = put(&struct_place, &copy.send, sizeof copy.send, false);
-    counted(one_in(2) ? noise_cipher_rekey(there) : noise_cipher_set_nonce(there, random_number()), begun | CODE(NOISE_ONE_WAY));
+    counted(one_in(2) ? noise_cipher_rekey(there) : noise_cipher_set_nonce(there, random_number()),
+        begun | CODE(NOISE_ONE_WAY));
 }
 
-static uint32_t start_there(noise_handshake *h, const void *pattern, size_t len, size_t prologue_len, const noise_setup *setup) {
+static uint32_t start_there(noise_handshake *h, const void *pattern, size_t len, size_t prologue_len,
+                            const noise_setup *setup) {
     noise_handshake old = *h;
     noise_handshake *there = put(&struct_place, h, sizeof *h, false);
     const uint8_t *pattern_there = put_bytes(&first_place, pattern, len, true);
     const uint8_t *prologue_there = put_bytes(&second_place, prologue(), prologue_len, true);
     const noise_setup *setup_there = put(&out_place, setup, sizeof *setup, true);
-    uint32_t code = counted(noise_start(there, pattern_there, len, prologue_there, prologue_len, setup_there), start_codes);
+    uint32_t code = noise_start(there, pattern_there, len, prologue_there, prologue_len, setup_there);
+    counted(code, start_codes);
     if (code != NOISE_OK) MUST(!memcmp(there, &old, sizeof old));
     *h = *there;
     return code;
@@ -425,18 +457,23 @@ static void disturb_start(const plan *p, unsigned role) {
     if (one_in(2)) change_bytes(pattern, len);
     if (one_in(3)) change_bytes((uint8_t *)&setup, sizeof setup);
     if (one_in(4)) len = below(len + 1);
-    start_there(&h, pattern, len, one_in(30) ? NOISE_MAX_PROLOGUE + 1 : random_len() % (NOISE_MAX_PROLOGUE + 1), &setup);
+    size_t prologue_len = one_in(30) ? NOISE_MAX_PROLOGUE + 1 : random_len() % (NOISE_MAX_PROLOGUE + 1);
+    start_there(&h, pattern, len, prologue_len, &setup);
     noise_pattern_result *result = put(&result_place, NULL, sizeof *result, false);
-    counted(noise_check_pattern(put_bytes(&first_place, pattern, len, true), len, result), CODE(NOISE_OK) | (CODE(NOISE_RULE + 1) - CODE(NOISE_HEADING)));
+    counted(noise_check_pattern(put_bytes(&first_place, pattern, len, true), len, result),
+        CODE(NOISE_OK) | (CODE(NOISE_RULE + 1) - CODE(NOISE_HEADING)));
     const uint8_t *at = put_bytes(&first_place, pattern, len, true);
     noise_pattern_info *info = put(&second_place, NULL, sizeof *info, false);
-    counted(noise_pattern(at, len, info, result), CODE(NOISE_OK) | CODE(NOISE_NAME) | (CODE(NOISE_RULE + 1) - CODE(NOISE_HEADING)));
+    counted(noise_pattern(at, len, info, result),
+        CODE(NOISE_OK) | CODE(NOISE_NAME) | (CODE(NOISE_RULE + 1) - CODE(NOISE_HEADING)));
     noise_message_layout *layout = put(&second_place, NULL, sizeof *layout, false);
-    counted(noise_layout(at, len, (uint8_t)below(10), random_len(), layout), CODE(NOISE_OK) | CODE(NOISE_NAME) | CODE(NOISE_PATTERN) | CODE(NOISE_NOT_DUE));
+    counted(noise_layout(at, len, (uint8_t)below(10), random_len(), layout),
+        CODE(NOISE_OK) | CODE(NOISE_NAME) | CODE(NOISE_PATTERN) | CODE(NOISE_NOT_DUE));
 }
 
 static plan random_plan(void) {
-    static const char *const ours[] = {"NK1:\n  <- s\n  ...\n  -> e\n  <- e, ee, es\n", "XX1psk0+psk3:\n  -> psk, e\n  <- e, ee, s\n  -> es, s, se, psk\n"};
+    static const char *const ours[] = {"NK1:\n  <- s\n  ...\n  -> e\n  <- e, ee, es\n",
+        "XX1psk0+psk3:\n  -> psk, e\n  <- e, ee, s\n  -> es, s, se, psk\n"};
     if (one_in(6)) return plan_of_text(ours[0], "NK", 0, true);
     if (one_in(6)) return plan_of_text(ours[1], "XX", 2, true);
     const char *base = patterns[below(PATTERNS)];
@@ -456,7 +493,8 @@ static void try_changed(const noise_handshake *h, unsigned role, unsigned given,
     uint32_t code = read_there(&copy, role, &given, changed, len, &result);
     MUST(is_in(code, CODE(NOISE_OK) | CODE(NOISE_SHORT) | CODE(NOISE_TAG)));
     if (code == NOISE_OK) return;
-    uint32_t again = call_opening(read_handshake, &copy, sizeof copy, read_codes, changed, len, &result);    // if it was only tried, it is refused again
+    // If it was only tried, it is refused again.
+    uint32_t again = call_opening(read_handshake, &copy, sizeof copy, read_codes, changed, len, &result);
     MUST(again == NOISE_ENDED || again == code);
     MUST(call_opening(read_handshake, &copy, sizeof copy, read_codes, changed, len, &result) == NOISE_ENDED);
 }
@@ -468,8 +506,10 @@ static void shake_hands(const plan *p, noise_handshake h[2], unsigned given[2]) 
         size_t len = random_len() % 60000, needed;
         disturb_handshake(&h[below(2)], writer);
         MUST(noise_message_len(&h[writer], len, &needed) == NOISE_OK);
-        MUST(write_there(&h[writer], writer, &given[writer], len, below(needed), &result) == NOISE_ROOM && result.len == needed);
-        MUST(write_there(&h[writer], writer, &given[writer], len, needed + (one_in(2) ? 0 : below(50)), &result) == NOISE_OK && result.len == needed);
+        MUST(write_there(&h[writer], writer, &given[writer], len, below(needed), &result) == NOISE_ROOM
+            && result.len == needed);
+        size_t room = needed + (one_in(2) ? 0 : below(50));
+        MUST(write_there(&h[writer], writer, &given[writer], len, room, &result) == NOISE_OK && result.len == needed);
         try_changed(&h[reader], reader, given[reader], needed);
         MUST(read_there(&h[reader], reader, &given[reader], message, needed, &result) == NOISE_OK);
         MUST(result.len == len && !memcmp(message + result.from, payload, len));
@@ -504,18 +544,22 @@ static void use_stream(const plan *p, party parties[2]) {
     for (size_t n = below(8); n; n--) {
         size_t len = 1 + random_len(), part = len < 65519 ? len : 65519, frame = part + NOISE_STREAM_OVERHEAD;
         MUST(write_stream(s, false, len, below(frame), &result) == NOISE_ROOM);
-        MUST(write_stream(s, false, len, frame + below(20), &result) == NOISE_OK && result.used == part && result.len == frame);
+        MUST(write_stream(s, false, len, frame + below(20), &result) == NOISE_OK && result.used == part
+            && result.len == frame);
         MUST(read_stream(r, message, below(frame), &result) == NOISE_MORE);
         size_t at = 2 + below(frame - 2);
         message[at] ^= 0x40, broken = *r;
         MUST(read_stream(&broken, message, frame, &result) == NOISE_TAG);
         message[at] ^= 0x40;
-        MUST(read_stream(r, message, frame + below(20), &result) == NOISE_OK && result.len == part && result.used == frame);
+        MUST(read_stream(r, message, frame + below(20), &result) == NOISE_OK && result.len == part
+            && result.used == frame);
         MUST(!memcmp(message + result.from, payload, part) && noise_stream_is_cut(r, 0) == NOISE_CUT);
     }
-    MUST(write_stream(s, true, 0, below(18), &result) == NOISE_ROOM && write_stream(s, true, 0, 18, &result) == NOISE_OK);
+    MUST(write_stream(s, true, 0, below(18), &result) == NOISE_ROOM
+        && write_stream(s, true, 0, 18, &result) == NOISE_OK);
     MUST(read_stream(r, message, 18, &result) == NOISE_END && noise_stream_is_cut(r, 0) == NOISE_OK);
-    MUST(write_stream(s, one_in(2), 9, 99, &result) == NOISE_CLOSED && read_stream(r, message, 18, &result) == NOISE_CLOSED);
+    MUST(write_stream(s, one_in(2), 9, 99, &result) == NOISE_CLOSED
+        && read_stream(r, message, 18, &result) == NOISE_CLOSED);
 }
 
 static void use_ciphers(const plan *p, party parties[2]) {
@@ -523,10 +567,12 @@ static void use_ciphers(const plan *p, party parties[2]) {
     for (size_t n = below(8); n; n--) {
         unsigned sender = p->one_way ? 0 : (unsigned)below(2);
         noise_cipher *s = &parties[sender].send, *r = &parties[!sender].receive;
-        size_t len = random_len() % (NOISE_MAX_MESSAGE - NOISE_TAG_LEN + 1), sealed = len + NOISE_TAG_LEN, data = random_len() % (NOISE_MAX_MESSAGE + 1);
+        size_t len = random_len() % (NOISE_MAX_MESSAGE - NOISE_TAG_LEN + 1), sealed = len + NOISE_TAG_LEN,
+               data = random_len() % (NOISE_MAX_MESSAGE + 1);
         ad_len = data;
         MUST(call_writing(encrypt_in_place, s, sizeof *s, cipher_codes, len, below(sealed), &result) == NOISE_ROOM);
-        MUST(call_writing(encrypt_in_place, s, sizeof *s, cipher_codes, len, sealed, &result) == NOISE_OK && result.len == sealed);
+        MUST(call_writing(encrypt_in_place, s, sizeof *s, cipher_codes, len, sealed, &result) == NOISE_OK
+            && result.len == sealed);
         ad_len = data ? data - 1 : 1;
         MUST(call_opening(decrypt_in_place, r, sizeof *r, cipher_codes, message, sealed, &result) == NOISE_TAG);
         ad_len = data;
@@ -551,7 +597,8 @@ static void open_in_any_order(noise_datagram_receiver *r, size_t count, size_t w
         uint32_t wanted = wanted_of(opened, greatest, is_any, nonce, window);
         memcpy(message, datagrams_sealed[nonce], len);
         message[8 + below(len - 8)] ^= 0x11;
-        MUST(call_opening(open_datagram, r, sizeof *r, datagram_codes, message, len, &result) == (wanted == NOISE_OK ? NOISE_TAG : wanted));
+        MUST(call_opening(open_datagram, r, sizeof *r, datagram_codes, message, len, &result)
+            == (wanted == NOISE_OK ? NOISE_TAG : wanted));
         memcpy(message, datagrams_sealed[nonce], len);
         MUST(call_opening(open_datagram, r, sizeof *r, datagram_codes, message, len, &result) == wanted);
         if (wanted != NOISE_OK) continue;
@@ -570,7 +617,8 @@ static void use_network(const plan *p, party parties[2], uint32_t window) {
         size_t len = below(300);
         datagram_lens[i] = len + NOISE_DATAGRAM_OVERHEAD;
         writing *seal = one_in(2) ? seal_datagram : seal_datagram_in_place;
-        MUST(call_writing(seal, s, sizeof *s, seal_codes, len, datagram_lens[i] + below(9), &result) == NOISE_OK && result.len == datagram_lens[i]);
+        MUST(call_writing(seal, s, sizeof *s, seal_codes, len, datagram_lens[i] + below(9), &result) == NOISE_OK
+            && result.len == datagram_lens[i]);
         memcpy(datagrams_sealed[i], message, result.len);
     }
     open_in_any_order(&parties[!sender].d.r, count, window);
@@ -597,7 +645,8 @@ static void try_round(void) {
     uint64_t interval = below(5);
     uint32_t window = (uint32_t[]){64, 256, 1024}[below(3)];
     for (unsigned role = 0; role < 2; role++) {
-        MUST(finish(&h[role], interval, &parties[role].t) == NOISE_OK && finish_datagrams(&h[role], window, &parties[role].d) == NOISE_OK);
+        MUST(finish(&h[role], interval, &parties[role].t) == NOISE_OK
+            && finish_datagrams(&h[role], window, &parties[role].d) == NOISE_OK);
         MUST(finish_cipher_states(&h[role], &parties[role].send, &parties[role].receive) == NOISE_OK);
         MUST(finish_stream(&h[role], interval, &parties[role].x) == NOISE_OK);
     }

@@ -27,7 +27,8 @@ static void check_kinds(void) {
     MUST(finish(&ends[0].h, 0, &t) == NOISE_OK && finish_datagrams(&ends[0].h, 64, &d) == NOISE_OK);
     MUST(finish_cipher_states(&ends[0].h, &send, &receive) == NOISE_OK && finish_stream(&ends[0].h, 0, &x) == NOISE_OK);
     const void *const kinds[] = {&t.s, &t.r, &d.s, &d.r, &send, &receive, &ends[0].h, &x.s, &x.r};
-    const size_t sizes[] = {sizeof t.s, sizeof t.r, sizeof d.s, sizeof d.r, sizeof send, sizeof receive, sizeof ends[0].h, sizeof x.s, sizeof x.r};
+    const size_t sizes[] = {sizeof t.s, sizeof t.r, sizeof d.s, sizeof d.r, sizeof send, sizeof receive,
+        sizeof ends[0].h, sizeof x.s, sizeof x.r};
     for (unsigned i = 0; i < sizeof kinds / sizeof *kinds; i++) {
         // A copy of each kind in a place of each other kind, at its front.
         union {
@@ -77,10 +78,12 @@ static void check_in_place(void) {
         memset(first, 0x55, ROOM);
         memset(second, 0x55, ROOM);
         memcpy(first, payload, len);
-        MUST(noise_seal_in_place(&t[0].s, first, ROOM, len, &result) == NOISE_OK && result.from == 0 && result.len == len + 16);
+        MUST(noise_seal_in_place(&t[0].s, first, ROOM, len, &result) == NOISE_OK && result.from == 0
+            && result.len == len + 16);
         MUST(noise_seal(&other.s, payload, len, second, ROOM, &result) == NOISE_OK && !memcmp(first, second, ROOM));
         MUST(!memcmp(&t[0], &other, sizeof other));
-        MUST(noise_open(&t[1].r, first, len + 16, &result) == NOISE_OK && result.len == len && !memcmp(first, payload, len));
+        MUST(noise_open(&t[1].r, first, len + 16, &result) == NOISE_OK && result.len == len
+            && !memcmp(first, payload, len));
     }
     for (size_t room = 0; room < 26; room++) {
         memcpy(second, first, ROOM);

@@ -1,4 +1,5 @@
-// Handshakes that start with fewer psks than psk tokens: what they ask for, and that all bytes are those of a handshake that had them from the start.
+// Handshakes that start with fewer psks than psk tokens: what they ask for, and that all bytes are those of a handshake
+// that had them from the start.
 #include "ends.h"
 
 static uint8_t message[2000], other[2000], payload[1000];
@@ -59,7 +60,9 @@ static uint32_t write_late(late_end *late, size_t len, noise_result *result) {
         noise_handshake old = late->x.h;
         memset(message, 0x5e, sizeof message);
         uint32_t code = noise_write(&late->x.h, payload, len, message, sizeof message, result);
-        if (code != NOISE_OK) MUST(is_same(&late->x.h, &old, sizeof old) && message[0] == 0x5e && is_same(message, message + 1, sizeof message - 1));
+        if (code != NOISE_OK)
+            MUST(is_same(&late->x.h, &old, sizeof old) && message[0] == 0x5e
+                && is_same(message, message + 1, sizeof message - 1));
         if (!supply(late, code, result)) return code;
     }
 }
@@ -83,7 +86,8 @@ static void must_be_alike(const noise_handshake *a, const noise_handshake *b) {
     MUST(key.present == again.present && (!key.present || is_same(key.bytes, again.bytes, 32)));
 }
 
-// All messages of two parties that lack psks, beside two with the same keys that have all: the same bytes and hashes, and the same transport.
+// All messages of two parties that lack psks, beside two with the same keys that have all: the same bytes and
+// hashes, and the same transport.
 static void try_beside(const plan *p, unsigned given0, unsigned given1) {
     late_end late[2] = {begin_with(p, 0, given0), begin_with(p, 1, given1)};
     end whole[2] = {begin(p, 0), begin(p, 1)};
@@ -107,7 +111,8 @@ static void try_beside(const plan *p, unsigned given0, unsigned given1) {
         MUST(noise_set_psk(&late[role].x.h, secret(0)) == NOISE_PSK_COUNT);
         MUST(finish(&late[role].x.h, 0, &t) == NOISE_OK && finish(&whole[role].h, 0, &u) == NOISE_OK);
         if (p->one_way && role) continue;
-        MUST(noise_seal(&t.s, payload, 9, message, 25, &result) == NOISE_OK && noise_seal(&u.s, payload, 9, other, 25, &again) == NOISE_OK);
+        MUST(noise_seal(&t.s, payload, 9, message, 25, &result) == NOISE_OK
+            && noise_seal(&u.s, payload, 9, other, 25, &again) == NOISE_OK);
         MUST(is_same(message, other, 25));
     }
 }
@@ -137,7 +142,8 @@ static size_t before_third(const plan *p, late_end *responder) {
     return result.len;
 }
 
-// The static key stands in the message whose psk token lacks its psk: it is reported after the DH before the token, and only of a genuine message.
+// The static key stands in the message whose psk token lacks its psk: it is reported after the DH before the token, and
+// only of a genuine message.
 static void check_xxpsk3(void) {
     plan p = plan_of("XX", 3);
     late_end responder, copy;
@@ -168,7 +174,8 @@ static void check_xxpsk3(void) {
     MUST(noise_read(&copy.x.h, message, len, &result) == NOISE_ENDED);
     MUST(noise_set_psk(&responder.x.h, secret(0)) == NOISE_OK);
     MUST(noise_read(&responder.x.h, message, len, &result) == NOISE_OK && result.len == 5);
-    MUST(noise_remote_static(&responder.x.h, &key) == NOISE_OK && key.present && is_same(key.bytes, public_key(0, true), 32));
+    MUST(noise_remote_static(&responder.x.h, &key) == NOISE_OK && key.present
+        && is_same(key.bytes, public_key(0, true), 32));
 }
 
 // The responder writes the message of the psk token, and knows the static key from the one before.
@@ -183,17 +190,20 @@ static void check_ikpsk2(void) {
     MUST(noise_message_len(&responder.x.h, 6, &len) == NOISE_OK);
     MUST(noise_write(&responder.x.h, payload, 6, message, len - 1, &result) == NOISE_ROOM && result.len == len);
     uint32_t code;
-    while ((code = noise_write(&responder.x.h, payload, 6, message, len, &result)) == NOISE_WANTED) hand_in(&responder.x, &result);
+    while ((code = noise_write(&responder.x.h, payload, 6, message, len, &result)) == NOISE_WANTED)
+        hand_in(&responder.x, &result);
     MUST(code == NOISE_WANTED_PSK && result.remote_known == 1 && is_same(result.remote, public_key(0, true), 32));
     wrong = responder;
-    MUST(noise_set_psk(&wrong.x.h, secret(3)) == NOISE_OK && noise_write(&wrong.x.h, payload, 6, message, len, &result) == NOISE_OK);
+    MUST(noise_set_psk(&wrong.x.h, secret(3)) == NOISE_OK
+        && noise_write(&wrong.x.h, payload, 6, message, len, &result) == NOISE_OK);
     end copy = initiator;
     MUST(read_on(&copy, message, result.len, &result) == NOISE_TAG);
     MUST(write_late(&responder, 6, &result) == NOISE_OK && responder.asked == 1);
     MUST(read_on(&initiator, message, result.len, &result) == NOISE_OK);
 }
 
-// A psk that was set for a refused message is taken back, and the right message is read; without that it is refused too.
+// A psk that was set for a refused message is taken back, and the right message is read;
+// without that it is refused too.
 static void check_taken_back(void) {
     plan p = plan_of("XX", 3);
     late_end responder, copy;
@@ -205,10 +215,12 @@ static void check_taken_back(void) {
     memcpy(right, message, len);
     memcpy(forged, message, len);
     forged[len - 1] ^= 1;
-    while ((code = noise_try_read(&responder.x.h, forged, len, &result)) == NOISE_WANTED) hand_in(&responder.x, &result);
+    while ((code = noise_try_read(&responder.x.h, forged, len, &result)) == NOISE_WANTED)
+        hand_in(&responder.x, &result);
     MUST(code == NOISE_WANTED_PSK);
     MUST(noise_set_psk(&responder.x.h, secret(5)) == NOISE_OK);
-    while ((code = noise_try_read(&responder.x.h, forged, len, &result)) == NOISE_WANTED) hand_in(&responder.x, &result);
+    while ((code = noise_try_read(&responder.x.h, forged, len, &result)) == NOISE_WANTED)
+        hand_in(&responder.x, &result);
     MUST(code == NOISE_TAG);
     copy = responder;
     MUST(noise_try_read(&copy.x.h, right, len, &result) != NOISE_OK);

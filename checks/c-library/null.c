@@ -1,5 +1,5 @@
-// NULL with a count of 0, for every pointer that has a count: each call returns what it returns for an empty place that isn't NULL, and
-// leaves the same struct.
+// NULL with a count of 0, for every pointer that has a count: each call returns what it returns for an empty place that
+// isn't NULL, and leaves the same struct.
 #include "ends.h"
 
 // What a call has left: the struct, and what it returns.
@@ -21,7 +21,8 @@ static const left blank;
 static void must_be_same(const left *a, const left *b, uint32_t code) {
     MUST(a->code == code && b->code == code);
     MUST(!memcmp(&a->object, &b->object, sizeof a->object));
-    MUST(a->result.from == b->result.from && a->result.len == b->result.len && a->result.token == b->result.token && a->result.of_static == b->result.of_static);
+    MUST(a->result.from == b->result.from && a->result.len == b->result.len && a->result.token == b->result.token
+        && a->result.of_static == b->result.of_static);
     MUST(!memcmp(a->result.remote, b->result.remote, 32));
 }
 
@@ -115,11 +116,14 @@ static void check_stream_calls(end ends[2]) {
     noise_stream_result result, other;
     MUST(finish_stream(&ends[0].h, 0, &a) == NOISE_OK);
     b = a;
-    MUST(noise_stream_write(&a.s, NULL, 0, NULL, 0, &result) == NOISE_OK && noise_stream_write(&b.s, &empty, 0, &empty, 0, &other) == NOISE_OK);
+    MUST(noise_stream_write(&a.s, NULL, 0, NULL, 0, &result) == NOISE_OK
+        && noise_stream_write(&b.s, &empty, 0, &empty, 0, &other) == NOISE_OK);
     MUST(result.used == 0 && result.len == 0 && other.used == 0 && other.len == 0);
-    MUST(noise_stream_write(&a.s, &empty, 1, NULL, 0, &result) == NOISE_ROOM && noise_stream_end(&a.s, NULL, 0, &result) == NOISE_ROOM);
+    MUST(noise_stream_write(&a.s, &empty, 1, NULL, 0, &result) == NOISE_ROOM
+        && noise_stream_end(&a.s, NULL, 0, &result) == NOISE_ROOM);
     MUST(noise_stream_read(&a.r, NULL, 0, &result) == NOISE_MORE && result.wanted == 2);
-    MUST(noise_frame_find(NULL, 0, &result) == NOISE_MORE && result.wanted == 2 && noise_frame_message(NULL, 0, 0, &result) == NOISE_ROOM);
+    MUST(noise_frame_find(NULL, 0, &result) == NOISE_MORE && result.wanted == 2
+        && noise_frame_message(NULL, 0, 0, &result) == NOISE_ROOM);
     MUST(!memcmp(&a, &b, sizeof a));
 }
 

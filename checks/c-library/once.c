@@ -1,4 +1,5 @@
-// A handshake is used up by the call that finishes it; a refused message may leave it as it was; what a call doesn't report stays.
+// A handshake is used up by the call that finishes it; a refused message may leave it as it was; what a
+// call doesn't report stays.
 #include "ends.h"
 
 static uint8_t message[200], before[200];
@@ -54,7 +55,8 @@ static void check_twice(void) {
         }
 }
 
-// What a used struct doesn't hold any more: its psks, the results of X25519, and, by finding what it held before, its keys.
+// What a used struct doesn't hold any more: its psks, the results of X25519, and, by finding what
+// it held before, its keys.
 static void check_wiped(void) {
     plan p = plan_of("XX", 3);
     end ends[2] = {begin(&p, 0), begin(&p, 1)};
@@ -67,7 +69,8 @@ static void check_wiped(void) {
     MUST(by_stream(&h) == NOISE_OK);
     for (size_t i = 0; i < sizeof h; i++) zeros += ((uint8_t *)&h)[i] == 0;
     MUST(!holds(&h, setup.psks[0], 32));
-    MUST(zeros >= zeros_before + 32 + 32 + 3 * 32);      // the chaining key, the cipher key, a psk, two DH results or more
+    // The chaining key, the cipher key, a psk, two DH results or more.
+    MUST(zeros >= zeros_before + 32 + 32 + 3 * 32);
     noise_handshake again = ends[0].h;
     plan other = plan_of("NN", -1);
     noise_setup none = setup_of(&other, 0);
@@ -86,7 +89,8 @@ static void check_tries(void) {
         MUST(noise_try_read(&writer->h, message, 96, &result) == NOISE_NOT_YOUR_TURN);
         MUST(write_on(writer, (const uint8_t *)"payload", 7, right, sizeof right, &result) == NOISE_OK);
         size_t len = result.len;
-        for (size_t i = 0; i < len; i++)                 // changed at each byte: what comes in clear is found out later, or taken
+        // Changed at each byte: what comes in clear is found out later, or taken.
+        for (size_t i = 0; i < len; i++)
             for (unsigned cut = 0; cut < 2; cut++) {
                 noise_handshake h = reader->h;
                 size_t some = cut ? i : len;
@@ -164,7 +168,8 @@ static void check_asks(void) {
         unsigned already = ends[1].answers;
         MUST(write_on(&ends[1], NULL, 0, message, sizeof message, &result) == NOISE_OK);
         size_t len = result.len;
-        while ((code = noise_read(&ends[0].h, message, len, &result)) == NOISE_WANTED) hand_in(&ends[0], &result), asked++;
+        while ((code = noise_read(&ends[0].h, message, len, &result)) == NOISE_WANTED)
+            hand_in(&ends[0], &result), asked++;
         MUST(code == NOISE_OK);
         MUST(asked == most[i] && ends[1].answers - already == most[i]);
     }

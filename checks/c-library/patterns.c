@@ -1,8 +1,16 @@
-// What noise_pattern and noise_layout say of patterns, by tables that were made by hand from the standard (7.4, 7.5, 9.4), and what the messages
-// of the handshakes themselves have.
+// What noise_pattern and noise_layout say of patterns, by tables that were made by hand from the standard (7.4, 7.5,
+// 9.4), and what the messages of the handshakes themselves have.
 #include "ends.h"
 
-enum { E = NOISE_TOKEN_E, S = NOISE_TOKEN_S, EE = NOISE_TOKEN_EE, ES = NOISE_TOKEN_ES, SE = NOISE_TOKEN_SE, SS = NOISE_TOKEN_SS, PSK = NOISE_TOKEN_PSK };
+enum {
+    E = NOISE_TOKEN_E,
+    S = NOISE_TOKEN_S,
+    EE = NOISE_TOKEN_EE,
+    ES = NOISE_TOKEN_ES,
+    SE = NOISE_TOKEN_SE,
+    SS = NOISE_TOKEN_SS,
+    PSK = NOISE_TOKEN_PSK
+};
 enum { PAYLOAD = NOISE_TOKEN_PAYLOAD };
 
 typedef struct {
@@ -30,9 +38,12 @@ static const row rows[] = {
     {"XXpsk3", {3, 0, 1, {{1, 1, 0, 0}, {1, 1, 0, 0}}, {{0}, {0}}, {{E}, {E, EE, S, ES}, {S, SE, PSK}}}},
     {"NNpsk0", {2, 0, 1, {{1, 0, 0, 0}, {1, 0, 0, 0}}, {{0}, {0}}, {{PSK, E}, {E, EE}}}},
     {"Kpsk0+psk1", {1, 1, 2, {{1, 1, 0, 1}, {0, 1, 0, 1}}, {{S}, {S}}, {{PSK, E, ES, SS, PSK}}}},
-    {"NK1:\n  <- s\n  ...\n  -> e\n  <- e, ee, es\n", {2, 0, 0, {{1, 0, 0, 1}, {1, 1, 0, 0}}, {{0}, {S}}, {{E}, {E, EE, ES}}}},
-    {"B:\n  <- e, s\n  ...\n  -> e, ee, es, s, ss\n", {1, 1, 0, {{1, 1, 1, 1}, {1, 1, 0, 0}}, {{0}, {E, S}}, {{E, EE, ES, S, SS}}}},
-    {"C:\n  -> e, s\n  <- e\n  ...\n  -> ee\n  <- s, es, se\n", {2, 0, 0, {{1, 1, 1, 0}, {1, 1, 1, 1}}, {{E, S}, {E}}, {{EE}, {S, ES, SE}}}},
+    {"NK1:\n  <- s\n  ...\n  -> e\n  <- e, ee, es\n",
+        {2, 0, 0, {{1, 0, 0, 1}, {1, 1, 0, 0}}, {{0}, {S}}, {{E}, {E, EE, ES}}}},
+    {"B:\n  <- e, s\n  ...\n  -> e, ee, es, s, ss\n",
+        {1, 1, 0, {{1, 1, 1, 1}, {1, 1, 0, 0}}, {{0}, {E, S}}, {{E, EE, ES, S, SS}}}},
+    {"C:\n  -> e, s\n  <- e\n  ...\n  -> ee\n  <- s, es, se\n",
+        {2, 0, 0, {{1, 1, 1, 0}, {1, 1, 1, 1}}, {{E, S}, {E}}, {{EE}, {S, ES, SE}}}},
     {"D:\n  -> e\n  <- e\n  -> s\n  <- s\n  -> ee\n  <- es\n  -> se\n  <- ss\n",
         {8, 0, 0, {{1, 1, 0, 0}, {1, 1, 0, 0}}, {{0}, {0}}, {{E}, {E}, {S}, {S}, {EE}, {ES}, {SE}, {SS}}}},
     {"Fpsk0+psk1:\n  <- e, s\n  ...\n  -> psk, e, s, ee, es, se, ss, psk\n",
@@ -59,10 +70,12 @@ static const laid layouts[] = {
     {"XXpsk3", 3, {4, 74, {{S, 1, 0, 48}, {SE, 0, 48, 0}, {PSK, 0, 48, 0}, {PAYLOAD, 1, 48, 26}}}},
     {"NNpsk0", 1, {3, 58, {{PSK, 0, 0, 0}, {E, 0, 0, 32}, {PAYLOAD, 1, 32, 26}}}},
     {"NK1:\n  <- s\n  ...\n  -> e\n  <- e, ee, es\n", 1, {2, 42, {{E, 0, 0, 32}, {PAYLOAD, 0, 32, 10}}}},
-    {"NK1:\n  <- s\n  ...\n  -> e\n  <- e, ee, es\n", 2, {4, 58, {{E, 0, 0, 32}, {EE, 0, 32, 0}, {ES, 0, 32, 0}, {PAYLOAD, 1, 32, 26}}}},
+    {"NK1:\n  <- s\n  ...\n  -> e\n  <- e, ee, es\n", 2,
+        {4, 58, {{E, 0, 0, 32}, {EE, 0, 32, 0}, {ES, 0, 32, 0}, {PAYLOAD, 1, 32, 26}}}},
     {"Fpsk0+psk1:\n  <- e, s\n  ...\n  -> psk, e, s, ee, es, se, ss, psk\n", 1,
-        {9, 106, {{PSK, 0, 0, 0}, {E, 0, 0, 32}, {S, 1, 32, 48}, {EE, 0, 80, 0}, {ES, 0, 80, 0}, {SE, 0, 80, 0}, {SS, 0, 80, 0}, {PSK, 0, 80, 0},
-            {PAYLOAD, 1, 80, 26}}}},
+        {9, 106,
+            {{PSK, 0, 0, 0}, {E, 0, 0, 32}, {S, 1, 32, 48}, {EE, 0, 80, 0}, {ES, 0, 80, 0}, {SE, 0, 80, 0},
+                {SS, 0, 80, 0}, {PSK, 0, 80, 0}, {PAYLOAD, 1, 80, 26}}}},
     {"INpsk1", 1, {4, 106, {{E, 0, 0, 32}, {S, 1, 32, 48}, {PSK, 0, 80, 0}, {PAYLOAD, 1, 80, 26}}}},
 };
 
@@ -96,7 +109,8 @@ static void check_rows(void) {
         memset(&info, 0x5a, sizeof info);
         memset(&result, 0x5a, sizeof result);
         MUST(ask(rows[i].pattern, &info, &result) == NOISE_OK);
-        MUST(!memcmp(&info, &rows[i].has, sizeof info) && result.messages == info.messages && result.rule == 0x5a && result.message == 0x5a);
+        MUST(!memcmp(&info, &rows[i].has, sizeof info) && result.messages == info.messages && result.rule == 0x5a
+            && result.message == 0x5a);
     }
 }
 
@@ -117,11 +131,15 @@ static void check_limits(void) {
     old = layout;
     for (unsigned message = 0; message < 256; message++)
         if (message < 1 || message > 3) MUST(lay("XX", message, 0, &layout) == NOISE_NOT_DUE);
-    MUST(lay("XX", 2, 65440, &layout) == NOISE_NOT_DUE && lay("XX", 2, 65536, &layout) == NOISE_NOT_DUE && lay("XX", 2, SIZE_MAX, &layout) == NOISE_NOT_DUE);
-    MUST(lay("XX", 2, SIZE_MAX - 95, &layout) == NOISE_NOT_DUE && lay("XX", 2, (size_t)UINT32_MAX + 1, &layout) == NOISE_NOT_DUE);
-    MUST(lay("XY", 1, 0, &layout) == NOISE_NAME && lay("A:\n", 1, 0, &layout) == NOISE_PATTERN && lay("A:\n  -> ee\n", 1, 0, &layout) == NOISE_PATTERN);
+    MUST(lay("XX", 2, 65440, &layout) == NOISE_NOT_DUE && lay("XX", 2, 65536, &layout) == NOISE_NOT_DUE
+        && lay("XX", 2, SIZE_MAX, &layout) == NOISE_NOT_DUE);
+    MUST(lay("XX", 2, SIZE_MAX - 95, &layout) == NOISE_NOT_DUE
+        && lay("XX", 2, (size_t)UINT32_MAX + 1, &layout) == NOISE_NOT_DUE);
+    MUST(lay("XY", 1, 0, &layout) == NOISE_NAME && lay("A:\n", 1, 0, &layout) == NOISE_PATTERN
+        && lay("A:\n  -> ee\n", 1, 0, &layout) == NOISE_PATTERN);
     MUST(lay("XY", 0, SIZE_MAX, &layout) == NOISE_NAME && !memcmp(&layout, &old, sizeof old));
-    MUST(lay("XX", 2, 65439, &layout) == NOISE_OK && layout.len == 65535 && layout.pieces[4].from == 80 && layout.pieces[4].len == 65455);
+    MUST(lay("XX", 2, 65439, &layout) == NOISE_OK && layout.len == 65535 && layout.pieces[4].from == 80
+        && layout.pieces[4].len == 65455);
 }
 
 // A fault is that of noise_check_pattern, and nothing else changes.
@@ -151,7 +169,8 @@ static void check_faults(void) {
     must_refuse("A:\n  -> s\n  <- e, se, ee\n", NOISE_RULE);
     noise_pattern_info info;
     noise_pattern_result result = {0};
-    MUST(ask("A:\n  -> s\n  <- e, se, ee\n", &info, &result) == NOISE_RULE && result.rule == 1 && result.message == 2 && result.token == 2);
+    MUST(ask("A:\n  -> s\n  <- e, se, ee\n", &info, &result) == NOISE_RULE && result.rule == 1 && result.message == 2
+        && result.token == 2);
     MUST(ask("A:\n  -> e, xx\n", &info, &result) == NOISE_TOKEN && result.line == 2);
     // Without a line feed at its end a text is a name.
     MUST(noise_pattern((const uint8_t *)"A:\n  -> e", 9, &info, &result) == NOISE_NAME);
@@ -179,7 +198,8 @@ static void check_needed(const plan *p, const noise_pattern_info *info) {
 }
 
 // The pieces follow one another; a key or a payload that isn't encrypted is there as it is, and one that is isn't.
-static void check_message(const uint8_t *message, size_t len, unsigned writer, const noise_message_layout *layout, const uint8_t *payload) {
+static void check_message(const uint8_t *message, size_t len, unsigned writer, const noise_message_layout *layout,
+                          const uint8_t *payload) {
     uint32_t at = 0;
     MUST(layout->len == len);
     for (unsigned i = 0; i < layout->count; i++) {
@@ -200,7 +220,8 @@ static void check_messages(const plan *p) {
     noise_pattern_result answered;
     const uint8_t *name = (const uint8_t *)p->name;
     size_t name_len = strlen(p->name);
-    MUST(noise_pattern(name, name_len, &info, &answered) == NOISE_OK && info.messages == p->messages && info.psks == p->psks);
+    MUST(noise_pattern(name, name_len, &info, &answered) == NOISE_OK && info.messages == p->messages
+        && info.psks == p->psks);
     MUST(info.one_way == p->one_way);
     check_needed(p, &info);
     end ends[2] = {begin(p, 0), begin(p, 1)};
@@ -217,7 +238,8 @@ static void check_messages(const plan *p) {
     }
 }
 
-// Psks at every set of places: no fundamental pattern breaks a rule by them, since each party's first message begins with its e.
+// Psks at every set of places: no fundamental pattern breaks a rule by them, since each party's first
+// message begins with its e.
 static void check_psk_sets(const char *base, unsigned messages) {
     for (unsigned set = 1; set < 2u << messages; set++) {
         char name[120] = "";

@@ -20,10 +20,12 @@ static void check_names(void) {
     plan p = plan_of("XX", -1);
     noise_setup setup = setup_of(&p, 0);
     static const char *const others[] = {
-        "", "N", "XX", "Noise_XX", "Noise_XX_25519_ChaChaPoly_SHA512", "Noise_XX_448_ChaChaPoly_SHA256", "Noise_XX_25519_AESGCM_SHA256",
-        "noise_XX_25519_ChaChaPoly_SHA256", "Noise_XY_25519_ChaChaPoly_SHA256", "Noise_NK1_25519_ChaChaPoly_SHA256",
-        "Noise_XXpsk4_25519_ChaChaPoly_SHA256", "Noise_XXpsk9_25519_ChaChaPoly_SHA256", "Noise_XXpsk1+psk0_25519_ChaChaPoly_SHA256",
-        "Noise_XXfallback_25519_ChaChaPoly_SHA256", "Noise_XX_25519_ChaChaPoly_SHA256 ", "Noise__25519_ChaChaPoly_SHA256",
+        "", "N", "XX", "Noise_XX", "Noise_XX_25519_ChaChaPoly_SHA512", "Noise_XX_448_ChaChaPoly_SHA256",
+        "Noise_XX_25519_AESGCM_SHA256", "noise_XX_25519_ChaChaPoly_SHA256", "Noise_XY_25519_ChaChaPoly_SHA256",
+        "Noise_NK1_25519_ChaChaPoly_SHA256", "Noise_XXpsk4_25519_ChaChaPoly_SHA256",
+        "Noise_XXpsk9_25519_ChaChaPoly_SHA256", "Noise_XXpsk1+psk0_25519_ChaChaPoly_SHA256",
+        "Noise_XXfallback_25519_ChaChaPoly_SHA256", "Noise_XX_25519_ChaChaPoly_SHA256 ",
+        "Noise__25519_ChaChaPoly_SHA256",
     };
     for (size_t i = 0; i < sizeof others / sizeof *others; i++) must_begin(others[i], 0, &setup, NOISE_NAME);
     must_begin(p.name, 0, &setup, NOISE_OK);
@@ -71,7 +73,8 @@ static void check_setups(void) {
 static void check_stage(const end *x, unsigned messages, unsigned passed, bool ended) {
     noise_stage_result result;
     MUST(noise_stage(&x->h, &result) == NOISE_OK);
-    MUST(result.messages == messages && result.passed == passed && result.ended == ended && result.writes_next == (passed % 2 == x->role));
+    MUST(result.messages == messages && result.passed == passed && result.ended == ended
+        && result.writes_next == (passed % 2 == x->role));
 }
 
 // None of these changes anything.
@@ -142,7 +145,8 @@ static uint32_t read_other(const end *reader, size_t len, noise_result *result) 
     return code;
 }
 
-// Each byte of a message changed in turn, and the message cut at each length. Where nothing is under a tag, a change isn't seen.
+// Each byte of a message changed in turn, and the message cut at each length. Where nothing is under a
+// tag, a change isn't seen.
 static void try_changed(const end *reader, const uint8_t *right, size_t len, bool is_tagged) {
     noise_result result;
     for (size_t i = 0; i < len; i++) {
@@ -179,7 +183,8 @@ static void check_changed_messages(const plan *p) {
 // Hands in what the next write of this party wants, and writes nothing.
 static void hand_in_all(end *x) {
     noise_result result;
-    for (end copy = *x; noise_write(&copy.h, payload, 0, message, sizeof message, &result) == NOISE_WANTED; copy = *x) hand_in(x, &result);
+    for (end copy = *x; noise_write(&copy.h, payload, 0, message, sizeof message, &result) == NOISE_WANTED; copy = *x)
+        hand_in(x, &result);
 }
 
 static void check_lengths(void) {
@@ -190,13 +195,15 @@ static void check_lengths(void) {
     for (unsigned m = 0; m < 2; m++) {
         end *writer = &ends[m], *reader = &ends[!m];
         noise_handshake old = reader->h;
-        MUST(noise_read(&reader->h, message, NOISE_MAX_MESSAGE + 1, &result) == NOISE_LENGTH && is_same(&old, &reader->h, sizeof old));
+        MUST(noise_read(&reader->h, message, NOISE_MAX_MESSAGE + 1, &result) == NOISE_LENGTH
+            && is_same(&old, &reader->h, sizeof old));
         MUST(noise_message_len(&writer->h, 0, &len) == NOISE_OK && len == 48);
         MUST(noise_message_len(&writer->h, NOISE_MAX_MESSAGE - 48, &len) == NOISE_OK && len == NOISE_MAX_MESSAGE);
         MUST(noise_message_len(&writer->h, NOISE_MAX_MESSAGE - 47, &len) == NOISE_NOT_DUE);
         MUST(noise_message_len(&writer->h, SIZE_MAX, &len) == NOISE_NOT_DUE);
         old = writer->h;
-        MUST(noise_write(&writer->h, payload, NOISE_MAX_MESSAGE - 47, message, sizeof message, &result) == NOISE_TOO_LONG);
+        MUST(noise_write(&writer->h, payload, NOISE_MAX_MESSAGE - 47, message, sizeof message, &result)
+            == NOISE_TOO_LONG);
         MUST(noise_write(&writer->h, payload, sizeof payload, message, sizeof message, &result) == NOISE_TOO_LONG);
         MUST(is_same(&old, &writer->h, sizeof old));
         copy = *writer;
@@ -232,7 +239,8 @@ static void check_answers(void) {
         MUST(is_same(&old, &ends[1].h, sizeof old) && is_same(message, before, sizeof message));
     }
     MUST(noise_answer(&ends[1].h, 1, public_key(0, true), wrong) == NOISE_OK);   // one that nobody has asked for
-    MUST(noise_write(&ends[1].h, payload, 4, message, sizeof message, &result) == NOISE_WANTED && result.of_static == 0);
+    MUST(noise_write(&ends[1].h, payload, 4, message, sizeof message, &result) == NOISE_WANTED
+        && result.of_static == 0);
     hand_in(&ends[1], &result);
     MUST(noise_write(&ends[1].h, payload, 4, message, sizeof message, &result) == NOISE_WANTED);
     MUST(result.of_static == 1 && is_same(result.remote, public_key(0, false), 32));
@@ -265,7 +273,8 @@ static void check_full(void) {
     MUST(read_on(&x, message, result.len, &result) == NOISE_OK);
     for (unsigned i = 0; i < 30; i++, bytes[5]++) {
         end copy = x;
-        for (unsigned n = 0; n < i; n++, bytes[6]++) MUST(noise_answer(&copy.h, (uint8_t)(i * 29), bytes, bytes) == NOISE_OK);
+        for (unsigned n = 0; n < i; n++, bytes[6]++)
+            MUST(noise_answer(&copy.h, (uint8_t)(i * 29), bytes, bytes) == NOISE_OK);
         MUST(write_on(&copy, payload, 9, message, sizeof message, &result) == NOISE_OK && copy.answers == 2);
         end other = writer;
         MUST(read_on(&other, message, result.len, &result) == NOISE_OK && result.len == 9);
@@ -301,17 +310,22 @@ static void check_unbegun(void) {
     uint8_t hash[32];
     uint64_t nonce;
     size_t len;
-    MUST(noise_read(&h, message, 48, &result) == NOISE_STRUCT && noise_write(&h, payload, 5, message, 99, &result) == NOISE_STRUCT);
+    MUST(noise_read(&h, message, 48, &result) == NOISE_STRUCT
+        && noise_write(&h, payload, 5, message, 99, &result) == NOISE_STRUCT);
     MUST(noise_message_len(&h, 5, &len) == NOISE_STRUCT && noise_hash(&h, hash) == NOISE_STRUCT);
     MUST(noise_remote_static(&h, &key) == NOISE_STRUCT && noise_stage(&h, &stage) == NOISE_STRUCT);
     MUST(finish(&h, 0, &t) == NOISE_STRUCT && finish_datagrams(&h, 64, &d) == NOISE_STRUCT);
     MUST(is_same(&h, &zeros, sizeof h));
     t = no_transport, d = no_datagrams;
-    MUST(noise_seal(&t.s, payload, 5, message, 99, &result) == NOISE_STRUCT && noise_open(&t.r, message, 48, &result) == NOISE_STRUCT);
-    MUST(noise_seal_in_place(&t.s, message, 48, 5, &result) == NOISE_STRUCT && noise_sender_nonce(&t.s, &nonce) == NOISE_STRUCT);
+    MUST(noise_seal(&t.s, payload, 5, message, 99, &result) == NOISE_STRUCT
+        && noise_open(&t.r, message, 48, &result) == NOISE_STRUCT);
+    MUST(noise_seal_in_place(&t.s, message, 48, 5, &result) == NOISE_STRUCT
+        && noise_sender_nonce(&t.s, &nonce) == NOISE_STRUCT);
     MUST(noise_receiver_nonce(&t.r, &nonce) == NOISE_STRUCT && is_same(&t, &no_transport, sizeof t));
-    MUST(noise_datagram_seal(&d.s, payload, 5, message, 99, &result) == NOISE_STRUCT && noise_datagram_open(&d.r, message, 48, &result) == NOISE_STRUCT);
-    MUST(noise_datagram_seal_in_place(&d.s, message, 48, 5, &result) == NOISE_STRUCT && noise_datagram_sender_nonce(&d.s, &nonce) == NOISE_STRUCT);
+    MUST(noise_datagram_seal(&d.s, payload, 5, message, 99, &result) == NOISE_STRUCT
+        && noise_datagram_open(&d.r, message, 48, &result) == NOISE_STRUCT);
+    MUST(noise_datagram_seal_in_place(&d.s, message, 48, 5, &result) == NOISE_STRUCT
+        && noise_datagram_sender_nonce(&d.s, &nonce) == NOISE_STRUCT);
     MUST(is_same(&d, &no_datagrams, sizeof d));
 }
 

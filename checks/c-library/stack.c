@@ -1,5 +1,6 @@
-// How many bytes of stack a call takes at most: each runs on a stack of its own that was filled before, and what it has changed is counted. That is of
-// the calls below on this machine, and no bound on others. stack MOST fails where one takes more.
+// How many bytes of stack a call takes at most: each runs on a stack of its own that was filled before, and
+// what it has changed is counted. That is of the calls below on this machine, and no bound on others. stack
+// MOST fails where one takes more.
 #define _GNU_SOURCE
 #include "ends.h"
 #include <stdlib.h>
@@ -30,19 +31,29 @@ static unsigned role;
 static uint32_t code;
 
 static void do_nothing(void) {}
-static void do_start(void) { code = noise_start(&ends[role].h, pattern, pattern_len, prologue(), p.prologue_len, &setup); }
+static void do_start(void) {
+    code = noise_start(&ends[role].h, pattern, pattern_len, prologue(), p.prologue_len, &setup);
+}
 static void do_write(void) { code = noise_write(&ends[role].h, payload, len, message, room, &result); }
 static void do_read(void) { code = noise_read(&ends[role].h, message, len, &result); }
 static void do_answer(void) { hand_in(&ends[role], &result); }
 static void do_finish(void) { used = ends[role].h, code = noise_finish(&used, 1, &t[role].s, &t[role].r); }
-static void do_finish_datagrams(void) { used = ends[role].h, code = noise_finish_datagrams(&used, 1024, &d[role].s, &d[role].r); }
-static void do_finish_stream(void) { used = ends[role].h, code = noise_finish_stream(&used, 1, &x[role].s, &x[role].r); }
-static void do_finish_ciphers(void) { used = ends[role].h, code = noise_finish_ciphers(&used, &send[role], &receive[role]); }
+static void do_finish_datagrams(void) {
+    used = ends[role].h, code = noise_finish_datagrams(&used, 1024, &d[role].s, &d[role].r);
+}
+static void do_finish_stream(void) {
+    used = ends[role].h, code = noise_finish_stream(&used, 1, &x[role].s, &x[role].r);
+}
+static void do_finish_ciphers(void) {
+    used = ends[role].h, code = noise_finish_ciphers(&used, &send[role], &receive[role]);
+}
 static void do_seal(void) { code = noise_seal(&t[role].s, payload, len, message, room, &result); }
 static void do_seal_in_place(void) { code = noise_seal_in_place(&t[role].s, message, room, len, &result); }
 static void do_open(void) { code = noise_open(&t[role].r, message, len, &result); }
 static void do_seal_datagram(void) { code = noise_datagram_seal(&d[role].s, payload, len, message, room, &result); }
-static void do_seal_datagram_in_place(void) { code = noise_datagram_seal_in_place(&d[role].s, message, room, len, &result); }
+static void do_seal_datagram_in_place(void) {
+    code = noise_datagram_seal_in_place(&d[role].s, message, room, len, &result);
+}
 static void do_open_datagram(void) { code = noise_datagram_open(&d[role].r, message, len, &result); }
 static void do_encrypt(void) { code = noise_cipher_encrypt(&send[role], payload, 30, message, room, len, &result); }
 static void do_decrypt(void) { code = noise_cipher_decrypt(&receive[role], payload, 30, message, len, &result); }
@@ -109,7 +120,8 @@ static void pass_message(size_t payload_len) {
     MUST(code == NOISE_OK);
 }
 
-static void pass_sealed(const char *seal_name, void (*seal)(void), const char *open_name, void (*open)(void), size_t payload_len) {
+static void pass_sealed(const char *seal_name, void (*seal)(void), const char *open_name, void (*open)(void),
+                        size_t payload_len) {
     len = payload_len, room = sizeof message, role = 0;
     measure(seal_name, seal);
     MUST(code == NOISE_OK);
@@ -146,7 +158,8 @@ static void measure_all(void) {
         pass_sealed("noise_seal", do_seal, "noise_open", do_open, lens[i]);
         pass_sealed("noise_seal_in_place", do_seal_in_place, "noise_open", do_open, lens[i]);
         pass_sealed("noise_datagram_seal", do_seal_datagram, "noise_datagram_open", do_open_datagram, lens[i]);
-        pass_sealed("noise_datagram_seal_in_place", do_seal_datagram_in_place, "noise_datagram_open", do_open_datagram, lens[i]);
+        pass_sealed("noise_datagram_seal_in_place", do_seal_datagram_in_place, "noise_datagram_open", do_open_datagram,
+            lens[i]);
         pass_sealed("noise_cipher_encrypt", do_encrypt, "noise_cipher_decrypt", do_decrypt, lens[i]);
         if (!lens[i]) continue;
         stream right = x[1];
@@ -206,13 +219,15 @@ static void check_wiping(void) {
         wiped_call = calls[i];
         taken_by(wiped_call);
         MUST(code == NOISE_OK);
-        const uint8_t *secrets[] = {secret(0), t[0].s.opaque + 6, t[0].r.opaque + 6, send[0].opaque + 5, receive[0].opaque + 5};
+        const uint8_t *secrets[] = {
+            secret(0), t[0].s.opaque + 6, t[0].r.opaque + 6, send[0].opaque + 5, receive[0].opaque + 5};
         for (size_t n = 0; n < (i ? 5 : 1); n++) ever_left = ever_left || is_left(secrets[n], 32);
         taken_by(do_and_wipe);
         for (size_t n = 0; n < (i ? 5 : 1); n++) MUST(!is_left(secrets[n], 32));
         if (i == 0) ends[0].h = done;
     }
-    printf("c-library: stack: secrets were %s there, and noise_wipe_stack overwrote them\n", ever_left ? "left" : "not left");
+    printf("c-library: stack: secrets were %s there, and noise_wipe_stack overwrote them\n",
+        ever_left ? "left" : "not left");
 }
 
 int main(int count, char **words) {
@@ -220,9 +235,11 @@ int main(int count, char **words) {
     stack = mmap(0, STACK, PROT_READ | PROT_WRITE, MAP_PRIVATE | MAP_ANONYMOUS, -1, 0);
     MUST(stack != MAP_FAILED);
     for (unsigned i = 0; i < PATTERNS + 2; i++) {
-        if (i == 1) most = 0;                            // in the first round the dynamic loader may have run on this stack too
+        // In the first round the dynamic loader may have run on this stack too.
+        if (i == 1) most = 0;
         p = i < PATTERNS ? plan_of(patterns[i], 0)
-            : i == PATTERNS ? plan_of("XX", 3) : plan_of_text("XX1psk0+psk3:\n  -> psk, e\n  <- e, ee, s\n  -> es, s, se, psk\n", "XX", 2, true);
+            : i == PATTERNS ? plan_of("XX", 3)
+            : plan_of_text("XX1psk0+psk3:\n  -> psk, e\n  <- e, ee, s\n  -> es, s, se, psk\n", "XX", 2, true);
         if (!p.one_way || i == 0) measure_all();
     }
     check_wiping();

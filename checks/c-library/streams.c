@@ -1,5 +1,6 @@
-// Streams and frames: what is written and read, in pieces of any size; ends, refusals and cuts; and a network that flips, cuts, repeats or drops at each
-// byte of a whole session, whatever the order in which the two parties end their streams.
+// Streams and frames: what is written and read, in pieces of any size; ends, refusals and cuts; and a network
+// that flips, cuts, repeats or drops at each byte of a whole session, whatever the order in which the two
+// parties end their streams.
 #include "ends.h"
 
 enum { PART = NOISE_MAX_MESSAGE - NOISE_TAG_LEN, ROOM = NOISE_MAX_FRAME + 10 };
@@ -39,10 +40,12 @@ static void check_frames(uint64_t interval) {
         MUST((size_t)(out[0] << 8 | out[1]) == sealed.len && !memcmp(out + 2, other, sealed.len));
         must_be_cut(&x[1], 0, true);
         MUST(noise_stream_read(&x[1].r, out, result.len, &result) == NOISE_OK);
-        MUST(result.from == 2 && result.len == part && result.used == part + NOISE_STREAM_OVERHEAD && !memcmp(out + 2, payload, part));
+        MUST(result.from == 2 && result.len == part && result.used == part + NOISE_STREAM_OVERHEAD
+            && !memcmp(out + 2, payload, part));
     }
     noise_stream_sender old = x[0].s;
-    MUST(noise_stream_end(&x[0].s, out, 18, &result) == NOISE_OK && result.len == 18 && memcmp(&old, &x[0].s, sizeof old));
+    MUST(noise_stream_end(&x[0].s, out, 18, &result) == NOISE_OK && result.len == 18
+        && memcmp(&old, &x[0].s, sizeof old));
     MUST(noise_stream_read(&x[1].r, out, 18, &result) == NOISE_END && result.used == 18);
     must_be_cut(&x[1], 0, false);
     must_be_cut(&x[1], 1, true);
@@ -86,7 +89,8 @@ static void check_pieces(void) {
         have = 0;
     }
     old = x[0];
-    MUST(noise_stream_read(&x[0].r, buffer, 0, &result) == NOISE_CLOSED && noise_stream_read(&x[0].r, out, 18, &result) == NOISE_CLOSED);
+    MUST(noise_stream_read(&x[0].r, buffer, 0, &result) == NOISE_CLOSED
+        && noise_stream_read(&x[0].r, out, 18, &result) == NOISE_CLOSED);
     MUST(!memcmp(&old, &x[0], sizeof old));
 }
 
@@ -95,7 +99,8 @@ static void must_not_write(noise_stream_sender *s, size_t len, size_t room, uint
     noise_stream_result result = {1, 2, 3, 4};
     memset(out, 0x33, sizeof out);
     memset(other, 0x33, sizeof other);
-    MUST(noise_stream_write(s, payload, len, out, room, &result) == code && !memcmp(&old, s, sizeof old) && !memcmp(out, other, sizeof out));
+    MUST(noise_stream_write(s, payload, len, out, room, &result) == code && !memcmp(&old, s, sizeof old)
+        && !memcmp(out, other, sizeof out));
     MUST(result.from == 1 && result.len == 2 && result.used == 3 && result.wanted == 4);
 }
 
@@ -103,7 +108,8 @@ static void must_not_end(noise_stream_sender *s, size_t room, uint32_t code) {
     noise_stream_sender old = *s;
     noise_stream_result result = {1, 2, 3, 4};
     memset(out, 0x33, sizeof out);
-    MUST(noise_stream_end(s, out, room, &result) == code && !memcmp(&old, s, sizeof old) && !memcmp(out, other, sizeof out));
+    MUST(noise_stream_end(s, out, room, &result) == code && !memcmp(&old, s, sizeof old)
+        && !memcmp(out, other, sizeof out));
     MUST(result.from == 1 && result.len == 2 && result.used == 3 && result.wanted == 4);
 }
 
@@ -123,7 +129,8 @@ static void check_writing(void) {
     open_pair("K", 0, x, t);
     must_not_write(&x[1].s, 10, sizeof out, NOISE_ONE_WAY);
     must_not_end(&x[1].s, sizeof out, NOISE_ONE_WAY);
-    MUST(noise_stream_end(&x[0].s, out, sizeof out, &result) == NOISE_OK && noise_stream_read(&x[1].r, out, 18, &result) == NOISE_END);
+    MUST(noise_stream_end(&x[0].s, out, sizeof out, &result) == NOISE_OK
+        && noise_stream_read(&x[1].r, out, 18, &result) == NOISE_END);
 }
 
 // A refused frame breaks the stream for good: the right frame isn't read any more.
@@ -168,13 +175,15 @@ static void check_structs(void) {
     noise_stream_receiver zero_receiver = {{0}}, receiver;
     must_not_write(&zero_sender, 5, sizeof out, NOISE_STRUCT);
     must_not_end(&zero_sender, sizeof out, NOISE_STRUCT);
-    MUST(noise_stream_read(&zero_receiver, buffer, 20, &result) == NOISE_STRUCT && noise_stream_is_cut(&zero_receiver, 0) == NOISE_STRUCT);
+    MUST(noise_stream_read(&zero_receiver, buffer, 20, &result) == NOISE_STRUCT
+        && noise_stream_is_cut(&zero_receiver, 0) == NOISE_STRUCT);
     for (unsigned i = 0; i < 4; i++)
         for (unsigned change = 1; change < 256; change++) {
             sender = x[0].s, receiver = x[0].r;
             sender.opaque[i] ^= (uint8_t)change, receiver.opaque[i] ^= (uint8_t)change;
             must_not_write(&sender, 5, sizeof out, NOISE_STRUCT);
-            MUST(noise_stream_read(&receiver, buffer, 20, &result) == NOISE_STRUCT && noise_stream_is_cut(&receiver, 0) == NOISE_STRUCT);
+            MUST(noise_stream_read(&receiver, buffer, 20, &result) == NOISE_STRUCT
+                && noise_stream_is_cut(&receiver, 0) == NOISE_STRUCT);
         }
     // A stream's half begins with a half of its own kind, and is no half of messages, nor the other way round.
     memcpy(&sender, &x[0].r, sizeof sender);
@@ -201,16 +210,21 @@ static void check_handshake_frames(void) {
             MUST(code == NOISE_OK && result.from == 2 && result.len == 20 && result.used == 22);
     }
     MUST(noise_frame_find(NULL, 0, &result) == NOISE_MORE && result.wanted == 2);
-    MUST(noise_frame_message(buffer, sizeof buffer, 65535, &result) == NOISE_OK && result.len == NOISE_MAX_FRAME && buffer[0] == 0xff && buffer[1] == 0xff);
-    MUST(noise_frame_message(buffer, 302, 300, &result) == NOISE_OK && result.len == 302 && buffer[0] == 1 && buffer[1] == 44 && buffer[2] == 7);
+    MUST(noise_frame_message(buffer, sizeof buffer, 65535, &result) == NOISE_OK && result.len == NOISE_MAX_FRAME
+        && buffer[0] == 0xff && buffer[1] == 0xff);
+    MUST(noise_frame_message(buffer, 302, 300, &result) == NOISE_OK && result.len == 302 && buffer[0] == 1
+        && buffer[1] == 44 && buffer[2] == 7);
     MUST(noise_frame_message(buffer, 2, 0, &result) == NOISE_OK && result.len == 2 && buffer[0] == 0 && buffer[1] == 0);
-    MUST(noise_frame_message(buffer, 301, 300, &result) == NOISE_ROOM && noise_frame_message(buffer, 1, 0, &result) == NOISE_ROOM);
-    MUST(noise_frame_message(buffer, sizeof buffer, 65536, &result) == NOISE_LENGTH && noise_frame_message(buffer, 0, SIZE_MAX, &result) == NOISE_LENGTH);
+    MUST(noise_frame_message(buffer, 301, 300, &result) == NOISE_ROOM
+        && noise_frame_message(buffer, 1, 0, &result) == NOISE_ROOM);
+    MUST(noise_frame_message(buffer, sizeof buffer, 65536, &result) == NOISE_LENGTH
+        && noise_frame_message(buffer, 0, SIZE_MAX, &result) == NOISE_LENGTH);
     MUST(noise_frame_message(NULL, 0, 0, &result) == NOISE_ROOM && buffer[0] == 0 && buffer[1] == 0);
 }
 
-// A whole session through a relay. A party does the handshake, writes its texts, and ends its stream after it has written them: at once, or only once it
-// has read the other's end. It closes the connection once its own stream has ended and the other's has ended or is broken.
+// A whole session through a relay. A party does the handshake, writes its texts, and ends its stream after it has
+// written them: at once, or only once it has read the other's end. It closes the connection once its own stream has
+// ended and the other's has ended or is broken.
 enum { LONG = 1200, TEXTS = 3, NEVER = -1 };
 
 typedef struct {
@@ -239,7 +253,8 @@ typedef struct {
     unsigned bit;
 } attack;
 
-static const char *const texts[2][TEXTS] = {{"a first text", "b", "the last of the client"}, {"1", "what the server has to say", "and good bye"}};
+static const char *const texts[2][TEXTS] = {
+    {"a first text", "b", "the last of the client"}, {"1", "what the server has to say", "and good bye"}};
 
 static size_t text_of(unsigned role, uint8_t *all) {
     size_t len = 0;
@@ -320,7 +335,10 @@ static bool write_texts(session *s, unsigned role) {
         m->wrote = true;
         for (unsigned i = 0; i < TEXTS; i++) {
             const char *text = texts[role][i];
-            MUST(noise_stream_write(&m->open.s, (const uint8_t *)text, strlen(text), frame, sizeof frame, &result) == NOISE_OK && result.used == strlen(text));
+            const uint8_t *bytes = (const uint8_t *)text;
+            size_t len = strlen(text);
+            MUST(noise_stream_write(&m->open.s, bytes, len, frame, sizeof frame, &result) == NOISE_OK
+                && result.used == len);
             put(s, role, frame, result.len);
         }
         return true;
@@ -379,8 +397,8 @@ static session pass_session(attack a, bool first_waits, bool second_waits) {
     return s;
 }
 
-// The theorem on streams: what a reader has is the first of what the other has written; it has reported an end only if the other ended and all of it came; in any
-// other case it has refused, or reports a cut now.
+// The theorem on streams: what a reader has is the first of what the other has written; it has reported an end only if
+// the other ended and all of it came; in any other case it has refused, or reports a cut now.
 static bool judge(const session *s, unsigned role) {
     const machine *m = &s->m[role], *other_end = &s->m[!role];
     uint8_t all[LONG];
@@ -404,12 +422,15 @@ static void check_network(void) {
                     for (unsigned bit = 0; bit < (kind == FLIP ? 8u : 1u); bit++) {
                         session s = pass_session((attack){kind, direction, at, bit}, order == 1, order == 2);
                         bool hurt = judge(&s, !direction), back = judge(&s, direction);
-                        MUST(!hurt);                     // whatever was done, the reader of the damaged direction knows it
+                        // Whatever was done, the reader of the damaged direction knows it.
+                        MUST(!hurt);
                         sessions++;
                         whole += back;
                     }
     }
-    printf("c-library: streams: %lu damaged sessions, in each the reader of the damaged direction knew; in %lu the other direction was whole\n", sessions, whole);
+    printf("c-library: streams: %lu damaged sessions, in each the reader of the damaged direction knew; in %lu the "
+           "other direction was whole\n",
+        sessions, whole);
 }
 
 void check_streams(void) {

@@ -1,6 +1,6 @@
-// Two parties of one handshake, each with a thread for its sending half and one for its receiving half, with no lock round a call: those of messages in
-// order, and then those of datagrams. The messages pass through two queues, which have locks. And calls that take
-// a struct as const, from two threads at once: it is on pages that can't be written.
+// Two parties of one handshake, each with a thread for its sending half and one for its receiving half, with no lock
+// round a call: those of messages in order, and then those of datagrams. The messages pass through two queues, which
+// have locks. And calls that take a struct as const, from two threads at once: it is on pages that can't be written.
 #define _GNU_SOURCE
 #include "ends.h"
 #include <pthread.h>
@@ -33,7 +33,8 @@ static noise_datagram_sender datagram_senders[2];
 static noise_datagram_receiver datagram_receivers[2];
 static bool are_datagrams;                               // set before the threads begin
 
-static uint32_t seal(unsigned own, const uint8_t *payload, size_t len, uint8_t *out, size_t out_len, noise_result *result) {
+static uint32_t seal(unsigned own, const uint8_t *payload, size_t len, uint8_t *out, size_t out_len,
+                     noise_result *result) {
     if (are_datagrams) return noise_datagram_seal(&datagram_senders[own], payload, len, out, out_len, result);
     return noise_seal(&senders[own], payload, len, out, out_len, result);
 }
@@ -90,10 +91,12 @@ static void pass_messages(bool datagrams) {
         MUST(pthread_create(&threads[2 * role + 1], NULL, receive_all, (void *)&roles[role]) == 0);
     }
     for (unsigned i = 0; i < 4; i++) MUST(pthread_join(threads[i], NULL) == 0);
-    printf("c-library: two parties in four threads passed %d %s each way\n", MESSAGES, datagrams ? "datagrams" : "messages");
+    printf("c-library: two parties in four threads passed %d %s each way\n", MESSAGES,
+        datagrams ? "datagrams" : "messages");
 }
 
-// Each call that takes an opaque struct as const, again and again, on one struct of each type: two threads do so at once.
+// Each call that takes an opaque struct as const, again and again, on one struct of each type:
+// two threads do so at once.
 static void *ask_all(void *of) {
     const asked *a = of;
     for (unsigned n = 0; n < QUESTIONS; n++) {
@@ -106,7 +109,8 @@ static void *ask_all(void *of) {
         datagrams d;
         stream x;
         noise_cipher send, receive;
-        MUST(noise_hash(&a->h, hash) == NOISE_OK && noise_remote_static(&a->h, &key) == NOISE_OK && noise_stage(&a->h, &stage) == NOISE_OK);
+        MUST(noise_hash(&a->h, hash) == NOISE_OK && noise_remote_static(&a->h, &key) == NOISE_OK
+            && noise_stage(&a->h, &stage) == NOISE_OK);
         MUST(noise_message_len(&a->h, 3, &len) == NOISE_NOT_DUE);
         MUST(finish(&a->h, 7, &t) == NOISE_OK && finish_datagrams(&a->h, 64, &d) == NOISE_OK);
         MUST(finish_cipher_states(&a->h, &send, &receive) == NOISE_OK && finish_stream(&a->h, 7, &x) == NOISE_OK);

@@ -73,7 +73,8 @@ static void check_sizes(void) {
     }
     must_not_open(&t[0], 26, NOISE_TAG);                 // one's own
     must_be_at(&t[1], 0, 0);
-    MUST(noise_open(&t[1].r, message, 26, &result) == NOISE_OK && result.len == 10 && !memcmp(message + result.from, payload, 10));
+    MUST(noise_open(&t[1].r, message, 26, &result) == NOISE_OK && result.len == 10
+        && !memcmp(message + result.from, payload, 10));
     must_be_at(&t[1], 0, 1);
     open_next(&t[1], seal(&t[0], NOISE_MAX_MESSAGE - 16, 4), 4);
     open_next(&t[0], seal(&t[1], 0, 5), 5);
@@ -148,14 +149,16 @@ static size_t counter(const uint8_t *earlier, const uint8_t *later, size_t size)
     return at;
 }
 
-// At the nonce 2^64 - 1 nothing is sealed and nothing is opened. A struct's nonce is set to it here, which no program does.
+// At the nonce 2^64 - 1 nothing is sealed and nothing is opened. A struct's nonce is set to it
+// here, which no program does.
 static void check_exhausted(void) {
     plan p = plan_of("NN", -1);
     transport t[2], old[2];
     open_pair(&p, 0, t);
     memcpy(old, t, sizeof old);
     open_next(&t[1], seal(&t[0], 9, 1), 1);
-    size_t sending = counter(old[0].s.opaque, t[0].s.opaque, sizeof t[0].s), receiving = counter(old[1].r.opaque, t[1].r.opaque, sizeof t[1].r);
+    size_t sending = counter(old[0].s.opaque, t[0].s.opaque, sizeof t[0].s),
+           receiving = counter(old[1].r.opaque, t[1].r.opaque, sizeof t[1].r);
     memset(t[0].s.opaque + sending, 0xff, 8);
     memset(t[1].r.opaque + receiving, 0xff, 8);
     must_be_at(&t[0], UINT64_MAX, 0);

@@ -1,5 +1,5 @@
-// Runs of two parties, each written as a vector file NAME.vector, and beside it what `noise talk` has to print for it (NAME.wanted), from what the
-// library returns.
+// Runs of two parties, each written as a vector file NAME.vector, and beside it what `noise talk` has to print for it
+// (NAME.wanted), from what the library returns.
 #include "ends.h"
 #include <inttypes.h>
 
@@ -44,7 +44,8 @@ static void put_head(run *r) {
     }
 }
 
-static uint32_t write_next(run *r, unsigned role, const uint8_t *payload, size_t len, uint8_t *out, noise_result *result) {
+static uint32_t write_next(run *r, unsigned role, const uint8_t *payload, size_t len, uint8_t *out,
+                           noise_result *result) {
     if (r->is_open) return noise_seal(&r->transports[role].s, payload, len, out, LONGEST, result);
     return write_on(&r->ends[role], payload, len, out, LONGEST, result);
 }
@@ -55,7 +56,10 @@ static uint32_t read_next(run *r, unsigned role, uint8_t *message, size_t len, n
 }
 
 static void put_unwritten(run *r, unsigned role, uint32_t code) {
-    const char *word = code == NOISE_NOT_YOUR_TURN ? "not-your-turn" : code == NOISE_TOO_LONG ? "too-long" : code == NOISE_ONE_WAY ? "one-way" : "";
+    const char *word = code == NOISE_NOT_YOUR_TURN ? "not-your-turn"
+        : code == NOISE_TOO_LONG ? "too-long"
+        : code == NOISE_ONE_WAY ? "one-way"
+        : "";
     MUST(*word);
     fprintf(r->wanted, "unwritten %s %s\n", role_names[role], word);
 }
@@ -73,7 +77,8 @@ static void say(run *r, unsigned role, size_t len, unsigned number) {
         put_unwritten(r, role, code);
         return;
     }
-    fprintf(r->wanted, "wrote %s %u %02zx%02zx", role_names[role], r->frames[role]++, result.len >> 8, result.len & 255);
+    fprintf(r->wanted, "wrote %s %u %02zx%02zx", role_names[role], r->frames[role]++,
+        result.len >> 8, result.len & 255);
     put_hex(r->wanted, message, result.len);
     fputc('\n', r->wanted);
     MUST(read_next(r, !role, message, result.len, &result) == NOISE_OK);
@@ -84,7 +89,8 @@ static void say(run *r, unsigned role, size_t len, unsigned number) {
 }
 
 static void open_both(run *r) {
-    for (unsigned role = 0; role < 2; role++) MUST(finish(&r->ends[role].h, r->p->interval, &r->transports[role]) == NOISE_OK);
+    for (unsigned role = 0; role < 2; role++)
+        MUST(finish(&r->ends[role].h, r->p->interval, &r->transports[role]) == NOISE_OK);
     r->is_open = true;
 }
 
@@ -92,7 +98,8 @@ static void put_states(run *r) {
     for (unsigned role = 0; role < 2; role++) {
         uint64_t send, receive;
         uint8_t hash[32];
-        MUST(noise_sender_nonce(&r->transports[role].s, &send) == NOISE_OK && noise_receiver_nonce(&r->transports[role].r, &receive) == NOISE_OK);
+        MUST(noise_sender_nonce(&r->transports[role].s, &send) == NOISE_OK
+            && noise_receiver_nonce(&r->transports[role].r, &receive) == NOISE_OK);
         MUST(noise_hash(&r->ends[role].h, hash) == NOISE_OK);
         fprintf(r->wanted, "state %s transport %" PRIu64 " %" PRIu64 " ", role_names[role], send, receive);
         put_hex(r->wanted, hash, 32);
@@ -163,7 +170,8 @@ static void try_fundamental(const char *folder, const char *base) {
 
 void check_vectors(const char *folder) {
     for (unsigned i = 0; i < PATTERNS; i++) try_fundamental(folder, patterns[i]);
-    plan longest_xx = plan_of("XX", -1), no_prologue = plan_of("IK", 2), long_prologue = plan_of("NK", -1), never = plan_of("XX", 3);
+    plan longest_xx = plan_of("XX", -1), no_prologue = plan_of("IK", 2), long_prologue = plan_of("NK", -1),
+         never = plan_of("XX", 3);
     try_plan(folder, "long", &longest_xx, true);
     no_prologue.prologue_len = 0;
     try_plan(folder, "no_prologue", &no_prologue, false);
@@ -181,8 +189,9 @@ void check_vectors(const char *folder) {
 }
 
 static const struct { uint32_t code; const char *word; } faults[] = {
-    {NOISE_HEADING, "heading"}, {NOISE_ARROW, "arrow"}, {NOISE_TOKEN, "token"}, {NOISE_PRE_MESSAGE, "pre-message"}, {NOISE_TURN, "turn"},
-    {NOISE_PSK_PLACE, "psk-place"}, {NOISE_NAME_TAKEN, "name-taken"}, {NOISE_LIMIT, "limit"}, {NOISE_ENDING, "ending"},
+    {NOISE_HEADING, "heading"}, {NOISE_ARROW, "arrow"}, {NOISE_TOKEN, "token"}, {NOISE_PRE_MESSAGE, "pre-message"},
+    {NOISE_TURN, "turn"}, {NOISE_PSK_PLACE, "psk-place"}, {NOISE_NAME_TAKEN, "name-taken"}, {NOISE_LIMIT, "limit"},
+    {NOISE_ENDING, "ending"},
 };
 
 static const char *word_of(uint32_t code) {
@@ -221,13 +230,16 @@ static uint32_t try_text(const char *folder, unsigned number, const char *text, 
 }
 
 static const char *const texts[] = {
-    "A:\n  -> e\n  <- e, ee\n", "nk1:\n  -> e\n", "A\n  -> e\n", "A:\n -> e\n", "A:\n  -> e, xx\n", "A:\n  -> e\n  ...\n", "A:\n  -> s\n  -> e\n",
-    "A:\n  <- e\n", "A:\n  -> e\n  -> e\n", "Apsk0:\n  -> e\n", "A:\n  -> psk, e\n", "Apsk2:\n  -> e, psk\n", "NN:\n  -> e\n  <- e\n",
-    "XX:\n  -> e\n  <- e, ee, s, es\n  -> s, se\n", "A:\n", "A:\n  -> e", "A:\n  -> e\n  <- e\n  -> ee\n  <- es\n  -> s\n  <- s\n  -> se\n  <- ss\n  -> e\n",
-    "A:\n  -> e, ee\n", "A:\n  -> e, e\n", "A:\n  -> e\n  <- e, ee, ee\n", "A:\n  <- s\n  ...\n  -> e, es\n  <- e, se\n",
-    "MYKN:\n  -> s\n  ...\n  -> e\n  <- e, se\n", "Apsk0:\n  -> psk\n  <- e\n", "Apsk0+psk1:\n  -> psk, e, psk\n  <- e, ee\n",
-    "Apsk1+psk0:\n  -> psk, e, psk\n", "A:\n  ...\n  -> e\n", "A:\n  -> ee\n  ...\n  -> e\n", "A:\n  <- s\n  -> s\n  ...\n  -> e\n",
-    "A:\r\n  -> e\r\n", "A:\n  -> e,ee\n", "A:\n  -> e \n", "A:\n\n", "ABCDEFGHI:\n  -> e\n", "A:\n  -> \n", "",
+    "A:\n  -> e\n  <- e, ee\n", "nk1:\n  -> e\n", "A\n  -> e\n", "A:\n -> e\n", "A:\n  -> e, xx\n",
+    "A:\n  -> e\n  ...\n", "A:\n  -> s\n  -> e\n", "A:\n  <- e\n", "A:\n  -> e\n  -> e\n", "Apsk0:\n  -> e\n",
+    "A:\n  -> psk, e\n", "Apsk2:\n  -> e, psk\n", "NN:\n  -> e\n  <- e\n",
+    "XX:\n  -> e\n  <- e, ee, s, es\n  -> s, se\n", "A:\n", "A:\n  -> e",
+    "A:\n  -> e\n  <- e\n  -> ee\n  <- es\n  -> s\n  <- s\n  -> se\n  <- ss\n  -> e\n", "A:\n  -> e, ee\n",
+    "A:\n  -> e, e\n", "A:\n  -> e\n  <- e, ee, ee\n", "A:\n  <- s\n  ...\n  -> e, es\n  <- e, se\n",
+    "MYKN:\n  -> s\n  ...\n  -> e\n  <- e, se\n", "Apsk0:\n  -> psk\n  <- e\n",
+    "Apsk0+psk1:\n  -> psk, e, psk\n  <- e, ee\n", "Apsk1+psk0:\n  -> psk, e, psk\n", "A:\n  ...\n  -> e\n",
+    "A:\n  -> ee\n  ...\n  -> e\n", "A:\n  <- s\n  -> s\n  ...\n  -> e\n", "A:\r\n  -> e\r\n", "A:\n  -> e,ee\n",
+    "A:\n  -> e \n", "A:\n\n", "ABCDEFGHI:\n  -> e\n", "A:\n  -> \n", "",
 };
 
 void check_texts(const char *folder) {

@@ -1,5 +1,6 @@
-/* Preloaded into a program, it refuses reads of files and writes to the outputs. Of each stream so many bytes pass as the variable with `LIMIT` says, and
-   the next call fails with EIO; a call passes at most so many bytes as the variable with `PIECE` says. A variable that isn't there sets no bound. */
+/* Preloaded into a program, it refuses reads of files and writes to the outputs. Of each stream so many bytes pass as
+   the variable with `LIMIT` says, and the next call fails with EIO; a call passes at most so many bytes as the variable
+   with `PIECE` says. A variable that isn't there sets no bound. */
 
 #define _GNU_SOURCE
 #include <errno.h>

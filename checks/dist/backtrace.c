@@ -1,4 +1,5 @@
-/* Crashes in a call of the library: the buffer of noise_write isn't the program's. A debugger has to show who called whom (checks/dist/run). */
+/* Crashes in a call of the library: the buffer of noise_write isn't the program's. A debugger has to show who called
+   whom (checks/dist/run). */
 #include <noise.h>
 
 int main(void) {

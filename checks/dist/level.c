@@ -1,5 +1,6 @@
-/* For checks alone: the level of the processor that the static library here has found, and a lower one where the environment has NOISE_LEVEL, which is 1,
-   3 or 4, as in the names x86-64, x86-64-v3 and x86-64-v4. The word is hidden from what a shared library is linked with. */
+/* For checks alone: the level of the processor that the static library here has found, and a lower one where the
+   environment has NOISE_LEVEL, which is 1, 3 or 4, as in the names x86-64, x86-64-v3 and x86-64-v4. The word is hidden
+   from what a shared library is linked with. */
 #include <noise.h>
 #include <stdint.h>
 #include <stdio.h>

@@ -1,13 +1,15 @@
-/* Whether the library runs the same instructions, and touches the same addresses, whatever the secrets are: psks, results of X25519 and payloads. The
-   library is linked of a text in which each address is recorded (`traced`). Each part is done with RUNS sets of secrets; the first record is kept, and the
-   others have to be the same. valgrind, which marks secrets and follows them, runs no AVX-512; this compares runs, so it can miss a branch that few secrets
-   take. What differs is printed by the number of its line in the text. */
+/* Whether the library runs the same instructions, and touches the same addresses, whatever the secrets are: psks,
+   results of X25519 and payloads. The library is linked of a text in which each address is recorded (`traced`). Each
+   part is done with RUNS sets of secrets; the first record is kept, and the others have to be the same. valgrind, which
+   marks secrets and follows them, runs no AVX-512; this compares runs, so it can miss a branch that few secrets take.
+   What differs is printed by the number of its line in the text. */
 #include "ends.h"
 #include <stdlib.h>
 
 enum { RUNS = 12, LARGEST = 1100, ROOM = LARGEST + NOISE_DATAGRAM_OVERHEAD, MOST_STEPS = 1 << 22 };
 
-/* THE RECORD: addresses of operands, and the lines of the instructions. The library calls trace_record with an address in rax and a line in rcx. */
+/* THE RECORD: addresses of operands, and the lines of the instructions. The library calls trace_record with an address
+   in rax and a line in rcx. */
 
 typedef struct {
     uint64_t address, line;
@@ -39,7 +41,8 @@ static void compare(const char *part) {
     if (at == counts[0] && at == counts[1])
         return;
     bool is_address = at < counts[0] && at < counts[1] && steps[0][at].line == steps[1][at].line;
-    fprintf(stderr, "trace: %s: line %llu: %s depends on a secret\n", part, (unsigned long long)steps[0][is_address ? at : at - 1].line,
+    fprintf(stderr, "trace: %s: line %llu: %s depends on a secret\n", part,
+        (unsigned long long)steps[0][is_address ? at : at - 1].line,
         is_address ? "an address" : "a branch from here on");
     exit(1);
 }
@@ -170,17 +173,20 @@ static void pass_ciphers(const end ends[2]) {
     noise_cipher sends, receives, unused;
     uint8_t header[20], message[ROOM], changed[ROOM];
     noise_result result;
-    MUST(finish_cipher_states(&ends[0].h, &sends, &unused) == NOISE_OK && finish_cipher_states(&ends[1].h, &unused, &receives) == NOISE_OK);
+    MUST(finish_cipher_states(&ends[0].h, &sends, &unused) == NOISE_OK
+        && finish_cipher_states(&ends[1].h, &unused, &receives) == NOISE_OK);
     fill_secret(header, sizeof header, 9);
     for (unsigned i = 0; i < LENS; i++) {
         fill_secret(message, lens[i], 20 + i);
-        MUST(noise_cipher_encrypt(&sends, header, sizeof header, message, sizeof message, lens[i], &result) == NOISE_OK);
+        MUST(noise_cipher_encrypt(&sends, header, sizeof header, message, sizeof message, lens[i], &result)
+            == NOISE_OK);
         size_t len = result.len;
         memcpy(changed, message, len);
         change_tag(changed, len);
         noise_cipher copy = receives;
         MUST(noise_cipher_decrypt(&copy, header, sizeof header, changed, len, &result) == NOISE_TAG);
-        MUST(noise_cipher_decrypt(&receives, header, sizeof header, message, len, &result) == NOISE_OK && result.len == lens[i]);
+        MUST(noise_cipher_decrypt(&receives, header, sizeof header, message, len, &result) == NOISE_OK
+            && result.len == lens[i]);
     }
 }
 
@@ -227,6 +233,7 @@ int main(void) {
     plan xx = plan_of("XX", 3);
     total += watch(pass_lengths, &xx);
     MUST(total > 1000000);
-    printf("trace: %zu addresses of %zu handshakes and what follows are the same for %d sets of secrets\n", total, parts, RUNS);
+    printf("trace: %zu addresses of %zu handshakes and what follows are the same for %d sets of secrets\n", total,
+        parts, RUNS);
     return 0;
 }

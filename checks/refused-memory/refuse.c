@@ -1,5 +1,5 @@
-/* Preloaded into a program, it refuses memory to it: the allocation whose number, from 1 on, stands in the variable REFUSED, and all later ones
-   too, unless the variable REFUSED_ALONE is there. */
+/* Preloaded into a program, it refuses memory to it: the allocation whose number, from 1 on, stands in the variable
+   REFUSED, and all later ones too, unless the variable REFUSED_ALONE is there. */
 
 #include <errno.h>
 #include <stdlib.h>

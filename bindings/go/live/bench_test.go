@@ -36,7 +36,8 @@ func ours(b testing.TB, pattern string) (client, server *noise.Config) {
 	must(b, err)
 	two, err := noise.GenerateKeyPair()
 	must(b, err)
-	return &noise.Config{Pattern: pattern, Static: one, InsecureAcceptAnyKey: true}, &noise.Config{Pattern: pattern, Static: two, InsecureAcceptAnyKey: true}
+	return &noise.Config{Pattern: pattern, Static: one, InsecureAcceptAnyKey: true},
+		&noise.Config{Pattern: pattern, Static: two, InsecureAcceptAnyKey: true}
 }
 
 func connectOurs(b testing.TB, client, server *noise.Config) (*noise.Sender, *noise.Receiver) {
@@ -77,7 +78,8 @@ func connectFlynn(b testing.TB, client, server flynn.DHKey) (sealing, opening *f
 	return sealing, opening
 }
 
-// BenchmarkMessage seals a message and opens it: by this package, by a loop in C over the same library, and by flynn/noise.
+// BenchmarkMessage seals a message and opens it: by this package, by a loop in C over the same
+// library, and by flynn/noise.
 func BenchmarkMessage(b *testing.B) {
 	for _, size := range []int{64, 1024, 16384} {
 		payload, room := make([]byte, size), make([]byte, 0, size+noise.TagLen)

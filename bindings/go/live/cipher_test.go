@@ -10,8 +10,8 @@ import (
 	flynn "github.com/flynn/noise"
 )
 
-// TestFlynnCipherStates passes a handshake IX with flynn's, and then packets each way with associated data: in order, after a rekey, and with the
-// nonces named (which flynn's does by its Cipher).
+// TestFlynnCipherStates passes a handshake IX with flynn's, and then packets each way with associated data: in order,
+// after a rekey, and with the nonces named (which flynn's does by its Cipher).
 func TestFlynnCipherStates(t *testing.T) {
 	for _, initiator := range []bool{true, false} {
 		send, receive, encrypts, decrypts := ciphersWithFlynn(t, initiator)
@@ -66,14 +66,23 @@ func same(t *testing.T, got, want []byte) {
 }
 
 // ciphersWithFlynn are the CipherStates of a handshake IX: the package's, and flynn's.
-func ciphersWithFlynn(t *testing.T, initiator bool) (send, receive *noise.CipherState, encrypts, decrypts *flynn.CipherState) {
+func ciphersWithFlynn(t *testing.T, initiator bool) (
+	send, receive *noise.CipherState,
+	encrypts, decrypts *flynn.CipherState,
+) {
 	own, err := noise.GenerateKeyPair()
 	must(t, err)
 	other, err := suite.GenerateKeypair(rand.Reader)
 	must(t, err)
-	mine, err := noise.NewHandshakeState(&noise.Config{Pattern: "IX", Static: own, InsecureAcceptAnyKey: true}, initiator)
+	config := &noise.Config{Pattern: "IX", Static: own, InsecureAcceptAnyKey: true}
+	mine, err := noise.NewHandshakeState(config, initiator)
 	must(t, err)
-	yours, err := flynn.NewHandshakeState(flynn.Config{CipherSuite: suite, Pattern: flynn.HandshakeIX, Initiator: !initiator, StaticKeypair: other})
+	yours, err := flynn.NewHandshakeState(flynn.Config{
+		CipherSuite:   suite,
+		Pattern:       flynn.HandshakeIX,
+		Initiator:     !initiator,
+		StaticKeypair: other,
+	})
 	must(t, err)
 	for i := 0; i < 2; i++ {
 		var message []byte

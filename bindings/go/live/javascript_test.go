@@ -10,13 +10,17 @@ import (
 	"example.org/yulimosar/noise"
 )
 
-// TestJavaScript runs the package against checks/web/echo.mjs, which has the JavaScript module. NOISE_JS_ECHO has the path of a program that runs it.
+// TestJavaScript runs the package against checks/web/echo.mjs, which has the JavaScript module. NOISE_JS_ECHO has the
+// path of a program that runs it.
 func TestJavaScript(t *testing.T) {
 	program := os.Getenv("NOISE_JS_ECHO")
 	if program == "" {
 		t.Skip("NOISE_JS_ECHO isn't set")
 	}
-	for _, name := range []string{"X", "NNpsk0+psk2", "NKpsk2", "XX", "IKpsk1", "KKpsk0", "MINEpsk3:\n  <- s\n  ...\n  -> e, es\n  <- e, ee\n  -> s, se, psk\n"} {
+	for _, name := range []string{
+		"X", "NNpsk0+psk2", "NKpsk2", "XX", "IKpsk1", "KKpsk0",
+		"MINEpsk3:\n  <- s\n  ...\n  -> e, es\n  <- e, ee\n  -> s, se, psk\n",
+	} {
 		for _, initiator := range []bool{true, false} {
 			name, initiator := name, initiator
 			t.Run(fmt.Sprintf("%.8s/%v", name, initiator), func(t *testing.T) {

@@ -18,9 +18,13 @@ import (
 	flynn "github.com/flynn/noise"
 )
 
-var patterns = []flynn.HandshakePattern{flynn.HandshakeN, flynn.HandshakeK, flynn.HandshakeX, flynn.HandshakeNN, flynn.HandshakeNK, flynn.HandshakeNX,
-	flynn.HandshakeKN, flynn.HandshakeKK, flynn.HandshakeKX, flynn.HandshakeXN, flynn.HandshakeXK, flynn.HandshakeXX, flynn.HandshakeIN,
-	flynn.HandshakeIK, flynn.HandshakeIX}
+var patterns = []flynn.HandshakePattern{
+	flynn.HandshakeN, flynn.HandshakeK, flynn.HandshakeX,
+	flynn.HandshakeNN, flynn.HandshakeNK, flynn.HandshakeNX,
+	flynn.HandshakeKN, flynn.HandshakeKK, flynn.HandshakeKX,
+	flynn.HandshakeXN, flynn.HandshakeXK, flynn.HandshakeXX,
+	flynn.HandshakeIN, flynn.HandshakeIK, flynn.HandshakeIX,
+}
 
 var suite = flynn.NewCipherSuite(flynn.DH25519, flynn.CipherChaChaPoly, flynn.HashSHA256)
 
@@ -104,7 +108,9 @@ func TestFlynn(t *testing.T) {
 				if place >= 0 {
 					name = fmt.Sprintf("%spsk%d", name, place)
 				}
-				t.Run(fmt.Sprintf("%s/%v", name, initiator), func(t *testing.T) { live(t, pattern, name, place, initiator) })
+				t.Run(fmt.Sprintf("%s/%v", name, initiator), func(t *testing.T) {
+					live(t, pattern, name, place, initiator)
+				})
 			}
 		}
 	}
@@ -118,7 +124,13 @@ func live(t *testing.T, pattern flynn.HandshakePattern, name string, place int, 
 	public, theirKey := own.Public(), noise.PublicKey{}
 	copy(theirKey[:], other.Public)
 	config := &noise.Config{Pattern: name, Prologue: []byte("live"), Static: own, InsecureAcceptAnyKey: true}
-	them := flynn.Config{CipherSuite: suite, Pattern: pattern, Prologue: []byte("live"), Initiator: !initiator, StaticKeypair: other}
+	them := flynn.Config{
+		CipherSuite:   suite,
+		Pattern:       pattern,
+		Prologue:      []byte("live"),
+		Initiator:     !initiator,
+		StaticKeypair: other,
+	}
 	if place >= 0 {
 		them.PresharedKey, them.PresharedKeyPlacement = bytes.Repeat([]byte{7}, 32), place
 		config.PSKs = []noise.PSK{pskOf(7)}
@@ -163,14 +175,19 @@ func pskOfClient(i int) noise.PSK { return pskOf(byte(i + 1)) }
 
 // chooser returns the Config of a server that has a psk with each of these clients.
 func chooser(own noise.DH, name string, clients []*noise.KeyPair) *noise.Config {
-	return &noise.Config{Pattern: name, Prologue: []byte("live"), Static: own, PSKFor: func(_ context.Context, key noise.PublicKey) ([]noise.PSK, error) {
-		for i, client := range clients {
-			if client.Public() == key {
-				return []noise.PSK{pskOfClient(i)}, nil
+	return &noise.Config{
+		Pattern:  name,
+		Prologue: []byte("live"),
+		Static:   own,
+		PSKFor: func(_ context.Context, key noise.PublicKey) ([]noise.PSK, error) {
+			for i, client := range clients {
+				if client.Public() == key {
+					return []noise.PSK{pskOfClient(i)}, nil
+				}
 			}
-		}
-		return nil, errors.New("no psk for this key")
-	}}
+			return nil, errors.New("no psk for this key")
+		},
+	}
 }
 
 // TestFlynnPSKOfEachPeer runs two clients of flynn's, which have a psk each, with a server that chooses it.
@@ -181,8 +198,15 @@ func TestFlynnPSKOfEachPeer(t *testing.T) {
 			t.Run(fmt.Sprintf("%s/%d", name, i), func(t *testing.T) {
 				secret, public, server, psk := client.Secret(), client.Public(), keys[2].Public(), pskOfClient(i)
 				base, place, _ := strings.Cut(name, "psk")
-				them := flynn.Config{CipherSuite: suite, Pattern: flynn.HandshakeXX, Prologue: []byte("live"), Initiator: true,
-					StaticKeypair: flynn.DHKey{Private: secret[:], Public: public[:]}, PresharedKey: psk[:], PresharedKeyPlacement: int(place[0] - '0')}
+				them := flynn.Config{
+					CipherSuite:           suite,
+					Pattern:               flynn.HandshakeXX,
+					Prologue:              []byte("live"),
+					Initiator:             true,
+					StaticKeypair:         flynn.DHKey{Private: secret[:], Public: public[:]},
+					PresharedKey:          psk[:],
+					PresharedKeyPlacement: int(place[0] - '0'),
+				}
 				if base == "IK" {
 					them.Pattern, them.PeerStatic = flynn.HandshakeIK, server[:]
 				}

@@ -12,8 +12,8 @@ import (
 	"example.org/yulimosar/noise/live/cloop"
 )
 
-// TestRatios compares what the package takes with what flynn/noise and a loop in C take, in NOISE_PAIRS pairs of runs that take turns: on a machine that
-// does other work the median of their ratios means more than times do.
+// TestRatios compares what the package takes with what flynn/noise and a loop in C take, in NOISE_PAIRS pairs of runs
+// that take turns: on a machine that does other work the median of their ratios means more than times do.
 func TestRatios(t *testing.T) {
 	pairs, err := strconv.Atoi(os.Getenv("NOISE_PAIRS"))
 	if err != nil {
@@ -24,7 +24,9 @@ func TestRatios(t *testing.T) {
 	must(t, err)
 	two, err := suite.GenerateKeypair(rand.Reader)
 	must(t, err)
-	ratio(t, "a handshake XX, over flynn/noise", pairs, func() { connectOurs(t, client, server) }, func() { connectFlynn(t, one, two) })
+	ratio(t, "a handshake XX, over flynn/noise", pairs,
+		func() { connectOurs(t, client, server) },
+		func() { connectFlynn(t, one, two) })
 	client, server = ours(t, "NN")
 	sender, receiver := connectOurs(t, client, server)
 	sealing, opening := connectFlynn(t, one, two)

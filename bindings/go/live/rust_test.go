@@ -44,7 +44,8 @@ func withRust(t *testing.T, program, name string, psk, initiator, oneWay bool) {
 	must(t, err)
 	config := &noise.Config{Pattern: name, Prologue: []byte("live"), Static: own, InsecureAcceptAnyKey: true}
 	letters, _, _ := strings.Cut(name, "psk")
-	if at := strings.LastIndex(letters, "K"); initiator && (oneWay || at == len(letters)-1) || !initiator && letters[0] == 'K' {
+	if at := strings.LastIndex(letters, "K"); initiator && (oneWay || at == len(letters)-1) ||
+		!initiator && letters[0] == 'K' {
 		key := other.Public()
 		config.PeerStatic = &key
 	}
@@ -81,22 +82,31 @@ func hexOfPSK(client int) string {
 	return hex.EncodeToString(psk[:])
 }
 
-// pskOfEachPeer passes the patterns in which a server may choose the psk by the client's key, with the server in either language, and two clients
-// that have a psk each.
+// pskOfEachPeer passes the patterns in which a server may choose the psk by the client's key, with the server in either
+// language, and two clients that have a psk each.
 func pskOfEachPeer(t *testing.T, program string) {
 	keys := newKeys(t, 3)
 	server, public := keys[2], keys[2].Public()
 	table := fmt.Sprintf("%x=%s,%x=%s", keys[0].Public(), hexOfPSK(0), keys[1].Public(), hexOfPSK(1))
 	for _, name := range choosing {
 		for i, client := range keys[:2] {
-			config := &noise.Config{Pattern: name, Prologue: []byte("live"), Static: client, PSKs: []noise.PSK{pskOfClient(i)}}
+			config := &noise.Config{
+				Pattern:  name,
+				Prologue: []byte("live"),
+				Static:   client,
+				PSKs:     []noise.PSK{pskOfClient(i)},
+			}
 			if strings.HasPrefix(name, "IK") {
 				config.PeerStatic = &public
 			}
 			words := []string{name, hexOf(server), fmt.Sprintf("%x", client.Public()), table, "@127.0.0.1:0"}
-			t.Run(fmt.Sprintf("%s/%d/true", name, i), func(t *testing.T) { toRust(t, exec.Command(program, words...), config, false) })
+			t.Run(fmt.Sprintf("%s/%d/true", name, i), func(t *testing.T) {
+				toRust(t, exec.Command(program, words...), config, false)
+			})
 			words = []string{name, hexOf(client), fmt.Sprintf("%x", public), hexOfPSK(i)}
-			t.Run(fmt.Sprintf("%s/%d/false", name, i), func(t *testing.T) { fromRust(t, program, words, chooser(server, name, keys[:2]), false) })
+			t.Run(fmt.Sprintf("%s/%d/false", name, i), func(t *testing.T) {
+				fromRust(t, program, words, chooser(server, name, keys[:2]), false)
+			})
 		}
 	}
 }

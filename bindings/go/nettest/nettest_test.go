@@ -1,4 +1,5 @@
-// Package nettest runs golang.org/x/net/nettest.TestConn, with which Go's own connections are tested, on channels. No case is left out.
+// Package nettest runs golang.org/x/net/nettest.TestConn, with which Go's own connections are tested, on
+// channels. No case is left out.
 package nettest
 
 import (

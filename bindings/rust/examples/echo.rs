@@ -1,6 +1,6 @@
-// One end over TCP: echo PATTERN OWN_SECRET PEER_KEY PSK ADDRESS. It connects as the initiator, sends 128 KiB, and wants them back; where ADDRESS
-// begins with '@' it listens there, prints the address, and sends back what it reads. PSK is '-' if there is none; "KEY=SECRET,.." has the secrets that a
-// listener chooses by the other party's key.
+// One end over TCP: echo PATTERN OWN_SECRET PEER_KEY PSK ADDRESS. It connects as the initiator, sends 128 KiB, and
+// wants them back; where ADDRESS begins with '@' it listens there, prints the address, and sends back what it reads.
+// PSK is '-' if there is none; "KEY=SECRET,.." has the secrets that a listener chooses by the other party's key.
 use std::io::{self, Read, Write};
 use std::net::{TcpListener, TcpStream};
 use yulimosar::{Builder, KeyPair, Pattern, Stream};

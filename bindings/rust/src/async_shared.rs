@@ -33,8 +33,9 @@ pub struct AsyncWriteHalf<T> {
 }
 
 impl<T: AsyncRead + AsyncWrite + Unpin> AsyncStream<T> {
-    /// Runs the handshake over `below`, with empty payloads. `accept` is called with the other party's static key as soon as that is known, and waited for
-    /// before anything else is read or written. A pattern without such a key, as NN, is refused before anything is sent: see `anonymous`.
+    /// Runs the handshake over `below`, with empty payloads. `accept` is called with the other party's static key as
+    /// soon as that is known, and waited for before anything else is read or written. A pattern without such a key, as
+    /// NN, is refused before anything is sent: see `anonymous`.
     pub async fn new<S: Dh, E: Ephemeral, F: Future<Output = bool>>(
         below: T,
         handshake: Handshake<S, E>,
@@ -53,13 +54,14 @@ impl<T: AsyncRead + AsyncWrite + Unpin> AsyncStream<T> {
         AsyncStream::open(below, Passing::new(handshake, Peer::Verified)?, verify, |_| ready(None)).await
     }
 
-    /// Runs a handshake in which the other party has no static key, or one that you don't compare: with a secret that both have (psk), or with anybody.
+    /// Runs a handshake in which the other party has no static key, or one that you don't compare: with a secret that
+    /// both have (psk), or with anybody.
     pub async fn anonymous<S: Dh, E: Ephemeral>(below: T, handshake: Handshake<S, E>) -> io::Result<AsyncStream<T>> {
         AsyncStream::open(below, Passing::new(handshake, Peer::Anybody)?, |_| ready(true), |_| ready(None)).await
     }
 
-    /// Runs a handshake of [`Builder::late_psks`](crate::Builder::late_psks): at a psk token that lacks its secret `psk_for` is called and waited for, as
-    /// [`Stream::with_psk_for`](crate::Stream::with_psk_for) does.
+    /// Runs a handshake of [`Builder::late_psks`](crate::Builder::late_psks): at a psk token that lacks its secret
+    /// `psk_for` is called and waited for, as [`Stream::with_psk_for`](crate::Stream::with_psk_for) does.
     pub async fn with_psk_for<S: Dh, E: Ephemeral, F: Future<Output = Option<[u8; 32]>>>(
         below: T,
         handshake: Handshake<S, E>,
@@ -91,8 +93,8 @@ impl<T: AsyncRead + AsyncWrite + Unpin> AsyncStream<T> {
 }
 
 impl<T: AsyncWrite + Unpin> AsyncStream<T> {
-    /// Two halves, for two tasks, over those of the stream below: `stream.split(TcpStream::into_split).await?`. It sends the last message of the handshake,
-    /// if that wasn't sent.
+    /// Two halves, for two tasks, over those of the stream below: `stream.split(TcpStream::into_split).await?`. It
+    /// sends the last message of the handshake, if that wasn't sent.
     pub async fn split<R, W>(
         mut self,
         split: impl FnOnce(T) -> (R, W),
@@ -156,7 +158,8 @@ impl<T: AsyncWrite + Unpin> Future for SendLast<'_, T> {
     }
 }
 
-// A stream below that is polled, as one that doesn't block: where it isn't ready it returns `WouldBlock`, and wakes the task later.
+// A stream below that is polled, as one that doesn't block: where it isn't ready it returns `WouldBlock`,
+// and wakes the task later.
 struct Polled<'p, 'c, T> {
     below: &'p mut T,
     context: &'p mut Context<'c>,

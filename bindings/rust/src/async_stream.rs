@@ -1,9 +1,10 @@
-//! [`AsyncStream`] over anything that is `AsyncRead` and `AsyncWrite` of tokio. It is [`Stream`](crate::Stream), without blocking: the same frames, ends
-//! and errors.
+//! [`AsyncStream`] over anything that is `AsyncRead` and `AsyncWrite` of tokio. It is [`Stream`](crate::Stream),
+//! without blocking: the same frames, ends and errors.
 //!
-//! `shutdown` sends the end of this party's stream, and shuts the stream below down for writing; what is dropped without it is truncated. `read` returns 0 where
-//! the other party has ended its stream. A `write` that accepts bytes seals them, and what the stream below doesn't accept at once waits: `flush` after the
-//! last `write`, or `shutdown`, which flushes. A read or write whose future is dropped loses nothing.
+//! `shutdown` sends the end of this party's stream, and shuts the stream below down for writing; what is dropped
+//! without it is truncated. `read` returns 0 where the other party has ended its stream. A `write` that accepts bytes
+//! seals them, and what the stream below doesn't accept at once waits: `flush` after the last `write`, or `shutdown`,
+//! which flushes. A read or write whose future is dropped loses nothing.
 //!
 //! There is no limit of time in it: put `tokio::time::timeout` around the handshake, whose future may be dropped.
 //!
@@ -71,7 +72,11 @@ fn below_closes<T: AsyncWrite>(below: Pin<&mut T>, context: &mut Context<'_>) ->
 macro_rules! reads {
     ($stream:ident: $($bound:tt)*) => {
         impl<T: $($bound)* + Unpin> AsyncRead for $stream<T> {
-            fn poll_read(self: Pin<&mut Self>, context: &mut Context<'_>, into: &mut ReadBuf<'_>) -> Poll<io::Result<()>> {
+            fn poll_read(
+                self: Pin<&mut Self>,
+                context: &mut Context<'_>,
+                into: &mut ReadBuf<'_>,
+            ) -> Poll<io::Result<()>> {
                 self.get_mut().read(context, into.initialize_unfilled()).map_ok(|count| into.advance(count))
             }
         }

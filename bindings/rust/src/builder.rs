@@ -36,8 +36,8 @@ pub struct Builder<'a, S: Dh = NoKey> {
 }
 
 impl<'a> Builder<'a, NoKey> {
-    /// A handshake of this pattern: a protocol name, as `Noise_XX_25519_ChaChaPoly_SHA256`; the name of a pattern alone, as `XXpsk3`; or the
-    /// text of your own pattern, whose last byte is a line feed.
+    /// A handshake of this pattern: a protocol name, as `Noise_XX_25519_ChaChaPoly_SHA256`; the name of a pattern
+    /// alone, as `XXpsk3`; or the text of your own pattern, whose last byte is a line feed.
     pub fn new(pattern: &'a str) -> Self {
         Builder {
             pattern,
@@ -59,9 +59,10 @@ impl<'a, S: Dh> Builder<'a, S> {
         self
     }
 
-    /// This party's static key pair. A pattern in which this party has none, as NN, doesn't use it, and that is no error: the channel then says nothing
-    /// of this key. A reference, as `&key`, stays in the type of a [`HandshakeError`](crate::HandshakeError), which `?` then doesn't turn into a
-    /// `Box<dyn Error>`: pass a clone of the key pair.
+    /// This party's static key pair. A pattern in which this party has none, as NN, doesn't use it, and
+    /// that is no error: the channel then says nothing of this key. A reference, as `&key`, stays in the
+    /// type of a [`HandshakeError`](crate::HandshakeError), which `?` then doesn't turn into a `Box<dyn
+    /// Error>`: pass a clone of the key pair.
     pub fn static_key<T: Dh>(self, key: T) -> Builder<'a, T> {
         let Builder { pattern, prologue, static_key: _, remote_static, psks, psk_count, late_psks, options } = self;
         Builder { pattern, prologue, static_key: Some(key), remote_static, psks, psk_count, late_psks, options }
@@ -82,23 +83,24 @@ impl<'a, S: Dh> Builder<'a, S> {
         self
     }
 
-    /// The secrets of the psk tokens for which `psk` gives none come when their tokens do, chosen by the other party's static key: by
-    /// [`Stream::with_psk_for`](crate::Stream::with_psk_for), [`Connecting::set_psk`](crate::Connecting::set_psk) or [`Handshake::set_psk`].
+    /// The secrets of the psk tokens for which `psk` gives none come when their tokens do, chosen by the other party's
+    /// static key: by [`Stream::with_psk_for`](crate::Stream::with_psk_for),
+    /// [`Connecting::set_psk`](crate::Connecting::set_psk) or [`Handshake::set_psk`].
     pub fn late_psks(mut self) -> Self {
         self.late_psks = true;
         self
     }
 
-    /// The number of messages after which each direction of a stream or a transport is rekeyed (Noise, 11.3); 0, the default, is never. The same at both
-    /// parties: with another number the handshake passes, and the first message after one party's rekey is refused with `Tag`. Datagrams and cipher
-    /// states aren't rekeyed by it.
+    /// The number of messages after which each direction of a stream or a transport is rekeyed (Noise, 11.3); 0, the
+    /// default, is never. The same at both parties: with another number the handshake passes, and the first message
+    /// after one party's rekey is refused with `Tag`. Datagrams and cipher states aren't rekeyed by it.
     pub fn interval(mut self, messages: u64) -> Self {
         self.options.interval = messages;
         self
     }
 
-    /// The most bytes of a handshake message that `Connecting` accepts, and so `Stream` and `AsyncStream`; 8192 at first. A longer one is refused with
-    /// `TooLong` as soon as its length has come.
+    /// The most bytes of a handshake message that `Connecting` accepts, and so `Stream` and `AsyncStream`; 8192 at
+    /// first. A longer one is refused with `TooLong` as soon as its length has come.
     pub fn max_handshake_message(mut self, len: usize) -> Self {
         self.options.max_message = len;
         self

@@ -3,8 +3,9 @@ use crate::raw::{CallResult, Cipher, Held};
 use crate::Error;
 use core::fmt;
 
-/// The CipherState (Noise, 5.1) by which this party encrypts what it sends, for a protocol whose packets have associated data, name their nonces or have a
-/// form of their own. [`Handshake::finish_ciphers`](crate::Handshake::finish_ciphers) makes it.
+/// The CipherState (Noise, 5.1) by which this party encrypts what it sends, for a protocol whose packets have
+/// associated data, name their nonces or have a form of their own.
+/// [`Handshake::finish_ciphers`](crate::Handshake::finish_ciphers) makes it.
 ///
 #[cfg_attr(any(feature = "x25519", feature = "openssl"), doc = "```")]
 #[cfg_attr(not(any(feature = "x25519", feature = "openssl")), doc = "```ignore")]
@@ -41,16 +42,17 @@ fn done(code: u32) -> Result<(), Error> {
 }
 
 impl SendCipherState {
-    /// EncryptWithAd, in place: the text is the first `text_len` bytes of `buffer`, at most 65519, and the message, whose length it returns, 16 bytes longer.
-    /// Neither the data, of at most 65535 bytes, nor the nonce is in it. The next nonce is one greater; after an error nothing is changed.
+    /// EncryptWithAd, in place: the text is the first `text_len` bytes of `buffer`, at most 65519, and the message,
+    /// whose length it returns, 16 bytes longer. Neither the data, of at most 65535 bytes, nor the nonce is in it. The
+    /// next nonce is one greater; after an error nothing is changed.
     pub fn encrypt(&mut self, ad: &[u8], buffer: &mut [u8], text_len: usize) -> Result<usize, Error> {
         let mut result = CallResult::default();
         done(self.0.encrypt(ad, buffer, text_len, &mut result))?;
         Ok(result.len)
     }
 
-    /// Sets the nonce of the next message (SetNonce: Noise, 11.4). **Never encrypt twice at one nonce**: whoever sees both messages learns how the texts
-    /// differ, and can forge messages of that nonce.
+    /// Sets the nonce of the next message (SetNonce: Noise, 11.4). **Never encrypt twice at one nonce**: whoever sees
+    /// both messages learns how the texts differ, and can forge messages of that nonce.
     pub fn set_nonce(&mut self, nonce: u64) -> Result<(), Error> {
         done(self.0.set_nonce(nonce))
     }

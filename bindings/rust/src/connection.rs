@@ -13,13 +13,15 @@ use alloc::sync::Arc;
 use core::fmt;
 use core::sync::atomic::{AtomicBool, Ordering};
 
-/// A secure channel without a transport: bytes that came go in, events and bytes to send come out. Nothing here reads, writes or waits, so it runs over
-/// anything that keeps bytes in order, in `no_std` too (feature `alloc`). [`Connecting`] makes it. [`Stream`](crate::Stream) and
-/// [`AsyncStream`](crate::AsyncStream) are this over what reads and writes.
+/// A secure channel without a transport: bytes that came go in, events and bytes to send come out. Nothing here
+/// reads, writes or waits, so it runs over anything that keeps bytes in order, in `no_std` too (feature
+/// `alloc`). [`Connecting`] makes it. [`Stream`](crate::Stream) and [`AsyncStream`](crate::AsyncStream) are
+/// this over what reads and writes.
 ///
-/// What a party gets of a stream is a theorem of the library: the bytes in [`Event::Data`] are the first of those that the other party has written;
-/// [`Event::End`] comes after all of them, and only if it has ended its stream. A refused message, and a connection that closes without an end ([`Error::Cut`]), end the channel:
-/// each later call of `event` returns the same error, and there is nothing more to send, also no end.
+/// What a party gets of a stream is a theorem of the library: the bytes in [`Event::Data`] are the first of those that
+/// the other party has written; [`Event::End`] comes after all of them, and only if it has ended its stream. A refused
+/// message, and a connection that closes without an end ([`Error::Cut`]), end the channel: each later call of `event`
+/// returns the same error, and there is nothing more to send, also no end.
 ///
 #[cfg_attr(any(feature = "x25519", feature = "openssl"), doc = "```")]
 #[cfg_attr(not(any(feature = "x25519", feature = "openssl")), doc = "```ignore")]
@@ -27,7 +29,10 @@ use core::sync::atomic::{AtomicBool, Ordering};
 /// use yulimosar::{Builder, Connecting, Connection, Event, KeyPair, Step};
 ///
 /// // Carries a step's bytes to the other party, as a network does.
-/// fn pass(from: &mut Connecting<KeyPair, KeyPair>, to: &mut Connecting<KeyPair, KeyPair>) -> Result<bool, yulimosar::Error> {
+/// fn pass(
+///     from: &mut Connecting<KeyPair, KeyPair>,
+///     to: &mut Connecting<KeyPair, KeyPair>,
+/// ) -> Result<bool, yulimosar::Error> {
 ///     match from.step()? {
 ///         Step::Send(bytes) => {
 ///             to.step()?; // it waits for them

@@ -43,8 +43,8 @@ timeouts!(TcpStream);
 timeouts!(std::os::unix::net::UnixStream);
 
 /// A stream with a deadline for all that is read and written: for a whole handshake, whatever the other party sends and
-/// however slowly. Past it `read` and `write` return `TimedOut`, with [`Error::Deadline`], and the handshake has failed.
-/// Timeouts that the stream below has hold as well.
+/// however slowly. Past it `read` and `write` return `TimedOut`, with [`Error::Deadline`], and the handshake has
+/// failed. Timeouts that the stream below has hold as well.
 ///
 #[cfg_attr(any(feature = "x25519", feature = "openssl"), doc = "```")]
 #[cfg_attr(not(any(feature = "x25519", feature = "openssl")), doc = "```ignore")]

@@ -24,9 +24,11 @@ pub enum Error {
     RemoteMissing,
     /// The other party's static key isn't in a pre-message of the pattern.
     RemoteUnexpected,
-    /// The number of secrets isn't the number of psk tokens: `Builder::psk`, `Builder::late_psks`, `Handshake::set_psk`.
+    /// The number of secrets isn't the number of psk tokens: `Builder::psk`,
+    /// `Builder::late_psks`, `Handshake::set_psk`.
     PskCount,
-    /// The message that is due needs the secret of a psk token: pass it to `Handshake::set_psk`, and make the same call again.
+    /// The message that is due needs the secret of a psk token: pass it to `Handshake::set_psk`, and
+    /// make the same call again.
     WantedPsk {
         /// The other party's static key, if it is known. It hasn't shown yet that it has the secret key.
         remote_static: Option<[u8; 32]>,
@@ -39,13 +41,14 @@ pub enum Error {
     Done,
     /// A refused message has ended the handshake.
     Ended,
-    /// The message is too short. In a handshake the token, from 0 on, is where it was refused, and the handshake has ended.
+    /// The message is too short. In a handshake the token, from 0 on, is where it was refused, and
+    /// the handshake has ended.
     Short {
         /// The token, in a handshake.
         token: Option<u8>,
     },
-    /// A tag is wrong: the parties differ in something, or the message was changed. In a handshake the token, from 0 on, is where, and the
-    /// handshake has ended.
+    /// A tag is wrong: the parties differ in something, or the message was changed. In a handshake the token, from 0
+    /// on, is where, and the handshake has ended.
     Tag {
         /// The token, in a handshake.
         token: Option<u8>,
@@ -72,8 +75,8 @@ pub enum Error {
     Zeros,
     /// The program refused the other party's static key, or the handshake has none.
     Refused,
-    /// The connection ended before the stream did: what was read isn't all that the other party has written. In a handshake: before its last message, as
-    /// where the other party has refused something.
+    /// The connection ended before the stream did: what was read isn't all that the other party has written. In a
+    /// handshake: before its last message, as where the other party has refused something.
     Cut,
     /// This party has ended its stream.
     Closed,

@@ -1,8 +1,10 @@
-//! [`AsyncStream`] over anything that is `AsyncRead` and `AsyncWrite` of futures-io, as the streams of smol and async-std. It is
-//! [`Stream`](crate::Stream), without blocking: the same frames, ends and errors, and the same rules as over tokio.
+//! [`AsyncStream`] over anything that is `AsyncRead` and `AsyncWrite` of futures-io, as the streams of smol
+//! and async-std. It is [`Stream`](crate::Stream), without blocking: the same frames, ends and errors, and
+//! the same rules as over tokio.
 //!
-//! `close` sends the end of this party's stream, and closes the stream below for writing; what is dropped without it is truncated. `flush` after the last `write`.
-//! A read or write whose future is dropped loses nothing. Limit the time of the handshake, whose future may be dropped.
+//! `close` sends the end of this party's stream, and closes the stream below for writing; what is dropped without it is
+//! truncated. `flush` after the last `write`. A read or write whose future is dropped loses nothing. Limit the time of
+//! the handshake, whose future may be dropped.
 use futures_io::{AsyncBufRead, AsyncRead, AsyncWrite};
 use std::io;
 use std::pin::Pin;

@@ -4,7 +4,8 @@ use crate::{Datagrams, Dh, Ephemeral, Error, ReceiveCipherState, SendCipherState
 use core::fmt;
 use core::ops::Range;
 
-/// A handshake, message by message. The parties write in turn, the initiator first; `finish`, `finish_datagrams` or `finish_ciphers` uses it up.
+/// A handshake, message by message. The parties write in turn, the initiator first; `finish`, `finish_datagrams` or
+/// `finish_ciphers` uses it up.
 ///
 /// Calls through `&` only read: threads may make them at once, so a handshake is `Sync` where its key pairs are.
 ///
@@ -68,7 +69,8 @@ impl<S: Dh, E: Ephemeral> Handshake<S, E> {
         Handshake { memory, stage, static_key, ephemeral, options, is_asked: false, chosen: 0 }
     }
 
-    /// Writes the next message, with this payload, to the start of `out`, and returns its length. At an error, as `WantedPsk`, nothing is changed.
+    /// Writes the next message, with this payload, to the start of `out`, and returns its length. At an error, as
+    /// `WantedPsk`, nothing is changed.
     pub fn write(&mut self, payload: &[u8], out: &mut [u8]) -> Result<usize, Error> {
         let mut result = CallResult::default();
         loop {
@@ -84,15 +86,15 @@ impl<S: Dh, E: Ephemeral> Handshake<S, E> {
         }
     }
 
-    /// Reads the message that is due, in place, and returns its payload. `Short` and `Tag` end the handshake; otherwise an error, as `WantedPsk`,
-    /// changes nothing.
+    /// Reads the message that is due, in place, and returns its payload. `Short` and `Tag` end the handshake; otherwise
+    /// an error, as `WantedPsk`, changes nothing.
     pub fn read<'m>(&mut self, message: &'m mut [u8]) -> Result<&'m mut [u8], Error> {
         let payload = self.read_by(raw::Handshake::read, message)?;
         Ok(&mut message[payload])
     }
 
-    /// Reads as `read` does, but an error changes nothing, neither the handshake nor the message: for a message that anybody may have sent, as a datagram.
-    /// A psk that was chosen for a refused message is taken back.
+    /// Reads as `read` does, but an error changes nothing, neither the handshake nor the message: for a message that
+    /// anybody may have sent, as a datagram. A psk that was chosen for a refused message is taken back.
     ///
     #[cfg_attr(any(feature = "x25519", feature = "openssl"), doc = "```")]
     #[cfg_attr(not(any(feature = "x25519", feature = "openssl")), doc = "```ignore")]
@@ -180,8 +182,9 @@ impl<S: Dh, E: Ephemeral> Handshake<S, E> {
         }
     }
 
-    /// Passes the secret of the first psk token that has none: after `WantedPsk`, or before. `PskCount`: no token that is still to come lacks its
-    /// secret. If it is wrong, the other party's message is refused with `Tag`; `try_read` then takes it back.
+    /// Passes the secret of the first psk token that has none: after `WantedPsk`, or before. `PskCount`: no token
+    /// that is still to come lacks its secret. If it is wrong, the other party's message is refused with `Tag`;
+    /// `try_read` then takes it back.
     ///
     #[cfg_attr(any(feature = "x25519", feature = "openssl"), doc = "```")]
     #[cfg_attr(not(any(feature = "x25519", feature = "openssl")), doc = "```ignore")]
@@ -291,8 +294,9 @@ impl<S: Dh, E: Ephemeral> Handshake<S, E> {
         }
     }
 
-    /// Makes the two cipher states of Split (Noise, 5.2), for packets of your own: the one to encrypt what this party sends, and the one to decrypt what it
-    /// receives. The one for the responder's messages of a one-way pattern has no key: each call returns `OneWay` (Noise, 7.4).
+    /// Makes the two cipher states of Split (Noise, 5.2), for packets of your own: the one to encrypt what this party
+    /// sends, and the one to decrypt what it receives. The one for the responder's messages of a one-way pattern has no
+    /// key: each call returns `OneWay` (Noise, 7.4).
     pub fn finish_ciphers(mut self) -> Result<(SendCipherState, ReceiveCipherState), Error> {
         let (mut send, mut receive) = (raw::Cipher::new(), raw::Cipher::new());
         let code = self.memory.finish_ciphers(&mut send, &mut receive);
@@ -300,8 +304,8 @@ impl<S: Dh, E: Ephemeral> Handshake<S, E> {
         Ok((SendCipherState(send), ReceiveCipherState(receive)))
     }
 
-    /// Makes the state for datagrams, after all messages have passed. A datagram may arrive after others whose numbers are less than `window`
-    /// greater: 64, 256 or 1024. No direction is rekeyed: `Builder::interval` does nothing here.
+    /// Makes the state for datagrams, after all messages have passed. A datagram may arrive after others whose numbers
+    /// are less than `window` greater: 64, 256 or 1024. No direction is rekeyed: `Builder::interval` does nothing here.
     pub fn finish_datagrams(mut self, window: u32) -> Result<Datagrams, Error> {
         let (mut sender, mut receiver) = (raw::DatagramSender::new(), raw::DatagramReceiver::new());
         let code = self.memory.finish_datagrams(window, &mut sender, &mut receiver);

@@ -10,8 +10,8 @@ mod secret;
 #[path = "key_pair/own.rs"]
 mod secret;
 
-/// A key pair of X25519, by this crate (feature `x25519`) or, with the feature `openssl`, by OpenSSL. A clone shares the secret key, and copies nothing
-/// of it.
+/// A key pair of X25519, by this crate (feature `x25519`) or, with the feature `openssl`, by OpenSSL. A clone shares
+/// the secret key, and copies nothing of it.
 ///
 /// ```
 /// # fn main() -> Result<(), Box<dyn std::error::Error>> {

@@ -1,17 +1,21 @@
-//! The Noise Protocol Framework, revision 34, with 25519, ChaChaPoly and SHA256. What computes the messages is the library `noise_c`, whose calls are
-//! proved to do what the framework says; its text is in the crate, and rustc assembles it.
+//! The Noise Protocol Framework, revision 34, with 25519, ChaChaPoly and SHA256. What computes the messages
+//! is the library `noise_c`, whose calls are proved to do what the framework says; its text is in the
+//! crate, and rustc assembles it.
 //!
-//! [`Builder`] starts a [`Handshake`], which becomes a [`Transport`], for messages in order, [`Datagrams`], for a network that loses and reorders, or two
-//! cipher states, for packets of your own. [`Stream`] does all of this over anything that reads and writes, [`AsyncStream`] over what tokio reads and writes,
-//! and [`Connection`] over whatever you have: bytes go in, and bytes come out. [`Pattern`] says what a pattern needs. X25519 comes through the trait
-//! [`Dh`]: from this crate, which has `KeyPair`, from OpenSSL with the feature `openssl`, or from any other crate in a few lines.
+//! [`Builder`] starts a [`Handshake`], which becomes a [`Transport`], for messages in order, [`Datagrams`], for a
+//! network that loses and reorders, or two cipher states, for packets of your own. [`Stream`] does all of this over
+//! anything that reads and writes, [`AsyncStream`] over what tokio reads and writes, and [`Connection`] over
+//! whatever you have: bytes go in, and bytes come out. [`Pattern`] says what a pattern needs. X25519 comes through
+//! the trait [`Dh`]: from this crate, which has `KeyPair`, from OpenSSL with the feature `openssl`, or from any
+//! other crate in a few lines.
 //!
-//! Without the feature `std` the crate is `no_std`, and with neither `std` nor `alloc` it uses no heap. The feature `system` links an installed library in
-//! place of the text, as for a target that has none.
+//! Without the feature `std` the crate is `no_std`, and with neither `std` nor `alloc` it uses no heap. The feature
+//! `system` links an installed library in place of the text, as for a target that has none.
 //!
-//! A value's keys are overwritten when it is dropped. With the feature `alloc` they stay in one place while the value is moved, and the stack is overwritten
-//! once a handshake is finished; without it what a move leaves on the stack isn't. Calls through `&` only read, so threads may make them at once:
-//! each type is `Send` and `Sync` where what it is made of is.
+//! A value's keys are overwritten when it is dropped. With the feature `alloc` they stay in one place while the
+//! value is moved, and the stack is overwritten once a handshake is finished; without it what a move leaves on
+//! the stack isn't. Calls through `&` only read, so threads may make them at once: each type is `Send` and `Sync`
+//! where what it is made of is.
 //!
 //! ```
 //! # #[cfg(any(feature = "x25519", feature = "openssl"))] fn main() -> Result<(), Box<dyn std::error::Error>> {

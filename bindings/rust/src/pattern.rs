@@ -45,8 +45,8 @@ impl Pattern {
         }
     }
 
-    // The same for a handshake. A program begins most of its handshakes by one pattern: with std each thread keeps the last, of which the library isn't
-    // asked again.
+    // The same for a handshake. A program begins most of its handshakes by one pattern: with std each thread keeps the
+    // last, of which the library isn't asked again.
     pub(crate) fn of_handshake(pattern: &str) -> Result<Pattern, Error> {
         #[cfg(feature = "std")]
         if let Some(kept) = kept::get(pattern) {

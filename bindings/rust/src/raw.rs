@@ -1,10 +1,11 @@
 // What include/noise.h declares, and the calls of it: all `unsafe` of this crate is here.
 //
-// Each call is sound since the types ensure what the header asks of a caller. Pointers come from references and slices: none is NULL, each leads to as
-// many bytes as its count says, and one that isn't const comes from `&mut`, so no other pointer leads there. The opaque structs are aligned to 8
-// by their declaration, and their sizes are compared with the library's before the first is written (`is_library`). A call that changes an opaque struct
-// takes it as `&mut`: no other thread has it. A call that takes it as const takes `&`: the header allows such calls at once, on any number of threads,
-// so the structs are `Sync`. The call checks a struct's content.
+// Each call is sound since the types ensure what the header asks of a caller. Pointers come from references and slices:
+// none is NULL, each leads to as many bytes as its count says, and one that isn't const comes from `&mut`, so no other
+// pointer leads there. The opaque structs are aligned to 8 by their declaration, and their sizes are compared with the
+// library's before the first is written (`is_library`). A call that changes an opaque struct takes it as `&mut`: no
+// other thread has it. A call that takes it as const takes `&`: the header allows such calls at once, on any number of
+// threads, so the structs are `Sync`. The call checks a struct's content.
 use crate::header::*;
 use core::mem::{size_of, size_of_val, MaybeUninit};
 use core::sync::atomic::{compiler_fence, AtomicBool, Ordering};
@@ -112,7 +113,8 @@ const _: () =
 #[cfg(target_pointer_width = "64")]
 const _: () = assert!(size_of::<CallResult>() == 56 && size_of::<StreamResult>() == 32);
 
-// Declares functions of the library. Those of the text in this crate have the version in their names: build.rs writes them so.
+// Declares functions of the library. Those of the text in this crate have the version in their names:
+// build.rs writes them so.
 macro_rules! calls {
     ($(fn $name:ident($($argument:ident: $type:ty),* $(,)?) -> $answer:ty;)*) => {
         extern "C" {

@@ -5,8 +5,8 @@ use std::net::{TcpListener, TcpStream};
 
 const DEPTH: usize = 200 << 10;
 
-// Runs `work` on a stack of its own, and counts the places below this one that have a half of a key which it returns. The halves come inverted: so they
-// themselves are none.
+// Runs `work` on a stack of its own, and counts the places below this one that have a half of a key which it returns.
+// The halves come inverted: so they themselves are none.
 fn copies_after(work: fn() -> Vec<[u8; 16]>) -> usize {
     let run = move || {
         let inverted = work();

@@ -16,21 +16,22 @@ pub(crate) use writing::Writing;
 /// A secure channel over anything that reads and writes. Each message comes after its length in two bytes, the higher
 /// first (Noise, 13). The crate's first page has an example.
 ///
-/// `close_write` sends the end of this party's stream. `read` returns `Ok(0)` where the other party has sent its end, and
-/// then all that it has written before was read; a connection that ends without it is `UnexpectedEof`. A refused message
-/// and a lost connection end the channel: each later `read` returns the same error, and nothing more is sent, also not
-/// the end of this party's stream; a `write` of the other half that runs at that time may still send its frame. Drop the
-/// channel then; what is dropped without `close_write` is truncated.
+/// `close_write` sends the end of this party's stream. `read` returns `Ok(0)` where the other party has sent its end,
+/// and then all that it has written before was read; a connection that ends without it is `UnexpectedEof`. A refused
+/// message and a lost connection end the channel: each later `read` returns the same error, and nothing more is sent,
+/// also not the end of this party's stream; a `write` of the other half that runs at that time may still send its
+/// frame. Drop the channel then; what is dropped without `close_write` is truncated.
 ///
-/// The last message of the handshake, if this party writes it, leaves with what is written first, or before the first `read` that may have to wait. A program
-/// that does neither, as one that waits in another way for bytes, calls `flush`; so does one that uses the stream below. On a `TcpStream` set
-/// `set_nodelay(true)`: otherwise the system keeps the end of a stream back for up to 40 ms.
+/// The last message of the handshake, if this party writes it, leaves with what is written first, or before the first
+/// `read` that may have to wait. A program that does neither, as one that waits in another way for bytes, calls
+/// `flush`; so does one that uses the stream below. On a `TcpStream` set `set_nodelay(true)`: otherwise the system
+/// keeps the end of a stream back for up to 40 ms.
 ///
 /// A stream below that doesn't block, or that has timeouts, may return `WouldBlock` or `TimedOut`. `read`, `flush` and
 /// `close_write` return the same then, and a later call continues. A `write` that accepts bytes seals them, and what
 /// of their frame the stream below doesn't accept waits: the next `write`, `flush` or `close_write` sends it first, and
-/// a `write` that can't do so accepts nothing. So `flush` after the last `write`. Windows doesn't say how much of a write
-/// past its timeout was sent: drop the channel there.
+/// a `write` that can't do so accepts nothing. So `flush` after the last `write`. Windows doesn't say how much of a
+/// write past its timeout was sent: drop the channel there.
 ///
 /// Buffers of more than 4096 bytes are given back where `read` has to wait, and that for writing also by `flush`.
 pub struct Stream<T> {
@@ -77,8 +78,8 @@ impl<T: Read + Write> Stream<T> {
     /// soon as that is known, before anything else is read or written. A pattern without such a key, as NN, is refused
     /// before anything is sent: see `anonymous`.
     ///
-    /// Where this party writes the last message, as the initiator does in XX, `Ok` comes before that message is sent: `flush` sends it. The other party may
-    /// still refuse it; then `read` returns an error.
+    /// Where this party writes the last message, as the initiator does in XX, `Ok` comes before that message is sent:
+    /// `flush` sends it. The other party may still refuse it; then `read` returns an error.
     pub fn new<S: Dh, E: Ephemeral>(
         below: T,
         handshake: Handshake<S, E>,
@@ -98,11 +99,11 @@ impl<T: Read + Write> Stream<T> {
 
     /// Runs a handshake of [`Builder::late_psks`](crate::Builder::late_psks). At a psk token that lacks its secret
     /// `psk_for` is called with the other party's static key, and returns the secret that this party shares with its
-    /// owner, or `None` to refuse that party: nothing more is sent then. A pattern that doesn't give that key before the
-    /// token is refused with `WantedPsk`; one that never gives it, before anything is sent.
+    /// owner, or `None` to refuse that party: nothing more is sent then. A pattern that doesn't give that key before
+    /// the token is refused with `WantedPsk`; one that never gives it, before anything is sent.
     ///
-    /// The other party hasn't shown yet that it has the secret key: so choose the secret, and do nothing else. 32 random
-    /// bytes for a key that you don't know, in place of `None`, don't tell which keys you know.
+    /// The other party hasn't shown yet that it has the secret key: so choose the secret, and do nothing else. 32
+    /// random bytes for a key that you don't know, in place of `None`, don't tell which keys you know.
     ///
     #[cfg_attr(any(feature = "x25519", feature = "openssl"), doc = "```")]
     #[cfg_attr(not(any(feature = "x25519", feature = "openssl")), doc = "```ignore")]
@@ -162,8 +163,9 @@ impl<T> Stream<T> {
 }
 
 impl<T: Write> Stream<T> {
-    /// Two halves, for two threads. `clone` makes the second handle of the stream below: `stream.split(TcpStream::try_clone)`. It sends the last message of
-    /// the handshake if that wasn't sent; where it would block the half that writes sends it at `flush`. It hides `split` of `BufRead`, which is
+    /// Two halves, for two threads. `clone` makes the second handle of the stream below:
+    /// `stream.split(TcpStream::try_clone)`. It sends the last message of the handshake if that wasn't sent; where it
+    /// would block the half that writes sends it at `flush`. It hides `split` of `BufRead`, which is
     /// `BufRead::split(stream, byte)`.
     ///
     #[cfg_attr(any(feature = "x25519", feature = "openssl"), doc = "```")]
@@ -196,8 +198,9 @@ impl<T: Write> Stream<T> {
     }
 
     /// Sends the end of this party's stream: `read` at the other party returns 0. What that party writes can still be
-    /// read, and should be, up to its end: a `TcpStream` that is dropped with bytes that were not read resets the connection, and what the other party
-    /// hasn't read is lost. After `WouldBlock` or `TimedOut` a later call continues.
+    /// read, and should be, up to its end: a `TcpStream` that is dropped with bytes that were not read
+    /// resets the connection, and what the other party hasn't read is lost. After `WouldBlock` or
+    /// `TimedOut` a later call continues.
     pub fn close_write(&mut self) -> io::Result<()> {
         self.writing.end(&mut self.below)
     }
@@ -317,8 +320,9 @@ macro_rules! over {
 macro_rules! hands_out {
     ($stream:ident) => {
         impl<T> $stream<T> {
-            /// The stream below, without the channel, and the bytes that came over it after the last frame that was read, as what another protocol
-            /// has sent after the end. What waits to be sent is lost: call `flush` before.
+            /// The stream below, without the channel, and the bytes that came over it after the last frame
+            /// that was read, as what another protocol has sent after the end. What waits to be sent is
+            /// lost: call `flush` before.
             pub fn into_inner(self) -> (T, Vec<u8>) {
                 let rest = self.reading.rest();
                 (self.below, rest)

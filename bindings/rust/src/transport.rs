@@ -107,7 +107,8 @@ impl Sender {
 }
 
 impl Receiver {
-    /// Opens the next message in place, and returns its payload. At an error nothing is changed; over a stream close at the first.
+    /// Opens the next message in place, and returns its payload. At an error nothing is changed; over a
+    /// stream close at the first.
     #[inline]
     pub fn open<'m>(&mut self, message: &'m mut [u8]) -> Result<&'m mut [u8], Error> {
         let mut result = CallResult::default();
@@ -151,7 +152,8 @@ impl DatagramSender {
         length(self.0.seal(payload, out, &mut result), &result)
     }
 
-    /// Seals in place: the payload is `payload_len` bytes of `buffer` from the ninth on, after which 16 bytes more are needed.
+    /// Seals in place: the payload is `payload_len` bytes of `buffer` from the ninth on, after which
+    /// 16 bytes more are needed.
     #[inline]
     pub fn seal_in_place(&mut self, buffer: &mut [u8], payload_len: usize) -> Result<usize, Error> {
         let mut result = CallResult::default();
@@ -165,8 +167,8 @@ impl DatagramSender {
 }
 
 impl DatagramReceiver {
-    /// Opens a datagram in place, and returns its payload. At an error nothing is changed: drop the datagram. `Old` and `Repeated` alone
-    /// are no sign of an attack.
+    /// Opens a datagram in place, and returns its payload. At an error nothing is changed: drop the datagram. `Old` and
+    /// `Repeated` alone are no sign of an attack.
     #[inline]
     pub fn open<'m>(&mut self, datagram: &'m mut [u8]) -> Result<&'m mut [u8], Error> {
         let mut result = CallResult::default();

@@ -1,4 +1,5 @@
-// `AsyncStream` over TCP: halves in tasks, peers that are silent or don't read, futures that are dropped, keys and secrets that are waited for.
+// `AsyncStream` over TCP: halves in tasks, peers that are silent or don't read, futures that are dropped, keys and
+// secrets that are waited for.
 #![cfg(feature = "tokio")]
 use std::io::{self, ErrorKind};
 use std::pin::Pin;

@@ -1,4 +1,5 @@
-// Handshakes, transports, datagrams and streams, with a key agreement that is none: what these tests look at doesn't depend on it.
+// Handshakes, transports, datagrams and streams, with a key agreement that is none: what these tests look
+// at doesn't depend on it.
 use std::io::{self, ErrorKind, Read, Write};
 use std::net::{Shutdown, TcpStream};
 use toy::{begun, streams, tcp, Party, Toy, PSK};
@@ -100,8 +101,8 @@ fn refusals_of_a_handshake() {
     assert_eq!(server.finish().err(), Some(Error::NotDone));
 }
 
-// A stranger's message, altered or cut at any byte, changes neither the handshake nor the message; then the one that was sent is read. Of each pattern: which
-// messages end with a tag.
+// A stranger's message, altered or cut at any byte, changes neither the handshake nor the message; then the one that
+// was sent is read. Of each pattern: which messages end with a tag.
 #[test]
 fn what_a_stranger_sends_changes_nothing() {
     for (pattern, tags) in [("XX", [false, true, true]), ("IK", [true, true, true]), ("NNpsk0", [true, true, true])] {
@@ -222,7 +223,8 @@ fn a_pattern_without_a_key_to_verify_is_refused_at_once() {
     for pattern in patterns() {
         let ((client, server), finished) = (begun(&pattern), done(&pattern));
         for (party, finished) in [(client, finished.0), (server, finished.1)] {
-            let error = Stream::new(Script(&[]), party, |_| true).err().map(io::Error::from); // none where it only writes
+            // There is none where it only writes.
+            let error = Stream::new(Script(&[]), party, |_| true).err().map(io::Error::from);
             let refused = error.map_or(false, |error| error.kind() == ErrorKind::PermissionDenied);
             assert_eq!(refused, finished.remote_static().is_none(), "{pattern}");
         }

@@ -1,4 +1,5 @@
-// The code of docs/RUST.md after its first listing, run; and what the page says of intervals, of errors and of a first datagram that comes twice.
+// The code of docs/RUST.md after its first listing, run; and what the page says of intervals, of errors and of a first
+// datagram that comes twice.
 #![cfg(any(feature = "x25519", feature = "openssl"))]
 use std::collections::HashMap;
 use std::io::{self, ErrorKind, Read, Write};

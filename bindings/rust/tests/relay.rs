@@ -1,8 +1,8 @@
-// Two parties of one session with a relay between them that flips, cuts, repeats or drops at each byte, whatever the order
-// in which they end their streams: over `Stream`, over both `AsyncStream`, and over `Connection` alone. None of them blocks, and
-// bytes come and go in small pieces. What each side reports is compared with the theorem on streams: what was read is the first of what was
-// written; an end is reported only if the writer has ended and all of it came, and else a refused message or a cut; and after
-// that nothing more is sent.
+// Two parties of one session with a relay between them that flips, cuts, repeats or drops at each byte, whatever the
+// order in which they end their streams: over `Stream`, over both `AsyncStream`, and over `Connection` alone. None of
+// them blocks, and bytes come and go in small pieces. What each side reports is compared with the theorem on streams:
+// what was read is the first of what was written; an end is reported only if the writer has ended and all of it came,
+// and else a refused message or a cut; and after that nothing more is sent.
 use ends::{Alone, Below, Channel, Fault, Opening, Pipe};
 use std::cell::{Cell, RefCell};
 use std::collections::VecDeque;

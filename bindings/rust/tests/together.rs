@@ -1,5 +1,5 @@
-// What leaves together, and what is received together: the last message of a handshake with the first bytes, many frames at one time; and what a channel
-// hands out again.
+// What leaves together, and what is received together: the last message of a handshake with the first bytes, many
+// frames at one time; and what a channel hands out again.
 use std::cell::RefCell;
 use std::collections::VecDeque;
 use std::io::{self, BufRead, ErrorKind, Read, Write};
@@ -57,7 +57,8 @@ fn resumed<S: yulimosar::Dh, E: yulimosar::Ephemeral>(
     }
 }
 
-// The initiator's channel, the responder's handshake, which has still to read its last message, and what the initiator writes to.
+// The initiator's channel, the responder's handshake, which has still to read its last message, and what
+// the initiator writes to.
 #[allow(clippy::type_complexity)]
 fn finished(
     pattern: &str,

@@ -1,8 +1,9 @@
 // Does a branch or an address depend on a secret? Each result of X25519, each psk and each payload is marked as
 // undefined for memcheck, a tool of valgrind, which follows these bits through all that is computed of them, and
 // reports each branch and each address that depends on one. What is public is marked as defined once it is out: the
-// messages, the code and `result` of a call that reads or opens, and the other party's static key. A branch of this file
-// on anything else that comes out of the library would be reported too. BoringSSL and libsodium are tested in this way.
+// messages, the code and `result` of a call that reads or opens, and the other party's static key. A branch
+// of this file on anything else that comes out of the library would be reported too. BoringSSL and
+// libsodium are tested in this way.
 //
 // secrets: both parties of all patterns, and what follows their handshakes. secrets early-exit, secrets table: a fault
 // of this file, which has to be reported.
@@ -182,7 +183,8 @@ static uint32_t seal_message(void *sender, const uint8_t *payload, size_t len, u
     return noise_seal(sender, payload, len, out, ROOM, result);
 }
 
-static uint32_t seal_message_here(void *sender, const uint8_t *payload, size_t len, uint8_t *out, noise_result *result) {
+static uint32_t seal_message_here(void *sender, const uint8_t *payload, size_t len, uint8_t *out,
+                                  noise_result *result) {
     memcpy(out, payload, len);
     return noise_seal_in_place(sender, out, ROOM, len, result);
 }
@@ -210,7 +212,8 @@ static uint32_t seal_datagram(void *sender, const uint8_t *payload, size_t len, 
     return noise_datagram_seal(sender, payload, len, out, ROOM, result);
 }
 
-static uint32_t seal_datagram_here(void *sender, const uint8_t *payload, size_t len, uint8_t *out, noise_result *result) {
+static uint32_t seal_datagram_here(void *sender, const uint8_t *payload, size_t len, uint8_t *out,
+                                   noise_result *result) {
     memcpy(out + 8, payload, len);
     return noise_datagram_seal_in_place(sender, out, ROOM, len, result);
 }

@@ -1,5 +1,5 @@
-// Package flynn runs the JavaScript module against github.com/flynn/noise over TCP on 127.0.0.1. NOISE_JS_ECHO has the path of a program that runs
-// checks/web/echo.mjs.
+// Package flynn runs the JavaScript module against github.com/flynn/noise over TCP on 127.0.0.1. NOISE_JS_ECHO has the
+// path of a program that runs checks/web/echo.mjs.
 package flynn
 
 import (
@@ -21,9 +21,13 @@ import (
 
 var suite = noise.NewCipherSuite(noise.DH25519, noise.CipherChaChaPoly, noise.HashSHA256)
 
-var patterns = []noise.HandshakePattern{noise.HandshakeN, noise.HandshakeK, noise.HandshakeX, noise.HandshakeNN, noise.HandshakeNK, noise.HandshakeNX,
-	noise.HandshakeKN, noise.HandshakeKK, noise.HandshakeKX, noise.HandshakeXN, noise.HandshakeXK, noise.HandshakeXX, noise.HandshakeIN,
-	noise.HandshakeIK, noise.HandshakeIX}
+var patterns = []noise.HandshakePattern{
+	noise.HandshakeN, noise.HandshakeK, noise.HandshakeX,
+	noise.HandshakeNN, noise.HandshakeNK, noise.HandshakeNX,
+	noise.HandshakeKN, noise.HandshakeKK, noise.HandshakeKX,
+	noise.HandshakeXN, noise.HandshakeXK, noise.HandshakeXX,
+	noise.HandshakeIN, noise.HandshakeIK, noise.HandshakeIX,
+}
 
 // end is flynn's end: frames round its messages.
 type end struct {
@@ -116,7 +120,13 @@ func TestJavaScript(t *testing.T) {
 			}
 			t.Run(fmt.Sprintf("%s/%v", name, initiator), func(t *testing.T) {
 				t.Parallel()
-				live(t, program, name, noise.Config{CipherSuite: suite, Pattern: pattern, Prologue: []byte("live"), Initiator: initiator}, place)
+				config := noise.Config{
+					CipherSuite: suite,
+					Pattern:     pattern,
+					Prologue:    []byte("live"),
+					Initiator:   initiator,
+				}
+				live(t, program, name, config, place)
 			})
 		}
 	}

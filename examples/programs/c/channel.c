@@ -48,7 +48,8 @@ static void drop(channel *c, size_t count) {
     memmove(c->buffer, c->buffer + count, c->held);
 }
 
-static void pass_message(channel *c, noise_handshake *h, bool writes, const key_pair *ephemeral, const key_pair *own, double deadline) {
+static void pass_message(channel *c, noise_handshake *h, bool writes, const key_pair *ephemeral, const key_pair *own,
+                         double deadline) {
     noise_result result;
     noise_stream_result frame;
     uint32_t code;
@@ -66,7 +67,8 @@ static void pass_message(channel *c, noise_handshake *h, bool writes, const key_
     if (code != NOISE_OK) die("the handshake was refused");  // tell nobody else why
 }
 
-void open_channel(channel *c, int socket, const char *pattern, uint8_t responder, const key_pair *own, const uint8_t *remote, noise_key *remote_key) {
+void open_channel(channel *c, int socket, const char *pattern, uint8_t responder, const key_pair *own,
+                  const uint8_t *remote, noise_key *remote_key) {
     noise_handshake h;
     noise_stage_result stage;
     double deadline = now() + HANDSHAKE_SECONDS;
@@ -76,7 +78,8 @@ void open_channel(channel *c, int socket, const char *pattern, uint8_t responder
     while (noise_stage(&h, &stage) == NOISE_OK && stage.passed < stage.messages)
         pass_message(c, &h, stage.writes_next, &ephemeral, own, deadline);
     if (noise_remote_static(&h, remote_key) != NOISE_OK) die("no key");
-    if (noise_finish_stream(&h, 1000, &c->sender, &c->receiver) != NOISE_OK) die("the handshake isn't done");  // new keys after each 1000 frames
+    // New keys after each 1000 frames.
+    if (noise_finish_stream(&h, 1000, &c->sender, &c->receiver) != NOISE_OK) die("the handshake isn't done");
     forget_pair(&ephemeral);
     noise_wipe(&h, sizeof h);                            // it has the results of X25519
     noise_wipe_stack();
@@ -116,7 +119,8 @@ static bool open_next(channel *c) {
             drop(c, result.used);
             return false;
         }
-        if (code != NOISE_MORE) die("a message was changed, or came twice");  // and nothing more is read or sent: no end either
+        // Then nothing more is read or sent: no end either.
+        if (code != NOISE_MORE) die("a message was changed, or came twice");
         if (!receive_some(c, NO_DEADLINE)) die("the connection was cut: more was to come");
     }
 }

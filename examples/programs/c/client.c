@@ -1,5 +1,5 @@
-// The initiator: client PATTERN TEXT [PORT], with XX or IK. It connects to 127.0.0.1, port 4041 if no other is given, and sends the text, which the server
-// sends back.
+// The initiator: client PATTERN TEXT [PORT], with XX or IK. It connects to 127.0.0.1, port 4041 if no other is given,
+// and sends the text, which the server sends back.
 #include "channel.h"
 #include <arpa/inet.h>
 #include <stdio.h>
@@ -19,7 +19,8 @@ static int connect_to_server(uint16_t port) {
 }
 
 int main(int count, char **words) {
-    if (count < 3 || count > 4 || (strcmp(words[1], "XX") && strcmp(words[1], "IK"))) die("usage: client XX|IK TEXT [PORT]");
+    if (count < 3 || count > 4 || (strcmp(words[1], "XX") && strcmp(words[1], "IK")))
+        die("usage: client XX|IK TEXT [PORT]");
     static channel c;
     uint8_t expected[32];
     noise_key key;

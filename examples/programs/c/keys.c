@@ -64,7 +64,8 @@ void save_public(const char *file, const uint8_t key[32]) {
     char other[200];
     snprintf(other, sizeof other, "%s.new", file);
     FILE *it = fopen(other, "wb");
-    if (!it || fwrite(key, 1, 32, it) != 32 || fclose(it) || rename(other, file)) die(file);  // so that nobody reads half of it
+    // It gets its name last, so that nobody reads half of it.
+    if (!it || fwrite(key, 1, 32, it) != 32 || fclose(it) || rename(other, file)) die(file);
 }
 
 void load_public(const char *file, uint8_t key[32]) {
@@ -72,7 +73,8 @@ void load_public(const char *file, uint8_t key[32]) {
     if (!it || fread(key, 1, 32, it) != 32 || fclose(it)) die(file);
 }
 
-void start(noise_handshake *h, const char *pattern, uint8_t responder, const key_pair *ephemeral, const key_pair *own, const uint8_t *remote) {
+void start(noise_handshake *h, const char *pattern, uint8_t responder, const key_pair *ephemeral, const key_pair *own,
+           const uint8_t *remote) {
     static const char prologue[] = "example channel 1";  // what both parties have to have the same
     char name[80];
     noise_setup setup = {.responder = responder, .e.present = 1, .s.present = 1, .remote_s.present = remote != NULL};
@@ -80,7 +82,8 @@ void start(noise_handshake *h, const char *pattern, uint8_t responder, const key
     memcpy(setup.s.bytes, own->public, 32);
     if (remote) memcpy(setup.remote_s.bytes, remote, 32);
     snprintf(name, sizeof name, "Noise_%s_25519_ChaChaPoly_SHA256", pattern);
-    uint32_t code = noise_start(h, (const uint8_t *)name, strlen(name), (const uint8_t *)prologue, strlen(prologue), &setup);
+    uint32_t code = noise_start(h, (const uint8_t *)name, strlen(name), (const uint8_t *)prologue, strlen(prologue),
+        &setup);
     if (code != NOISE_OK) die(noise_text(code));
 }
 
@@ -88,7 +91,8 @@ typedef struct {
     const key_pair *ephemeral, *own;
 } pairs;
 
-// X25519 for the calls of a handshake. There is no result where OpenSSL refuses zeros, which come of a public key that no honest party has.
+// X25519 for the calls of a handshake. There is no result where OpenSSL refuses zeros, which come of a public key
+// that no honest party has.
 static int dh(void *context, uint8_t of_static, const uint8_t remote[32], uint8_t result[32]) {
     const pairs *p = context;
     size_t len = 32;
@@ -101,17 +105,20 @@ static int dh(void *context, uint8_t of_static, const uint8_t remote[32], uint8_
     return is_one;
 }
 
-uint32_t write_message(noise_handshake *h, const key_pair *ephemeral, const key_pair *own, uint8_t *out, size_t out_len, noise_result *result) {
+uint32_t write_message(noise_handshake *h, const key_pair *ephemeral, const key_pair *own, uint8_t *out, size_t out_len,
+                       noise_result *result) {
     pairs p = {ephemeral, own};
     return noise_write_with(h, NULL, 0, out, out_len, result, dh, &p);
 }
 
-uint32_t read_message(noise_handshake *h, const key_pair *ephemeral, const key_pair *own, uint8_t *message, size_t len, noise_result *result) {
+uint32_t read_message(noise_handshake *h, const key_pair *ephemeral, const key_pair *own, uint8_t *message, size_t len,
+                      noise_result *result) {
     pairs p = {ephemeral, own};
     return noise_read_with(h, message, len, result, dh, &p);
 }
 
-uint32_t try_message(noise_handshake *h, const key_pair *ephemeral, const key_pair *own, uint8_t *message, size_t len, noise_result *result) {
+uint32_t try_message(noise_handshake *h, const key_pair *ephemeral, const key_pair *own, uint8_t *message, size_t len,
+                     noise_result *result) {
     pairs p = {ephemeral, own};
     return noise_try_read_with(h, message, len, result, dh, &p);
 }

@@ -1,5 +1,5 @@
-// The responder: server PATTERN [PORT], with XX or IK. It takes one connection on 127.0.0.1, port 4041 if no other is given, says which client it is, and
-// sends its text back.
+// The responder: server PATTERN [PORT], with XX or IK. It takes one connection on 127.0.0.1, port 4041 if no other is
+// given, says which client it is, and sends its text back.
 #include "channel.h"
 #include <arpa/inet.h>
 #include <stdio.h>
@@ -23,10 +23,12 @@ int main(int count, char **words) {
     static channel c;
     noise_key key;
     key_pair own = pair_in("server.secret");
-    save_public("server.public", own.public);            // the client gets this file by a way that nobody else can write to
+    // The client gets this file by a way that nobody else can write to.
+    save_public("server.public", own.public);
     open_channel(&c, take_client(count == 3 ? (uint16_t)atoi(words[2]) : 4041), words[1], 1, &own, NULL, &key);
 
-    // Whoever the client is, it has this static key. A server that lets in only some looks it up here, and else closes the connection.
+    // Whoever the client is, it has this static key. A server that lets in only some looks it up here, and
+    // else closes the connection.
     printf("server: a client with the key ");
     for (int i = 0; i < 32; i++) printf("%02x", key.bytes[i]);
     printf(" says: ");

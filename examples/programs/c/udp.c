@@ -1,8 +1,8 @@
-// A channel of datagrams over UDP on 127.0.0.1, port 4042 if no other is given: udp server [PORT]; or udp client TEXT [PORT], which sends the text, and the
-// server sends it back.
+// A channel of datagrams over UDP on 127.0.0.1, port 4042 if no other is given: udp server [PORT]; or udp client TEXT
+// [PORT], which sends the text, and the server sends it back.
 //
-// The network may lose a message, and anybody may send one. So each party sends again what isn't answered, and a message that is refused leaves its
-// handshake as it was.
+// The network may lose a message, and anybody may send one. So each party sends again what isn't answered, and a
+// message that is refused leaves its handshake as it was.
 #include "keys.h"
 #include <arpa/inet.h>
 #include <poll.h>
@@ -78,7 +78,8 @@ static void run_client(int socket, const char *text) {
 }
 
 // Waits for a first message, and answers it. A wrong one is dropped, with the handshake that it was tried on.
-static size_t answer_client(int socket, const key_pair *own, network *n, uint8_t first[LONGEST], size_t *first_len, uint8_t second[LONGEST]) {
+static size_t answer_client(int socket, const key_pair *own, network *n, uint8_t first[LONGEST], size_t *first_len,
+                            uint8_t second[LONGEST]) {
     for (;;) {
         struct sockaddr_in from;
         socklen_t size = sizeof from;
@@ -133,7 +134,8 @@ static void run_server(int socket) {
 }
 
 int main(int count, char **words) {
-    bool is_server = count >= 2 && count <= 3 && !strcmp(words[1], "server"), is_client = count >= 3 && count <= 4 && !strcmp(words[1], "client");
+    bool is_server = count >= 2 && count <= 3 && !strcmp(words[1], "server"),
+         is_client = count >= 3 && count <= 4 && !strcmp(words[1], "client");
     if (!is_server && !is_client) die("usage: udp server [PORT], or udp client TEXT [PORT]");
     int places = is_server ? 2 : 3;                      // of the words in front of the port
     if (is_client && strlen(words[2]) > LONGEST - NOISE_DATAGRAM_OVERHEAD) die("the text is too long");
@@ -141,7 +143,8 @@ int main(int count, char **words) {
     at.sin_port = htons(count > places ? (uint16_t)atoi(words[places]) : 4042);
     int it = socket(AF_INET, SOCK_DGRAM, 0);
     if (it < 0) die("no socket");
-    if (is_server ? bind(it, (struct sockaddr *)&at, sizeof at) : connect(it, (struct sockaddr *)&at, sizeof at)) die("the port isn't free");
+    if (is_server ? bind(it, (struct sockaddr *)&at, sizeof at) : connect(it, (struct sockaddr *)&at, sizeof at))
+        die("the port isn't free");
     if (is_server)
         run_server(it);
     else

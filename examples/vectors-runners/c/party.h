@@ -1,4 +1,5 @@
-// What runner.c asks of a Noise: write these functions for yours, as party_yulimosar.c does for the library of this repository.
+// What runner.c asks of a Noise: write these functions for yours, as party_yulimosar.c does for the
+// library of this repository.
 #ifndef PARTY_H
 #define PARTY_H
 #include <stddef.h>
@@ -29,7 +30,8 @@ typedef struct party party;
 party *party_start(const party_setup *setup);
 void party_end(party *p);
 
-// These return one of the codes above. After the handshake they write and read transport messages. out has PARTY_ROOM bytes.
+// These return one of the codes above. After the handshake they write and read transport messages.
+// out has PARTY_ROOM bytes.
 int party_write(party *p, const uint8_t *payload, size_t len, uint8_t *out, size_t *out_len);
 int party_read(party *p, const uint8_t *message, size_t len, uint8_t *out, size_t *out_len);
 int party_rekey(party *p, int receive);
@@ -39,7 +41,8 @@ int party_hash(party *p, uint8_t hash[32]);
 // The token at which the last message was refused, from 0; -1 if the Noise doesn't say so.
 int party_token(const party *p);
 
-// Frames, a length in 2 big-endian bytes before a message: makes one; and finds the message of one, whose length is -1 if the frame isn't whole.
+// Frames, a length in 2 big-endian bytes before a message: makes one; and finds the message of one, whose length is -1
+// if the frame isn't whole.
 int party_frame(const uint8_t *message, size_t len, uint8_t *out, size_t *out_len);
 int party_unframe(const uint8_t *bytes, size_t len, size_t *from, long *message_len);
 

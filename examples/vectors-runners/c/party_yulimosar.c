@@ -35,7 +35,8 @@ party *party_start(const party_setup *from) {
     known(&setup.remote_e, from->keys.has_re, from->keys.re);
     known(&setup.remote_s, from->keys.has_rs, from->keys.rs);
     memcpy(setup.psks, from->psks, sizeof setup.psks);
-    uint32_t code = noise_start(&p->handshake, (const uint8_t *)from->pattern, strlen(from->pattern), from->prologue, from->prologue_len, &setup);
+    uint32_t code = noise_start(&p->handshake, (const uint8_t *)from->pattern, strlen(from->pattern), from->prologue,
+        from->prologue_len, &setup);
     if (code == NOISE_OK) return p;
     party_end(p);
     return NULL;
@@ -54,7 +55,8 @@ static int answer(party *p, const noise_result *result) {
     size_t len = sizeof agreed;
     EVP_PKEY *remote = EVP_PKEY_new_raw_public_key(EVP_PKEY_X25519, NULL, result->remote, 32);
     EVP_PKEY_CTX *context = EVP_PKEY_CTX_new(p->own[result->of_static], NULL);
-    int done = EVP_PKEY_derive_init(context) == 1 && EVP_PKEY_derive_set_peer(context, remote) == 1 && EVP_PKEY_derive(context, agreed, &len) == 1;
+    int done = EVP_PKEY_derive_init(context) == 1 && EVP_PKEY_derive_set_peer(context, remote) == 1
+        && EVP_PKEY_derive(context, agreed, &len) == 1;
     EVP_PKEY_CTX_free(context);
     EVP_PKEY_free(remote);
     return done && noise_answer(&p->handshake, result->of_static, result->remote, agreed) == NOISE_OK;
@@ -77,7 +79,9 @@ int party_write(party *p, const uint8_t *payload, size_t len, uint8_t *out, size
         memcpy(out, payload, len);
         code = noise_cipher_encrypt(&p->ciphers[0], NULL, 0, out, PARTY_ROOM, len, &result);
     } else {
-        while ((code = noise_write(&p->handshake, payload, len, out, PARTY_ROOM, &result)) == NOISE_WANTED && answer(p, &result)) continue;
+        while ((code = noise_write(&p->handshake, payload, len, out, PARTY_ROOM, &result)) == NOISE_WANTED
+            && answer(p, &result))
+            continue;
         if (code == NOISE_OK) passed(p);
     }
     if (code != NOISE_OK) return PARTY_REFUSED;
@@ -103,7 +107,9 @@ int party_read(party *p, const uint8_t *message, size_t len, uint8_t *out, size_
     return PARTY_OK;
 }
 
-int party_rekey(party *p, int receive) { return noise_cipher_rekey(&p->ciphers[receive]) == NOISE_OK ? PARTY_OK : PARTY_REFUSED; }
+int party_rekey(party *p, int receive) {
+    return noise_cipher_rekey(&p->ciphers[receive]) == NOISE_OK ? PARTY_OK : PARTY_REFUSED;
+}
 
 int party_set_nonce(party *p, int receive, uint64_t nonce) {
     return noise_cipher_set_nonce(&p->ciphers[receive], nonce) == NOISE_OK ? PARTY_OK : PARTY_REFUSED;
@@ -134,4 +140,6 @@ int party_unframe(const uint8_t *bytes, size_t len, size_t *from, long *message_
     return PARTY_OK;
 }
 
-void party_sha256(const uint8_t *data, size_t len, uint8_t digest[32]) { EVP_Digest(data, len, digest, NULL, EVP_sha256(), NULL); }
+void party_sha256(const uint8_t *data, size_t len, uint8_t digest[32]) {
+    EVP_Digest(data, len, digest, NULL, EVP_sha256(), NULL);
+}

@@ -43,13 +43,15 @@ int report_print(const json *notes) {
     int total[3] = {0};
     for (size_t i = 0; i < row_count; i++) {
         total[rows[i].outcome]++;
-        for (const json *flag = json_get(rows[i].test, "flags")->first; flag; flag = flag->next) tally_of(flags, flag->text)->counts[rows[i].outcome]++;
+        for (const json *flag = json_get(rows[i].test, "flags")->first; flag; flag = flag->next)
+            tally_of(flags, flag->text)->counts[rows[i].outcome]++;
         if (rows[i].outcome == NOT_RUN) tally_of(reasons, rows[i].why)->counts[NOT_RUN]++;
     }
     printf("%-28s %-7s %7s %7s %7s\n", "flag", "kind", "passed", "failed", "not run");
     for (const tally *it = flags; it->name; it++) {
         const char *kind = json_text(json_get(notes, it->name), "kind");
-        printf("%-28s %-7s %7d %7d %7d\n", it->name, kind ? kind : "", it->counts[PASSED], it->counts[FAILED], it->counts[NOT_RUN]);
+        printf("%-28s %-7s %7d %7d %7d\n", it->name, kind ? kind : "", it->counts[PASSED], it->counts[FAILED],
+            it->counts[NOT_RUN]);
     }
     for (size_t i = 0; i < row_count; i++) {
         if (rows[i].outcome != FAILED) continue;
@@ -78,13 +80,16 @@ int report_junit(const char *path, const char *name) {
     int total[3] = {0};
     if (!to) return 0;
     for (size_t i = 0; i < row_count; i++) total[rows[i].outcome]++;
-    fprintf(to, "<?xml version=\"1.0\" encoding=\"UTF-8\"?>\n<testsuite name=\"%s\" tests=\"%zu\" failures=\"%d\" skipped=\"%d\">\n", name, row_count,
-        total[FAILED], total[NOT_RUN]);
+    fprintf(to,
+        "<?xml version=\"1.0\" encoding=\"UTF-8\"?>\n<testsuite name=\"%s\" tests=\"%zu\" failures=\"%d\" "
+        "skipped=\"%d\">\n",
+        name, row_count, total[FAILED], total[NOT_RUN]);
     for (size_t i = 0; i < row_count; i++) {
         const json *test = rows[i].test;
         const char *pattern;
         int len = pattern_of(&rows[i], &pattern);
-        fprintf(to, "  <testcase classname=\"%s\" name=\"%ld %.*s: ", json_get(test, "flags")->first->text, json_get(test, "tcId")->number, len, pattern);
+        fprintf(to, "  <testcase classname=\"%s\" name=\"%ld %.*s: ", json_get(test, "flags")->first->text,
+            json_get(test, "tcId")->number, len, pattern);
         quoted(to, json_text(test, "comment"));
         fputs("\">", to);
         if (rows[i].outcome != PASSED) {

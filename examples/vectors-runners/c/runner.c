@@ -1,4 +1,5 @@
-// Runs the suite of test vectors with an implementation in C: runner SUITE.json [JUNIT.xml]. party.h says what it asks of the Noise.
+// Runs the suite of test vectors with an implementation in C: runner SUITE.json [JUNIT.xml]. party.h says
+// what it asks of the Noise.
 #include "json.h"
 #include "party.h"
 #include "report.h"
@@ -75,15 +76,21 @@ static int key_of(const json *own, const char *name, uint8_t key[32]) {
 static void pattern_text(const json *group, char text[600]) {
     const char *name = strchr(json_text(group, "protocol"), '_') + 1;
     size_t len = (size_t)snprintf(text, 600, "%.*s:\n", (int)strcspn(name, "_"), name);
-    for (const json *it = json_get(group, "pattern")->first; it; it = it->next) len += (size_t)snprintf(text + len, 600 - len, "  %s\n", it->text);
+    for (const json *it = json_get(group, "pattern")->first; it; it = it->next)
+        len += (size_t)snprintf(text + len, 600 - len, "  %s\n", it->text);
 }
 
 static party *start(const json *group, int responder) {
     char pattern[600];
     const json *own = json_get(group, responder ? "responder" : "initiator");
     bytes prologue = of_value(json_get(group, "prologue"));
-    party_setup setup = {.protocol = json_text(group, "protocol"), .pattern = pattern, .prologue = prologue.data, .prologue_len = prologue.len,
-        .responder = responder};
+    party_setup setup = {
+        .protocol = json_text(group, "protocol"),
+        .pattern = pattern,
+        .prologue = prologue.data,
+        .prologue_len = prologue.len,
+        .responder = responder,
+    };
     pattern_text(group, pattern);
     for (const json *it = json_get(group, "psks")->first; it; it = it->next) {
         bytes psk = of_hex(it->text);
@@ -210,7 +217,8 @@ static int take(run *r, const json *step) {
 static void run_test(const json *group, const json *test) {
     run r = {.group = group, .test = test};
     int outcome = PASSED, number = 0;
-    for (const json *step = json_get(test, "steps")->first; step && outcome == PASSED; step = step->next, number++) outcome = take(&r, step);
+    for (const json *step = json_get(test, "steps")->first; step && outcome == PASSED; step = step->next, number++)
+        outcome = take(&r, step);
     char why[240];
     if (outcome == FAILED) snprintf(why, sizeof why, "step %d: %s", number - 1, r.why);
     else snprintf(why, sizeof why, "%s", r.why);
@@ -226,7 +234,9 @@ static void run_frame(const json *group, const json *test) {
     int is_whole = is_text(test, "result", "valid"), fits = 1, code = PARTY_OK;
     size_t len = 0, from = 0;
     long found = -1;
-    if (is_whole) fits = (code = party_frame(message.data, message.len, got, &len)) == PARTY_OK && len == frame.len && !memcmp(got, frame.data, len);
+    if (is_whole)
+        fits = (code = party_frame(message.data, message.len, got, &len)) == PARTY_OK && len == frame.len
+            && !memcmp(got, frame.data, len);
     if (code != PARTY_NOT_SUPPORTED) code = party_unframe(frame.data, frame.len, &from, &found);
     if (is_whole) fits = fits && found == (long)message.len && !memcmp(frame.data + from, message.data, message.len);
     else fits = found < 0;

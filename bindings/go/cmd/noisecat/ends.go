@@ -50,7 +50,8 @@ func forwarded(address string, timeout time.Duration) (*local, error) {
 	}}, nil
 }
 
-// executed joins to the standard input and output of a new process, which after a fault is killed. A status other than 0 is a fault.
+// executed joins to the standard input and output of a new process, which after a fault is killed. A status
+// other than 0 is a fault.
 func executed(command string) (*local, error) {
 	cmd := exec.Command("/bin/sh", "-c", command)
 	cmd.Stderr = os.Stderr
@@ -90,7 +91,8 @@ func (u *untilEnd) Read(b []byte) (int, error) {
 	return n, err
 }
 
-// setInput sets what is read for a connection: with -keep all that is left of a file, for each anew, or nothing of a terminal.
+// setInput sets what is read for a connection: with -keep all that is left of a file, for each anew,
+// or nothing of a terminal.
 func (o *options) setInput(in *os.File) error {
 	if o.forward != "" || o.exec != "" {
 		return nil
@@ -104,7 +106,8 @@ func (o *options) setInput(in *os.File) error {
 		o.input = func() io.Reader { return strings.NewReader("") }
 		return nil
 	case !info.Mode().IsRegular():
-		return wrong{errors.New("-keep: standard input can be sent to one connection alone: redirect it from a file, or from /dev/null")}
+		return wrong{errors.New("-keep: standard input can be sent to one connection alone: " +
+			"redirect it from a file, or from /dev/null")}
 	}
 	start, err := in.Seek(0, io.SeekCurrent)
 	o.input = func() io.Reader { return io.NewSectionReader(in, start, math.MaxInt64-start) }

@@ -12,7 +12,8 @@ import (
 	"time"
 )
 
-// proxied returns the address of a proxy as most are: whatever ends one of its connections, it closes the other by a FIN.
+// proxied returns the address of a proxy as most are: whatever ends one of its connections, it
+// closes the other by a FIN.
 func proxied(t *testing.T, to string) string {
 	t.Helper()
 	l, err := net.Listen("tcp", "127.0.0.1:0")
@@ -43,7 +44,8 @@ func proxied(t *testing.T, to string) string {
 	return l.Addr().String()
 }
 
-// TestStatusThroughAProxy has a party whose disk is full behind a proxy, which sends a FIN where that party resets the connection.
+// TestStatusThroughAProxy has a party whose disk is full behind a proxy, which sends a FIN where that
+// party resets the connection.
 func TestStatusThroughAProxy(t *testing.T) {
 	cat, server, own, to := pair(t)
 	full, err := os.OpenFile("/dev/full", os.O_WRONLY, 0)
@@ -110,7 +112,8 @@ func silentClient(t *testing.T, cmd *exec.Cmd) {
 	t.Error("the silent client isn't accepted")
 }
 
-// TestSilentClient has one that is allowed and silent before another: with one after another until the time of -idle, and with all at once not at all.
+// TestSilentClient has one that is allowed and silent before another: with one after another until the time of -idle,
+// and with all at once not at all.
 func TestSilentClient(t *testing.T) {
 	echo, err := net.Listen("tcp", "127.0.0.1:0")
 	if err != nil {
@@ -157,7 +160,10 @@ func TestSilentClient(t *testing.T) {
 
 // TestFaultsOfTargets has targets that aren't there, and a command that fails.
 func TestFaultsOfTargets(t *testing.T) {
-	for _, it := range [][3]string{{"-forward", "127.0.0.1:1", "connection refused"}, {"-exec", "cat; exit 3", "-exec: exit status 3"}} {
+	for _, it := range [][3]string{
+		{"-forward", "127.0.0.1:1", "connection refused"},
+		{"-exec", "cat; exit 3", "-exec: exit status 3"},
+	} {
 		cat, server, own, to := pair(t)
 		var ends [2]side
 		ends[1].in = strings.NewReader("hello")

@@ -48,8 +48,9 @@ func join(o *options) error {
 
 var errIdle = errors.New("nothing has come or gone for the time that -idle names")
 
-// carry moves what there is to send and what comes until both parties have sent all. Where the other party is noisecat too, each says that it has written
-// out all, and only that is no fault. After a fault it resets the connection, so that the other party gets an error too.
+// carry moves what there is to send and what comes until both parties have sent all. Where the other party is noisecat
+// too, each says that it has written out all, and only that is no fault. After a fault it resets the connection, so
+// that the other party gets an error too.
 func (o *options) carry(c *noise.Conn, below *counted) error {
 	if o.verbose {
 		s := c.ConnectionState()
@@ -137,7 +138,8 @@ func (o *options) watch(below *counted, idle func()) (stop func()) {
 
 // plainSend sends the input, and ends the stream.
 func plainSend(c *noise.Conn, from io.Reader) error {
-	_, err := io.CopyBuffer(struct{ io.Writer }{c}, struct{ io.Reader }{from}, make([]byte, noise.MaxMessage-noise.TagLen))
+	room := make([]byte, noise.MaxMessage-noise.TagLen)
+	_, err := io.CopyBuffer(struct{ io.Writer }{c}, struct{ io.Reader }{from}, room)
 	if err == nil {
 		err = c.CloseWrite()
 	}
@@ -161,7 +163,8 @@ func plainReceive(c *noise.Conn, target *local) error {
 
 var errNotParted = errors.New("the other party may not have got all")
 
-// part ends the connection to a program that isn't noisecat, and waits until the other party does: after a fault that party resets it.
+// part ends the connection to a program that isn't noisecat, and waits until the other party does: after a
+// fault that party resets it.
 func part(below *counted) error {
 	err := below.CloseWrite()
 	if err == nil {

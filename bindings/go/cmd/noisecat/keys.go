@@ -86,14 +86,21 @@ func (o *options) warn() {
 	for _, name := range append(strings.Split(o.psk, ","), o.key) {
 		info, err := os.Stat(name)
 		if err == nil && runtime.GOOS != "windows" && info.Mode().IsRegular() && info.Mode().Perm()&0o077 != 0 {
-			fmt.Fprintf(os.Stderr, "noisecat: warning: others can read %s (mode %04o): chmod 600 %s\n", name, info.Mode().Perm(), name)
+			fmt.Fprintf(os.Stderr, "noisecat: warning: others can read %s (mode %04o): chmod 600 %s\n",
+				name, info.Mode().Perm(), name)
 		}
 	}
 }
 
 func (o *options) config() (*noise.Config, error) {
-	c := &noise.Config{Pattern: o.pattern, Prologue: []byte(o.prologue), Interval: o.interval, InsecureAcceptAnyKey: o.any, HandshakeTimeout: o.timeout,
-		PayloadFor: announce}
+	c := &noise.Config{
+		Pattern:              o.pattern,
+		Prologue:             []byte(o.prologue),
+		Interval:             o.interval,
+		InsecureAcceptAnyKey: o.any,
+		HandshakeTimeout:     o.timeout,
+		PayloadFor:           announce,
+	}
 	if strings.HasPrefix(o.pattern, "@") {
 		text, err := os.ReadFile(o.pattern[1:])
 		if err != nil {

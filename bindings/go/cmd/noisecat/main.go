@@ -1,19 +1,23 @@
-// Noisecat joins standard input and output to a secure channel by the Noise Protocol Framework, as nc does to a plain one.
+// Noisecat joins standard input and output to a secure channel by the Noise Protocol Framework,
+// as nc does to a plain one.
 //
 //	noisecat keygen -o server.key             makes a file with a new key, and prints the public key
 //	noisecat pubkey < server.key              prints the public key
 //	noisecat -listen :9000 -key server.key -allow KEY,..
 //	noisecat -connect host:9000 -key client.key -peer KEY
 //
-// A listener accepts the first connection whose handshake succeeds, and tells the failures on standard error; with -keep it accepts one
-// after another, and sends each the file that standard input is. Of a terminal, or /dev/null, it sends nothing then, and a pipe, of which
-// only one could get what comes, is refused. With port 0 it listens at a free port, and prints the address on standard error.
+// A listener accepts the first connection whose handshake succeeds, and tells the failures on standard error; with
+// -keep it accepts one after another, and sends each the file that standard input is. Of a terminal, or /dev/null, it
+// sends nothing then, and a pipe, of which only one could get what comes, is refused. With port 0 it listens at a free
+// port, and prints the address on standard error.
 //
-// -forward HOST:PORT joins each channel to a TCP connection of its own, and -exec COMMAND to a process of its own; with -keep all of them at once.
+// -forward HOST:PORT joins each channel to a TCP connection of its own, and -exec COMMAND to a process of its own; with
+// -keep all of them at once.
 //
-// The status is 0 if both parties have sent all and, where both are noisecat, each has said over the channel that it has written out all; 1 after a fault, and
-// 2 if the words of the command are wrong, each with a sentence on standard error. Where the other party is another program, the status 0 says that its
-// stream has ended. After a fault of one party, as a full disk at its output, the connection is reset, and the other party's status is 1 too.
+// The status is 0 if both parties have sent all and, where both are noisecat, each has said over the channel that it
+// has written out all; 1 after a fault, and 2 if the words of the command are wrong, each with a sentence on standard
+// error. Where the other party is another program, the status 0 says that its stream has ended. After a fault of one
+// party, as a full disk at its output, the connection is reset, and the other party's status is 1 too.
 package main
 
 import (
@@ -107,19 +111,29 @@ func (o *options) flags() *flag.FlagSet {
 	flags.StringVar(&o.listen, "listen", "", "listen at this `address`, as :9000")
 	flags.StringVar(&o.connect, "connect", "", "connect to this `address`, as host:9000")
 	flags.StringVar(&o.key, "key", "", "the `file` of this party's key, which keygen makes")
-	flags.StringVar(&o.allow, "allow", "", "accept the other party if it has one of these public `keys` (hex, joined by commas)")
+	flags.StringVar(&o.allow, "allow", "",
+		"accept the other party if it has one of these public `keys` (hex, joined by commas)")
 	flags.StringVar(&o.peer, "peer", "", "the public `key` of the other party (hex)")
 	flags.BoolVar(&o.any, "insecure-any", false, "talk to anybody")
-	flags.StringVar(&o.pattern, "pattern", "XX", "the pattern, as IK or XXpsk3, the whole protocol `name`, or @FILE with a pattern text")
-	flags.StringVar(&o.psk, "psk", "", "the `files` of the psks, 64 hex digits each, one for each psk token, joined by commas")
+	flags.StringVar(&o.pattern, "pattern", "XX",
+		"the pattern, as IK or XXpsk3, the whole protocol `name`, or @FILE with a pattern text")
+	flags.StringVar(&o.psk, "psk", "",
+		"the `files` of the psks, 64 hex digits each, one for each psk token, joined by commas")
 	flags.StringVar(&o.prologue, "prologue", "", "the `text` that both parties have agreed on")
-	flags.Uint64Var(&o.interval, "interval", 0, "rekey after this `number` of messages, the same at both parties; 0: never")
+	flags.Uint64Var(&o.interval, "interval", 0,
+		"rekey after this `number` of messages, the same at both parties; 0: never")
 	flags.DurationVar(&o.timeout, "timeout", 30*time.Second, "the `time` that connecting and a handshake may take")
-	flags.BoolVar(&o.keep, "keep", false, "with -listen: accept one connection after another, and send each the file that standard input is")
-	flags.StringVar(&o.forward, "forward", "", "join each channel to a TCP connection to this `address`, in place of standard input and output")
-	flags.StringVar(&o.exec, "exec", "", "join each channel to the standard input and output of this `command` of the shell")
-	flags.DurationVar(&o.idle, "idle", 0, "end a channel over which nothing has come or gone for this `time`; 0: never, and with -keep on standard output 1m0s")
-	flags.BoolVar(&o.verbose, "v", false, "show how many bytes go over the connection, and the handshake hash, on standard error")
+	flags.BoolVar(&o.keep, "keep", false,
+		"with -listen: accept one connection after another, and send each the file that standard input is")
+	flags.StringVar(&o.forward, "forward", "",
+		"join each channel to a TCP connection to this `address`, in place of standard input and output")
+	flags.StringVar(&o.exec, "exec", "",
+		"join each channel to the standard input and output of this `command` of the shell")
+	flags.DurationVar(&o.idle, "idle", 0,
+		"end a channel over which nothing has come or gone for this `time`; "+
+			"0: never, and with -keep on standard output 1m0s")
+	flags.BoolVar(&o.verbose, "v", false,
+		"show how many bytes go over the connection, and the handshake hash, on standard error")
 	flags.BoolVar(&o.version, "version", false, "print the version")
 	return flags
 }
@@ -150,7 +164,14 @@ func parse(flags *flag.FlagSet, words []string) error {
 }
 
 // flagOf are the flags for the fields of a Config.
-var flagOf = map[string]string{"Pattern": "-pattern", "Prologue": "-prologue", "Static": "-key", "PeerStatic": "-peer", "VerifyPeer": "-allow", "PSKs": "-psk"}
+var flagOf = map[string]string{
+	"Pattern":    "-pattern",
+	"Prologue":   "-prologue",
+	"Static":     "-key",
+	"PeerStatic": "-peer",
+	"VerifyPeer": "-allow",
+	"PSKs":       "-psk",
+}
 
 // sentence returns what an operator has to know about an error.
 func sentence(err error) string {
@@ -159,7 +180,8 @@ func sentence(err error) string {
 	var output *outputError
 	switch {
 	case errors.Is(err, noise.ErrUnauthenticated):
-		return "nothing says who may be the other party: name it by -peer, -allow or -psk, or take anybody by -insecure-any"
+		return "nothing says who may be the other party: name it by -peer, -allow or -psk, " +
+			"or take anybody by -insecure-any"
 	case errors.As(err, &config):
 		return flagOf[config.Field] + ": " + withoutName(config.Err)
 	case errors.As(err, &handshake) || errors.As(err, &output):

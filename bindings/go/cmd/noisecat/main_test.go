@@ -58,7 +58,8 @@ func keyFile(t *testing.T, name string, cat func(...string) *exec.Cmd) string {
 	return strings.TrimSpace(string(public))
 }
 
-// side is one process: its standard input, where its output goes, what it has written to standard error, and its status.
+// side is one process: its standard input, where its output goes, what it has written to
+// standard error, and its status.
 type side struct {
 	in     io.Reader
 	out    io.Writer
@@ -90,7 +91,8 @@ func listen(t *testing.T, server *exec.Cmd, end *side) *listener {
 	t.Cleanup(func() { server.Process.Kill() })
 	lines := bufio.NewReader(said)
 	line, _ := lines.ReadString('\n')
-	l := &listener{server, strings.TrimSpace(strings.TrimPrefix(line, "listening on ")), end, make(chan string, 1000), make(chan struct{})}
+	address := strings.TrimSpace(strings.TrimPrefix(line, "listening on "))
+	l := &listener{server, address, end, make(chan string, 1000), make(chan struct{})}
 	go func() {
 		defer close(l.gone)
 		for {
@@ -142,8 +144,13 @@ func run2(t *testing.T, server *exec.Cmd, connect func(address string) *exec.Cmd
 	l.wait()
 }
 
-// pair returns the command, the public keys of the files s and c in its folder, and a client that expects this key of the server.
-func pair(t *testing.T) (cat func(...string) *exec.Cmd, server, client string, to func(peer string) func(string) *exec.Cmd) {
+// pair returns the command, the public keys of the files s and c in its folder, and a client that
+// expects this key of the server.
+func pair(t *testing.T) (
+	cat func(...string) *exec.Cmd,
+	server, client string,
+	to func(peer string) func(string) *exec.Cmd,
+) {
 	t.Helper()
 	_, cat = built(t)
 	server, client = keyFile(t, "s", cat), keyFile(t, "c", cat)
@@ -188,14 +195,16 @@ func TestFile(t *testing.T) {
 		}
 	}
 	took := time.Since(start)
-	t.Logf("%d MB each way at once in %.1f s: %.0f MB/s", count>>20, took.Seconds(), float64(2*count>>20)/took.Seconds())
+	t.Logf("%d MB each way at once in %.1f s: %.0f MB/s",
+		count>>20, took.Seconds(), float64(2*count>>20)/took.Seconds())
 }
 
 // refused looks for status 1, and a sentence with these words.
 func refused(t *testing.T, end *side, words string) {
 	t.Helper()
 	said := end.said.String()
-	if end.status != 1 || !strings.HasPrefix(said, "noisecat: ") || !strings.Contains(said, words) || strings.Count(said, "\n") != 1 {
+	if end.status != 1 || !strings.HasPrefix(said, "noisecat: ") || !strings.Contains(said, words) ||
+		strings.Count(said, "\n") != 1 {
 		t.Errorf("status %d, without the words %q: %s", end.status, words, said)
 	}
 }
@@ -204,7 +213,8 @@ func TestVerbose(t *testing.T) {
 	cat, server, client, to := pair(t)
 	var ends [2]side
 	run2(t, cat("-key", "s", "-allow", client, "-v"), to(server), &ends)
-	if said := ends[0].said.String(); !strings.Contains(said, "handshake hash: ") || !strings.Contains(said, "peer's key: "+client) {
+	if said := ends[0].said.String(); !strings.Contains(said, "handshake hash: ") ||
+		!strings.Contains(said, "peer's key: "+client) {
 		t.Error("-v doesn't show the hash and the key")
 	}
 	if lines := regexp.MustCompile(`(?m)^(->|<-).*$`).FindAllString(ends[0].said.String(), -1); len(lines) < 4 {
@@ -214,7 +224,8 @@ func TestVerbose(t *testing.T) {
 	}
 }
 
-// TestListenerGoesOn has clients that are refused, refuse, differ, are silent and send what is no handshake, and then one that is accepted.
+// TestListenerGoesOn has clients that are refused, refuse, differ, are silent and send what is no handshake, and
+// then one that is accepted.
 func TestListenerGoesOn(t *testing.T) {
 	cat, server, own, to := pair(t)
 	other := keyFile(t, "other", cat)
@@ -238,9 +249,22 @@ func TestListenerGoesOn(t *testing.T) {
 	l.says(t, noisy.LocalAddr().String()+": message 1: the message would be too long")
 	for _, it := range []struct{ key, peer, more, client, server string }{
 		{"other", server, "", "", "message 3, token s: the other party's key isn't allowed: " + other},
-		{"c", own, "", "message 2, token s: the other party has another static key", "message 3: the connection was cut"},
-		{"c", server, "-prologue=other", "message 2, token s: a tag is wrong: the message was changed, or the parties differ in the pattern or the prologue", "message 3: "},
-		{"c", server, "-pattern=IK", "message 2, payload: a tag is wrong: the message was changed, or the parties differ in the pattern", "message 3: "},
+		{
+			"c", own, "",
+			"message 2, token s: the other party has another static key",
+			"message 3: the connection was cut",
+		},
+		{
+			"c", server, "-prologue=other",
+			"message 2, token s: a tag is wrong: " +
+				"the message was changed, or the parties differ in the pattern or the prologue",
+			"message 3: ",
+		},
+		{
+			"c", server, "-pattern=IK",
+			"message 2, payload: a tag is wrong: the message was changed, or the parties differ in the pattern",
+			"message 3: ",
+		},
 	} {
 		var refusing side
 		words := []string{"-connect", l.address, "-key", it.key, "-peer", it.peer}
@@ -296,7 +320,8 @@ func fileFrom(t *testing.T, text string, first int) *os.File {
 	return file
 }
 
-// TestKeep has one client after another, of which one is cut off: each other gets the file from where it was, and of no file nothing.
+// TestKeep has one client after another, of which one is cut off: each other gets the file from where it
+// was, and of no file nothing.
 func TestKeep(t *testing.T) {
 	t.Run("file", func(t *testing.T) { testKeep(t, fileFrom(t, "head\nto each\n", 5), "to each\n") })
 	t.Run("none", func(t *testing.T) { testKeep(t, nil, "") })
@@ -321,7 +346,8 @@ func testKeep(t *testing.T, in io.Reader, want string) {
 		end.in, end.out = strings.NewReader(text), &came
 		client(to(server)(l.address), &end)
 		if got, _ := out.ReadString('\n'); got != text || end.status != 0 || came.String() != want {
-			t.Errorf("%q in the place of %q, back %q, status %d: %s", got, text, came.String(), end.status, end.said.String())
+			t.Errorf("%q in the place of %q, back %q, status %d: %s",
+				got, text, came.String(), end.status, end.said.String())
 		}
 		if text == "two\n" {
 			cut(t, to(server)(l.address))
@@ -341,7 +367,8 @@ func TestKeepOnce(t *testing.T) {
 	for _, in := range []io.Reader{strings.NewReader("once"), folder} {
 		end := side{in: in}
 		client(cat("-listen", "127.0.0.1:0", "-key", "s", "-allow", own, "-keep"), &end)
-		want := "noisecat: -keep: standard input can be sent to one connection alone: redirect it from a file, or from /dev/null\n"
+		want := "noisecat: -keep: standard input can be sent to one connection alone: " +
+			"redirect it from a file, or from /dev/null\n"
 		if end.status != 2 || end.said.String() != want {
 			t.Errorf("status %d: %s", end.status, end.said.String())
 		}
@@ -415,7 +442,8 @@ func TestPSKs(t *testing.T) {
 	to := func(psk string) *exec.Cmd { return cat("-connect", l.address, "-pattern", "NNpsk2", "-psk", psk) }
 	var refusing side
 	client(to("other"), &refusing)
-	refused(t, &refusing, "message 2, payload: a tag is wrong: the message was changed, or the parties differ in the pattern, the prologue or a psk")
+	refused(t, &refusing, "message 2, payload: a tag is wrong: "+
+		"the message was changed, or the parties differ in the pattern, the prologue or a psk")
 	l.says(t, "the connection was cut")
 	l.wait() // its handshake has ended well: it wrote the last message
 	if ends[0].status != 1 || came.Len() != 0 {
@@ -437,34 +465,37 @@ func TestOptions(t *testing.T) {
 		t.Fatal(err)
 	}
 	for words, args := range map[string]string{
-		"2 -peer: a key has 64 hexadecimal digits":                    "-connect 127.0.0.1:1 -key k -peer 12",
-		"2 -allow: a key has 64 hexadecimal digits":                   "-listen 127.0.0.1:0 -key k -allow k",
-		"1 a key has 64 hexadecimal digits: short":                    "-connect 127.0.0.1:1 -pattern NNpsk0 -psk short",
-		"1 a key has 64 hexadecimal digits:  short":                   "-connect 127.0.0.1:1 -key short -insecure-any",
-		"1 open none: no such file":                                   "-listen 127.0.0.1:0 -pattern NNpsk0 -psk none",
-		"2 -psk: the number of psks isn't":                            "-listen 127.0.0.1:0 -pattern NNpsk0 -psk k,k",
-		"2 -psk: the number of psks isn't the number of psk tokens":   "-listen 127.0.0.1:0 -pattern NNpsk0 -insecure-any",
+		"2 -peer: a key has 64 hexadecimal digits":  "-connect 127.0.0.1:1 -key k -peer 12",
+		"2 -allow: a key has 64 hexadecimal digits": "-listen 127.0.0.1:0 -key k -allow k",
+		"1 a key has 64 hexadecimal digits: short":  "-connect 127.0.0.1:1 -pattern NNpsk0 -psk short",
+		"1 a key has 64 hexadecimal digits:  short": "-connect 127.0.0.1:1 -key short -insecure-any",
+		"1 open none: no such file":                 "-listen 127.0.0.1:0 -pattern NNpsk0 -psk none",
+		"2 -psk: the number of psks isn't":          "-listen 127.0.0.1:0 -pattern NNpsk0 -psk k,k",
+		"2 -psk: the number of psks isn't the number of psk tokens": "-listen 127.0.0.1:0 " +
+			"-pattern NNpsk0 -insecure-any",
 		"2 -key: the pattern needs a static key of this party":        "-listen 127.0.0.1:0 -insecure-any",
 		"2 -peer: the pattern needs the other party's":                "-connect 127.0.0.1:1 -pattern NK -insecure-any",
 		"2 nothing says who may be the other party: name it by -peer": "-listen 127.0.0.1:0 -key k",
-		"2 -pattern: not the name":                                    "-listen 127.0.0.1:0 -key k -pattern XXpsk7 -insecure-any",
-		"2 flag provided but not defined: -what":                      "-listen 127.0.0.1:0 -what",
-		"2 invalid value":                                             "-listen 127.0.0.1:0 -interval x",
-		"2 one word too many: word":                                   "-listen 127.0.0.1:0 -key k -insecure-any word",
-		"2 name either -listen or -connect":                           "-key k",
-		"2 name either -listen or -connect: noisecat -h":              "-listen 127.0.0.1:0 -connect 127.0.0.1:1",
-		"2 -keep is for -listen":                                      "-connect 127.0.0.1:1 -keep -insecure-any",
-		"2 one word too many: now":                                    "keygen now",
-		"2 one word too many:  now":                                   "pubkey now",
-		"2 flag provided but not defined: -x":                         "keygen -x",
-		"1 standard input: a key has 64 hexadecimal digits":           "pubkey",
-		"1 open k: file exists":                                       "keygen -o k",
+		"2 -pattern: not the name": "-listen 127.0.0.1:0 " +
+			"-key k -pattern XXpsk7 -insecure-any",
+		"2 flag provided but not defined: -what":            "-listen 127.0.0.1:0 -what",
+		"2 invalid value":                                   "-listen 127.0.0.1:0 -interval x",
+		"2 one word too many: word":                         "-listen 127.0.0.1:0 -key k -insecure-any word",
+		"2 name either -listen or -connect":                 "-key k",
+		"2 name either -listen or -connect: noisecat -h":    "-listen 127.0.0.1:0 -connect 127.0.0.1:1",
+		"2 -keep is for -listen":                            "-connect 127.0.0.1:1 -keep -insecure-any",
+		"2 one word too many: now":                          "keygen now",
+		"2 one word too many:  now":                         "pubkey now",
+		"2 flag provided but not defined: -x":               "keygen -x",
+		"1 standard input: a key has 64 hexadecimal digits": "pubkey",
+		"1 open k: file exists":                             "keygen -o k",
 	} {
 		words, want := strings.ReplaceAll(words[2:], ":  ", ": "), int(words[0]-'0')
 		var end side
 		client(cat(strings.Fields(args)...), &end)
 		said := end.said.String()
-		if end.status != want || !strings.HasPrefix(said, "noisecat: ") || !strings.Contains(said, words) || strings.Count(said, "\n") != 1 {
+		if end.status != want || !strings.HasPrefix(said, "noisecat: ") || !strings.Contains(said, words) ||
+			strings.Count(said, "\n") != 1 {
 			t.Errorf("%s: status %d, want %d and %q: %s", args, end.status, want, words, said)
 		}
 	}
@@ -495,9 +526,10 @@ func TestKeys(t *testing.T) {
 	if got, err := cmd.Output(); err != nil || string(got) != public+"\n" {
 		t.Errorf("%q, %v, want %s", got, err, public)
 	}
-	for digits, want := range map[string]string{ // the second is Alice's of RFC 7748, 6.1
-		"77076d0a7318a57d 3c16c17251b26645df4c2f87ebc0992ab177fba51db92c2a":  "",
-		"77076d0a7318a57d3c16c17251b26645df4c2f87ebc0992ab177fba51db92c2a\n": "8520f0098930a754748b7ddcb43ef75a0dbf3a0d26381af4eba4a98eaa9b4e6a\n",
+	secret := "77076d0a7318a57d3c16c17251b26645df4c2f87ebc0992ab177fba51db92c2a" // Alice's of RFC 7748, 6.1
+	for digits, want := range map[string]string{
+		secret[:16] + " " + secret[16:]: "",
+		secret + "\n":                   "8520f0098930a754748b7ddcb43ef75a0dbf3a0d26381af4eba4a98eaa9b4e6a\n",
 	} {
 		cmd = cat("pubkey")
 		cmd.Stdin = strings.NewReader(digits)
@@ -507,12 +539,14 @@ func TestKeys(t *testing.T) {
 	}
 	for _, words := range []string{"keygen -h", "keygen -help", "-h", "-version"} {
 		got, err := cat(strings.Fields(words)...).Output()
-		if err != nil || words == "-version" != (string(got) == "noisecat 1.0.0\n") || words != "-version" && !strings.HasPrefix(string(got), "usage: noisecat") {
+		if err != nil || words == "-version" != (string(got) == "noisecat 1.0.0\n") ||
+			words != "-version" && !strings.HasPrefix(string(got), "usage: noisecat") {
 			t.Errorf("%s: %v, %q", words, err, got)
 		}
 	}
 	got, _ := cat("-h").Output()
-	for _, word := range strings.Fields("keygen pubkey -o -listen -connect -key -allow -peer -psk -pattern -prologue -interval -insecure-any -keep -timeout -v -version") {
+	for _, word := range strings.Fields("keygen pubkey -o -listen -connect -key -allow -peer -psk -pattern " +
+		"-prologue -interval -insecure-any -keep -timeout -v -version") {
 		if !bytes.Contains(got, []byte(word)) {
 			t.Errorf("the usage lacks %s", word)
 		}
@@ -532,21 +566,29 @@ func TestKeyThatOthersCanRead(t *testing.T) {
 		}
 	}
 	run2(t, cat("-key", "s", "-allow", own), to(server), &ends)
-	for i, want := range []string{"warning: others can read s (mode 0640): chmod 600 s\n", "warning: others can read c (mode 0604): chmod 600 c\n"} {
+	for i, want := range []string{
+		"warning: others can read s (mode 0640): chmod 600 s\n",
+		"warning: others can read c (mode 0604): chmod 600 c\n",
+	} {
 		if said := ends[i].said.String(); !strings.Contains(said, want) {
 			t.Errorf("%q, want %q", said, want)
 		}
 	}
 }
 
-// TestFaults changes and cuts what a client sends to a server, which has sent the end of its own stream or not, and looks at both statuses.
+// TestFaults changes and cuts what a client sends to a server, which has sent the end of its own stream or not,
+// and looks at both statuses.
 func TestFaults(t *testing.T) {
 	cat, server, client, to := pair(t)
 	for _, it := range []struct {
 		words  string
 		change func(io.Writer, io.Reader)
-	}{{"was changed", flip}, {"cut before the other party had sent all", cutWithin}, {"cut before the other party had sent all", cutBetween},
-		{"cut before the other party had sent all", cutAtEnd}} {
+	}{
+		{"was changed", flip},
+		{"cut before the other party had sent all", cutWithin},
+		{"cut before the other party had sent all", cutBetween},
+		{"cut before the other party had sent all", cutAtEnd},
+	} {
 		for _, isOpen := range []bool{false, true} {
 			middle, err := net.Listen("tcp", "127.0.0.1:0")
 			if err != nil {
@@ -602,7 +644,11 @@ func TestOwnFaults(t *testing.T) {
 	for _, it := range []struct {
 		side  side
 		words string
-	}{{side{out: full}, "no space left on device"}, {side{out: unread}, "stdout: broken pipe"}, {side{in: folder}, "is a directory"}} {
+	}{
+		{side{out: full}, "no space left on device"},
+		{side{out: unread}, "stdout: broken pipe"},
+		{side{in: folder}, "is a directory"},
+	} {
 		for end := 0; end < 2; end++ {
 			var ends [2]side
 			ends[end].in, ends[end].out = it.side.in, it.side.out
@@ -642,7 +688,8 @@ func passFrames(to io.Writer, from io.Reader, count int) {
 	}
 }
 
-// pass accepts one connection, and carries what it reads to the server, changed, and back what the server writes. A reset goes through.
+// pass accepts one connection, and carries what it reads to the server, changed, and back what the server
+// writes. A reset goes through.
 func pass(middle net.Listener, at string, change func(io.Writer, io.Reader)) {
 	from, err := middle.Accept()
 	if err != nil {

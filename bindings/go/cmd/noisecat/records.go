@@ -10,8 +10,8 @@ import (
 	"example.org/yulimosar/noise"
 )
 
-// Two parties that are both noisecat say so in their payloads of the handshake. Then what they send has records: a length in two bytes, the higher first, and
-// so many bytes of the text; or two bytes 0 and one of the signs below.
+// Two parties that are both noisecat say so in their payloads of the handshake. Then what they send has records: a
+// length in two bytes, the higher first, and so many bytes of the text; or two bytes 0 and one of the signs below.
 const announced = "noisecat 1"
 
 const (
@@ -28,7 +28,8 @@ var (
 
 func announce(context.Context, noise.Peer) ([]byte, error) { return []byte(announced), nil }
 
-// isNoisecat reports whether the other party has said that it has records. In a one-way pattern, which has one message, nobody can answer.
+// isNoisecat reports whether the other party has said that it has records. In a one-way pattern, which has one
+// message, nobody can answer.
 func isNoisecat(c *noise.Conn) bool {
 	payloads := c.ConnectionState().Payloads
 	for _, payload := range payloads {
@@ -77,7 +78,8 @@ func (r *records) sign(which byte) error {
 	return err
 }
 
-// receive writes out the text that comes, calls done at its end, and says that all is written out. It returns once the other party has said that too.
+// receive writes out the text that comes, calls done at its end, and says that all is written out. It returns once the
+// other party has said that too.
 func (r *records) receive(out io.Writer, done func() error) error {
 	head, isComplete, room := make([]byte, 3), false, make([]byte, recordMost)
 	for isWritten := false; !isComplete || !isWritten; {

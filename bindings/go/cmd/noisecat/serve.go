@@ -10,7 +10,8 @@ import (
 	"example.org/yulimosar/noise"
 )
 
-// atOnce is how many handshakes run at once. One more ends the oldest: of those from which nothing has come, if there is one.
+// atOnce is how many handshakes run at once. One more ends the oldest: of those from which nothing
+// has come, if there is one.
 const atOnce = 64
 
 // coming is a connection whose handshake runs.
@@ -27,8 +28,8 @@ type met struct {
 	err   error // of the listener
 }
 
-// serve carries the first connection whose handshake succeeds; with -keep one after another, or all at once if each has a target of its own, and it returns at
-// an error of the listener.
+// serve carries the first connection whose handshake succeeds; with -keep one after another, or all at once if each has
+// a target of its own, and it returns at an error of the listener.
 func (o *options) serve(l net.Listener, config *noise.Config) error {
 	ctx, stop := context.WithCancel(context.Background())
 	defer stop()

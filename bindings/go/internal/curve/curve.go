@@ -1,6 +1,7 @@
 //go:build !go1.20
 
-// Package curve has X25519 for Go 1.19, whose standard library has it in crypto/tls alone. Go 1.20 has crypto/ecdh, and doesn't compile this file.
+// Package curve has X25519 for Go 1.19, whose standard library has it in crypto/tls alone. Go 1.20 has crypto/ecdh, and
+// doesn't compile this file.
 package curve
 
 import (

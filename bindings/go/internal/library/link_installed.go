@@ -2,7 +2,8 @@
 
 package library
 
-// The flags of pkg-config come last. With these before them the static library is linked, and the shared one, which isn't needed then, isn't.
+// The flags of pkg-config come last. With these before them the static library is linked, and the shared one, which
+// isn't needed then, isn't.
 
 // #cgo pkg-config: noise_c
 // #cgo linux LDFLAGS: -Wl,--as-needed -l:libnoise_c.a

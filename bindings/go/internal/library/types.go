@@ -1,5 +1,6 @@
-// Package library is the proved library noise_c, of include/noise.h: its calls, and its structs with the layout that C gives them. On amd64 its code is here
-// in Go's assembler, and no C compiler is needed. Elsewhere, and with the build tag noise_installed, the calls are made by cgo.
+// Package library is the proved library noise_c, of include/noise.h: its calls, and its structs with the layout that C
+// gives them. On amd64 its code is here in Go's assembler, and no C compiler is needed. Elsewhere, and with the build
+// tag noise_installed, the calls are made by cgo.
 //
 // A call keeps no pointer. A pointer that has a count may lead anywhere if the count is 0, but mustn't be nil.
 package library

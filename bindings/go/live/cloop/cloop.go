@@ -13,7 +13,8 @@ package cloop
 //     static const uint8_t answer[32] = {1};
 //     noise_result result;
 //     for (;;) {
-//         uint32_t code = writes ? noise_write(h, payload, 0, message, sizeof message, &result) : noise_read(h, message, *len, &result);
+//         uint32_t code = writes ? noise_write(h, payload, 0, message, sizeof message, &result)
+//             : noise_read(h, message, *len, &result);
 //         if (code == NOISE_OK && writes) *len = result.len;
 //         if (code != NOISE_WANTED) return code;
 //         noise_answer(h, result.of_static, result.remote, answer);

@@ -33,7 +33,8 @@ pub async fn run(run: Run) -> io::Result<Report> {
     Ok(Report { wrote, has_ended, read, end })
 }
 
-// Writes, and returns how many bytes, with those of a write that has failed after a part of them was sent; and whether none has.
+// Writes, and returns how many bytes, with those of a write that has failed after a part of them was
+// sent; and whether none has.
 async fn write(writes: &mut (impl AsyncWrite + Unpin), bytes: &[u8]) -> (usize, bool) {
     let mut wrote = 0;
     for part in bytes.chunks(10_000) {

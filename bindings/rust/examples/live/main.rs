@@ -1,6 +1,8 @@
-// One party over TCP, for tests/live/run.py: live PATTERN OWN_SECRET PEER_KEY PSK ADDRESS ORDER SIZE [async|websocket]. It connects as the initiator; where ADDRESS
-// begins with '@' it listens there, as the responder, and prints the address. Both parties send SIZE bytes at once. ORDER is "first": it ends its stream after
-// its last byte; or "last": only once the other's has ended. PSK is '-' if there is none. The last line is "wrote COUNT ended|open, read COUNT end|cut|refused|lost".
+// One party over TCP, for tests/live/run.py: live PATTERN OWN_SECRET PEER_KEY PSK ADDRESS ORDER SIZE
+// [async|websocket]. It connects as the initiator; where ADDRESS begins with '@' it listens there, as the responder,
+// and prints the address. Both parties send SIZE bytes at once. ORDER is "first": it ends its stream after its last
+// byte; or "last": only once the other's has ended. PSK is '-' if there is none. The last line is "wrote COUNT
+// ended|open, read COUNT end|cut|refused|lost".
 mod asynchronous;
 mod blocking;
 mod websocket;

@@ -1,4 +1,5 @@
-// A WebSocket (RFC 6455) for the messages of a channel: binary ones of at most 65535 bytes. It has no extensions, and answers no ping.
+// A WebSocket (RFC 6455) for the messages of a channel: binary ones of at most 65535 bytes. It has no
+// extensions, and answers no ping.
 use openssl::base64::encode_block;
 use openssl::rand::rand_bytes;
 use openssl::sha::sha1;
@@ -26,7 +27,8 @@ impl WebSocket {
         let mut bytes = [0; 16];
         rand_bytes(&mut bytes)?;
         let key = encode_block(&bytes);
-        let asked = "GET / HTTP/1.1\r\nHost: localhost\r\nUpgrade: websocket\r\nConnection: Upgrade\r\nSec-WebSocket-Version: 13";
+        let asked = "GET / HTTP/1.1\r\nHost: localhost\r\nUpgrade: websocket\r\nConnection: Upgrade\r\n\
+                     Sec-WebSocket-Version: 13";
         below.write_all(format!("{asked}\r\nSec-WebSocket-Key: {key}\r\n\r\n").as_bytes())?;
         let head = head(&mut below)?;
         if !head.starts_with("HTTP/1.1 101 ") || field(&head, "sec-websocket-accept") != Some(&accepted(&key)) {

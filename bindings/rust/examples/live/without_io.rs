@@ -1,4 +1,5 @@
-// A channel over a WebSocket, by the types without IO: each message of the channel is one of the WebSocket, without its length.
+// A channel over a WebSocket, by the types without IO: each message of the channel is one of the
+// WebSocket, without its length.
 use super::websocket::WebSocket;
 use super::{bytes_of, Report, Run};
 use std::io;
@@ -81,7 +82,8 @@ fn flush(sender: &mut StreamSender, socket: &mut WebSocket) -> io::Result<()> {
     Ok(())
 }
 
-// Writes, and returns how many bytes, with those of a write that has failed after a part of them was sent; and whether none has.
+// Writes, and returns how many bytes, with those of a write that has failed after a part of them was
+// sent; and whether none has.
 fn write(sender: &mut StreamSender, socket: &mut WebSocket, bytes: &[u8]) -> (usize, bool) {
     let mut wrote = 0;
     for part in bytes.chunks(10_000) {

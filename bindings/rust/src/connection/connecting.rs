@@ -7,10 +7,12 @@ use core::fmt;
 
 const LENGTH: usize = MAX_FRAME - MAX_MESSAGE; // the bytes of a frame before its message
 
-/// A handshake without a transport, which becomes a [`Connection`]. Each message comes after its length in two bytes, the higher first (Noise, 13), and has
-/// an empty payload. `step` says what to do, until it says [`Step::Done`]; [`Connection`] has an example.
+/// A handshake without a transport, which becomes a [`Connection`]. Each message comes after its length in two bytes,
+/// the higher first (Noise, 13), and has an empty payload. `step` says what to do, until it says [`Step::Done`];
+/// [`Connection`] has an example.
 ///
-/// After an error the handshake has failed: each later `step` returns the same error, and there is nothing more to send.
+/// After an error the handshake has failed: each later `step` returns the same error, and there
+/// is nothing more to send.
 pub struct Connecting<S: Dh, E: Ephemeral> {
     handshake: Handshake<S, E>,
     incoming: Incoming,
@@ -30,10 +32,11 @@ pub enum Step<'c> {
     Send(&'c [u8]),
     /// More bytes are needed, of which `receive` accepts at most so many; or `closed` says that none comes.
     Receive(usize),
-    /// The other party's static key is known. If it is one that you accept call `accept`; else drop the handshake, and close the connection.
+    /// The other party's static key is known. If it is one that you accept call `accept`; else drop the handshake,
+    /// and close the connection.
     Verify([u8; 32]),
-    /// A psk token needs its secret: the one that you share with the owner of this static key. Pass it to `set_psk`; or drop the handshake, and close the
-    /// connection. The other party hasn't shown yet that it has the secret key.
+    /// A psk token needs its secret: the one that you share with the owner of this static key. Pass it to `set_psk`; or
+    /// drop the handshake, and close the connection. The other party hasn't shown yet that it has the secret key.
     WantedPsk([u8; 32]),
     /// All messages have passed: call `finish`.
     Done,
@@ -48,19 +51,21 @@ pub(crate) enum Peer {
 }
 
 impl<S: Dh, E: Ephemeral> Connecting<S, E> {
-    /// A handshake in which you verify the other party's static key: [`Step::Verify`] comes as soon as it is known. A pattern without such a key, as NN, is
-    /// refused: see `anonymous`.
+    /// A handshake in which you verify the other party's static key: [`Step::Verify`] comes as soon as it is known. A
+    /// pattern without such a key, as NN, is refused: see `anonymous`.
     pub fn new(handshake: Handshake<S, E>) -> Result<Self, Error> {
         Connecting::with(handshake, Peer::Verified)
     }
 
-    /// A handshake in which the other party has no static key, or one that you don't compare: with a secret that both have (psk), or with anybody.
+    /// A handshake in which the other party has no static key, or one that you don't compare: with a secret that both
+    /// have (psk), or with anybody.
     pub fn anonymous(handshake: Handshake<S, E>) -> Result<Self, Error> {
         Connecting::with(handshake, Peer::Anybody)
     }
 
-    /// A handshake of [`Builder::late_psks`](crate::Builder::late_psks): [`Step::WantedPsk`] comes at each psk token that lacks its secret. A pattern that
-    /// doesn't give the other party's key before the token is refused with `WantedPsk`.
+    /// A handshake of [`Builder::late_psks`](crate::Builder::late_psks): [`Step::WantedPsk`] comes at each psk
+    /// token that lacks its secret. A pattern that doesn't give the other party's key before the token is
+    /// refused with `WantedPsk`.
     pub fn with_late_psks(handshake: Handshake<S, E>) -> Result<Self, Error> {
         Connecting::with(handshake, Peer::Chosen)
     }
@@ -157,8 +162,8 @@ impl<S: Dh, E: Ephemeral> Connecting<S, E> {
         Ok(())
     }
 
-    /// Receives bytes that came, in their order, and returns how many: at most as many as the last [`Step::Receive`] says, so none before it. Ask `step` again
-    /// before you pass the others.
+    /// Receives bytes that came, in their order, and returns how many: at most as many as the last [`Step::Receive`]
+    /// says, so none before it. Ask `step` again before you pass the others.
     pub fn receive(&mut self, bytes: &[u8]) -> usize {
         let count = self.incoming.take(bytes, self.wanted);
         self.wanted -= count;
@@ -185,8 +190,8 @@ impl<S: Dh, E: Ephemeral> Connecting<S, E> {
         self.handshake.set_psk(secret)
     }
 
-    /// The channel, after [`Step::Done`]; `NotDone` before it, and `Refused` if the other party's static key wasn't accepted. Where the last message is still
-    /// to be sent, the channel sends it before its first frame.
+    /// The channel, after [`Step::Done`]; `NotDone` before it, and `Refused` if the other party's static key wasn't
+    /// accepted. Where the last message is still to be sent, the channel sends it before its first frame.
     pub fn finish(self) -> Result<Connection, Error> {
         if let Some(failure) = self.failure {
             return Err(failure);

@@ -62,8 +62,8 @@ impl StreamReceiver {
         }
     }
 
-    /// What has come. After an error each later call returns the same; [`Error::OneWay`] alone, in the silent direction of a one-way pattern, leaves the
-    /// channel as it was.
+    /// What has come. After an error each later call returns the same; [`Error::OneWay`] alone, in the silent direction
+    /// of a one-way pattern, leaves the channel as it was.
     pub fn event(&mut self) -> Result<Event<'_>, Error> {
         match self.due()? {
             Due::Data => {
@@ -75,8 +75,8 @@ impl StreamReceiver {
         }
     }
 
-    /// Receives bytes that came, in their order, and returns how many: at most as many as the last [`Event::Receive`] says, so none before it. Ask `event`
-    /// again before you pass the others.
+    /// Receives bytes that came, in their order, and returns how many: at most as many as the last [`Event::Receive`]
+    /// says, so none before it. Ask `event` again before you pass the others.
     pub fn receive(&mut self, bytes: &[u8]) -> usize {
         let count = self.incoming.take(bytes, self.wanted);
         self.wanted -= count;

@@ -18,8 +18,9 @@ impl StreamSender {
         StreamSender { memory, outgoing, has_begun: false, over }
     }
 
-    /// Seals the first bytes, at most 65519, as a frame to send, and returns how many: none while an earlier frame is still to be sent; of the handshake's
-    /// last message alone the frame is put after it. [`Error::Closed`]: this party has ended its stream. [`Error::Aborted`]: the channel is over.
+    /// Seals the first bytes, at most 65519, as a frame to send, and returns how many: none while an earlier frame is
+    /// still to be sent; of the handshake's last message alone the frame is put after it. [`Error::Closed`]: this party
+    /// has ended its stream. [`Error::Aborted`]: the channel is over.
     pub fn write(&mut self, bytes: &[u8]) -> Result<usize, Error> {
         self.check()?;
         if !self.takes() {
@@ -67,7 +68,8 @@ impl StreamSender {
         self.outgoing.release();
     }
 
-    /// The bytes to send, at most 131090: a message of the handshake, a frame, and the end. Once the channel is over there are none.
+    /// The bytes to send, at most 131090: a message of the handshake, a frame, and the end. Once the
+    /// channel is over there are none.
     pub fn outgoing(&self) -> &[u8] {
         if self.over.is_set() {
             return &[];

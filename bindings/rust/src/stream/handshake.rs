@@ -6,8 +6,8 @@ use crate::{Dh, Ephemeral, Error, Handshake};
 use std::io::{self, ErrorKind, Read, Write};
 use std::{error, fmt};
 
-/// Why [`Stream::new`] and its like made no stream. `?` turns it into an `io::Error`; into a `Box<dyn Error>` only where the key pair isn't a reference,
-/// for `Interrupted` has the key pair in it.
+/// Why [`Stream::new`] and its like made no stream. `?` turns it into an `io::Error`; into a `Box<dyn Error>` only
+/// where the key pair isn't a reference, for `Interrupted` has the key pair in it.
 #[non_exhaustive]
 pub enum HandshakeError<T, S: Dh, E: Ephemeral> {
     /// The stream below had `WouldBlock` or `TimedOut`. Nothing is lost: the handshake can continue.

@@ -22,8 +22,8 @@ impl<S: Dh, E: Ephemeral> Passing<S, E> {
         Ok(Passing { connecting: Connecting::with(handshake, peer)?, is_flushed: true })
     }
 
-    // Sends and receives until the party is asked for something. After an error of time a later call continues. The last message, if it is this party's,
-    // is kept: the channel sends it with its first frame.
+    // Sends and receives until the party is asked for something. After an error of time a later call continues. The
+    // last message, if it is this party's, is kept: the channel sends it with its first frame.
     pub(crate) fn pass(&mut self, below: &mut (impl Read + Write)) -> io::Result<Asked> {
         loop {
             match self.connecting.step()? {

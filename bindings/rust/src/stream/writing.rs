@@ -29,8 +29,8 @@ impl Writing {
         self.lose(flushed)
     }
 
-    // Before a read that may have to wait: the other party may be waiting for the last message of the handshake. Where the channel is idle a large
-    // buffer is given back.
+    // Before a read that may have to wait: the other party may be waiting for the last message of the handshake. Where
+    // the channel is idle a large buffer is given back.
     pub(crate) fn before_a_wait(&mut self, below: &mut impl Write, is_idle: bool) -> io::Result<()> {
         match self.0.outgoing() {
             [] if is_idle => self.0.release(),

@@ -1,4 +1,5 @@
-// What checks/c-library/ends.c takes of POSIX, for Windows: memory with a page behind it that may not be touched. Files have plain line feeds.
+// What checks/c-library/ends.c takes of POSIX, for Windows: memory with a page behind it that may not be touched.
+// Files have plain line feeds.
 #ifndef MMAN_H
 #define MMAN_H
 #include <fcntl.h>

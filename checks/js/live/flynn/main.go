@@ -17,7 +17,12 @@ import (
 	"golang.org/x/crypto/curve25519"
 )
 
-var patterns = map[string]noise.HandshakePattern{"NN": noise.HandshakeNN, "XX": noise.HandshakeXX, "IK": noise.HandshakeIK, "KK": noise.HandshakeKK}
+var patterns = map[string]noise.HandshakePattern{
+	"NN": noise.HandshakeNN,
+	"XX": noise.HandshakeXX,
+	"IK": noise.HandshakeIK,
+	"KK": noise.HandshakeKK,
+}
 
 // end has frames round flynn's messages; an empty payload is the end of a stream.
 type end struct {
@@ -113,8 +118,12 @@ func main() {
 	fail(err)
 	base, place, hasPSK := strings.Cut(w.pattern, "psk")
 	config := noise.Config{
-		CipherSuite: noise.NewCipherSuite(noise.DH25519, noise.CipherChaChaPoly, noise.HashSHA256), Random: rand.Reader, Pattern: patterns[base],
-		Initiator: !w.listens, Prologue: []byte("live"), StaticKeypair: noise.DHKey{Private: w.secret, Public: public},
+		CipherSuite:   noise.NewCipherSuite(noise.DH25519, noise.CipherChaChaPoly, noise.HashSHA256),
+		Random:        rand.Reader,
+		Pattern:       patterns[base],
+		Initiator:     !w.listens,
+		Prologue:      []byte("live"),
+		StaticKeypair: noise.DHKey{Private: w.secret, Public: public},
 	}
 	known := config.Pattern.InitiatorPreMessages
 	if config.Initiator {

@@ -25,7 +25,13 @@ func parse(args []string) words {
 	if len(args) != 8 {
 		fail(fmt.Errorf("usage: peer PATTERN OWN_SECRET PEER_KEY PSK ADDRESS ORDER SIZE COUNT"))
 	}
-	w := words{pattern: args[0], secret: unhex(args[1]), peer: unhex(args[2]), order: args[5], listens: strings.HasPrefix(args[4], "@")}
+	w := words{
+		pattern: args[0],
+		secret:  unhex(args[1]),
+		peer:    unhex(args[2]),
+		order:   args[5],
+		listens: strings.HasPrefix(args[4], "@"),
+	}
 	if args[3] != "-" {
 		w.psk = unhex(args[3])
 	}

@@ -30,7 +30,13 @@ func main() {
 	}
 	dialer := noise.Dialer{
 		NetDialer: &net.Dialer{Timeout: 10 * time.Second}, // for the connection and the handshake together
-		Config:    &noise.Config{Pattern: "XX", Prologue: []byte("example channel 1"), Static: key, Interval: 1000, PeerStatic: &expected},
+		Config: &noise.Config{
+			Pattern:    "XX",
+			Prologue:   []byte("example channel 1"),
+			Static:     key,
+			Interval:   1000,
+			PeerStatic: &expected,
+		},
 	}
 	conn, err := dialer.Dial("tcp", "127.0.0.1:4042")
 	if err != nil {

@@ -1,5 +1,6 @@
-// Package libp2p makes a channel as libp2p's noise does, between peers with ed25519 identities: XX with an empty prologue, each message after its length in two
-// bytes, and in messages 2 and 3 a payload with the identity and its signature of the static key.
+// Package libp2p makes a channel as libp2p's noise does, between peers with ed25519 identities: XX with an empty
+// prologue, each message after its length in two bytes, and in messages 2 and 3 a payload with the identity and its
+// signature of the static key.
 package libp2p
 
 import (
@@ -40,7 +41,8 @@ func field(tag byte, value []byte) []byte {
 	return append(binary.AppendUvarint([]byte{tag<<3 | 2}, uint64(len(value))), value...)
 }
 
-// fields reads a protocol buffer: the numbers, and the bytes, by their tags. Other fields than these, as extensions, are among them and aren't used.
+// fields reads a protocol buffer: the numbers, and the bytes, by their tags. Other fields than these, as extensions,
+// are among them and aren't used.
 func fields(b []byte) (numbers map[uint64]uint64, values map[uint64][]byte, err error) {
 	numbers, values = map[uint64]uint64{}, map[uint64][]byte{}
 	for len(b) > 0 {
@@ -83,7 +85,8 @@ func identityOf(payload []byte, static noise.PublicKey) (ed25519.PublicKey, erro
 	return append(ed25519.PublicKey(nil), key...), nil
 }
 
-// Channel is a secured connection. It has no end of its own: that the other party has sent all, a protocol above has to say.
+// Channel is a secured connection. It has no end of its own: that the other party has sent all, a
+// protocol above has to say.
 type Channel struct {
 	Remote  ed25519.PublicKey // the other party's identity
 	conn    net.Conn
@@ -94,18 +97,28 @@ type Channel struct {
 }
 
 // Secure runs the handshake over conn. It calls verify, which decides on the other party, with that party's identity.
-func Secure(ctx context.Context, conn net.Conn, identity ed25519.PrivateKey, initiator bool, verify func(ed25519.PublicKey) error) (*Channel, error) {
+func Secure(
+	ctx context.Context,
+	conn net.Conn,
+	identity ed25519.PrivateKey,
+	initiator bool,
+	verify func(ed25519.PublicKey) error,
+) (*Channel, error) {
 	static, err := noise.GenerateKeyPair()
 	if err != nil {
 		return nil, err
 	}
 	c := &Channel{conn: conn}
-	h, err := noise.NewHandshakeState(&noise.Config{Pattern: "XX", Static: static, VerifyPeer: func(_ context.Context, peer noise.Peer) (err error) {
-		if c.Remote, err = identityOf(peer.Payload, peer.Static); err != nil {
-			return err
-		}
-		return verify(c.Remote)
-	}}, initiator)
+	h, err := noise.NewHandshakeState(&noise.Config{
+		Pattern: "XX",
+		Static:  static,
+		VerifyPeer: func(_ context.Context, peer noise.Peer) (err error) {
+			if c.Remote, err = identityOf(peer.Payload, peer.Static); err != nil {
+				return err
+			}
+			return verify(c.Remote)
+		},
+	}, initiator)
 	if err != nil {
 		return nil, err
 	}

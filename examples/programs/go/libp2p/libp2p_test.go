@@ -24,7 +24,8 @@ func must(t *testing.T, errs ...error) {
 	}
 }
 
-// other is the other party: the steps of libp2p's specification over flynn/noise, with the bytes of its payload written out.
+// other is the other party: the steps of libp2p's specification over flynn/noise, with the bytes of
+// its payload written out.
 type other struct {
 	conn          net.Conn
 	identity      ed25519.PrivateKey
@@ -47,8 +48,9 @@ func (o *other) read() []byte {
 }
 
 func (o *other) payload(static []byte) []byte {
-	b := append([]byte{0x0a, 36, 0x08, 0x01, 0x12, 32}, o.identity.Public().(ed25519.PublicKey)...) // field 1: type Ed25519, and the key
-	b = append(b, 0x12, 64)                                                                         // field 2: the signature
+	// Field 1: type Ed25519, and the key.
+	b := append([]byte{0x0a, 36, 0x08, 0x01, 0x12, 32}, o.identity.Public().(ed25519.PublicKey)...)
+	b = append(b, 0x12, 64) // field 2: the signature
 	b = append(b, ed25519.Sign(o.identity, append([]byte(o.signed), static...))...)
 	return append(b, 0x22, 4, 0x12, 2, 'h', '2') // field 4: extensions, here a stream muxer
 }
@@ -59,7 +61,12 @@ func (o *other) shake(initiator bool) error {
 	if err != nil {
 		return err
 	}
-	h, err := flynn.NewHandshakeState(flynn.Config{CipherSuite: suite, Pattern: flynn.HandshakeXX, Initiator: initiator, StaticKeypair: key})
+	h, err := flynn.NewHandshakeState(flynn.Config{
+		CipherSuite:   suite,
+		Pattern:       flynn.HandshakeXX,
+		Initiator:     initiator,
+		StaticKeypair: key,
+	})
 	if err != nil {
 		return err
 	}
@@ -90,7 +97,8 @@ func (o *other) shake(initiator bool) error {
 	return err
 }
 
-// TestWithFlynn has both roles: each party finds the other's identity, and texts pass both ways, also longer ones than a message.
+// TestWithFlynn has both roles: each party finds the other's identity, and texts pass both ways, also
+// longer ones than a message.
 func TestWithFlynn(t *testing.T) {
 	for _, initiator := range []bool{true, false} {
 		_, mine, err := ed25519.GenerateKey(rand.Reader)
@@ -107,9 +115,11 @@ func TestWithFlynn(t *testing.T) {
 			return nil
 		})
 		must(t, err, <-shaken)
-		want := append(append([]byte{0x0a, 36, 0x08, 0x01, 0x12, 32}, mine.Public().(ed25519.PublicKey)...), 0x12, 64)
+		key := mine.Public().(ed25519.PublicKey)
+		want := append(append([]byte{0x0a, 36, 0x08, 0x01, 0x12, 32}, key...), 0x12, 64)
+		signed := append([]byte("noise-libp2p-static-key:"), o.static...)
 		if !bytes.HasPrefix(o.seen, want) || len(o.seen) != len(want)+64 ||
-			!ed25519.Verify(mine.Public().(ed25519.PublicKey), append([]byte("noise-libp2p-static-key:"), o.static...), o.seen[len(want):]) {
+			!ed25519.Verify(key, signed, o.seen[len(want):]) {
 			t.Errorf("the payload is %x", o.seen)
 		}
 		long := bytes.Repeat([]byte("0123456789"), 7000)
@@ -157,13 +167,20 @@ func TestIdentities(t *testing.T) {
 			a, b := net.Pipe()
 			o := &other{conn: b, identity: theirs, signed: it.signed}
 			go o.shake(!initiator)
-			if _, err := Secure(context.Background(), a, mine, initiator, func(ed25519.PublicKey) error { return unwanted }); !errors.Is(err, it.want) {
+			refuse := func(ed25519.PublicKey) error { return unwanted }
+			if _, err := Secure(context.Background(), a, mine, initiator, refuse); !errors.Is(err, it.want) {
 				t.Error(err)
 			}
 			a.Close()
 		}
 	}
-	for _, bad := range [][]byte{{0x0a}, {0x0a, 5, 1}, {0x0b, 1}, {0xff}, {0x0a, 0xff, 0xff, 0xff, 0xff, 0xff, 0xff, 0xff, 0xff, 0xff, 0x01}} {
+	for _, bad := range [][]byte{
+		{0x0a},
+		{0x0a, 5, 1},
+		{0x0b, 1},
+		{0xff},
+		{0x0a, 0xff, 0xff, 0xff, 0xff, 0xff, 0xff, 0xff, 0xff, 0xff, 0x01},
+	} {
 		if _, err := identityOf(bad, noise.PublicKey{}); err == nil {
 			t.Errorf("%x", bad)
 		}

@@ -116,7 +116,8 @@ func parseCertificate(b []byte) (*certificate, error) {
 	return c, nil
 }
 
-// withKey returns the encoded details with this public key, or without one: in a handshake a certificate travels without it, as the message has it.
+// withKey returns the encoded details with this public key, or without one: in a handshake a certificate travels
+// without it, as the message has it.
 func (c *certificate) withKey(key []byte) (b []byte) {
 	isDue := key != nil
 	for _, f := range c.details {
@@ -150,7 +151,8 @@ func (c *certificate) verify(authority *certificate, key noise.PublicKey, now ti
 		return errors.New("the certificate is for another key")
 	case !bytes.Equal(c.issuer, fingerprint[:]):
 		return errors.New("the certificate is by another authority")
-	case now.Before(c.notBefore) || now.After(c.notAfter) || now.Before(authority.notBefore) || now.After(authority.notAfter):
+	case now.Before(c.notBefore) || now.After(c.notAfter) ||
+		now.Before(authority.notBefore) || now.After(authority.notAfter):
 		return errors.New("the certificate has expired, or isn't valid yet")
 	case !ed25519.Verify(authority.key, c.withKey(key[:]), c.signature):
 		return errors.New("the certificate's signature is wrong")

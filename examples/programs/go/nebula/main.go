@@ -1,4 +1,5 @@
-// Nebula is a client of a Nebula node: it shakes hands, verifies the node's certificate, and exchanges a test request and its reply.
+// Nebula is a client of a Nebula node: it shakes hands, verifies the node's certificate, and exchanges a
+// test request and its reply.
 //
 //	nebula -ca ca.crt -cert me.crt -key me.key 127.0.0.1:4242
 package main
@@ -12,7 +13,8 @@ import (
 )
 
 func main() {
-	ca, cert := flag.String("ca", "ca.crt", "the authority's certificate"), flag.String("cert", "me.crt", "this party's certificate")
+	ca := flag.String("ca", "ca.crt", "the authority's certificate")
+	cert := flag.String("cert", "me.crt", "this party's certificate")
 	key := flag.String("key", "me.key", "this party's key")
 	flag.Parse()
 	if flag.NArg() != 1 {

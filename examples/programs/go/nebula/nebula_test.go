@@ -222,8 +222,8 @@ func TestForgedAnswers(t *testing.T) {
 	must(t, tunnel.ping(conn, soon()))
 }
 
-// answer returns the next packet of type test that comes, if one comes soon. At a counter that it has seen the node also sends an error packet, which isn't
-// authenticated.
+// answer returns the next packet of type test that comes, if one comes soon. At a counter that it has seen the node
+// also sends an error packet, which isn't authenticated.
 func answer(t *testing.T, conn net.Conn) []byte {
 	t.Helper()
 	room := make([]byte, 9001)
@@ -298,7 +298,8 @@ func TestCertificates(t *testing.T) {
 		travels[at] ^= 1
 	}
 	for length := range travels {
-		if again, err := parseCertificate(travels[:length]); err == nil && again.verify(good.authority, key, now) == nil {
+		again, err := parseCertificate(travels[:length])
+		if err == nil && again.verify(good.authority, key, now) == nil {
 			t.Errorf("accepted with %d bytes", length)
 		}
 	}
@@ -309,8 +310,10 @@ func TestWindow(t *testing.T) {
 	for _, it := range []struct {
 		counter uint64
 		isNew   bool
-	}{{3, true}, {3, false}, {5, true}, {4, true}, {4, false}, {68, true}, {5, false}, {6, true}, {4, false}, {1000, true}, {936, false}, {937, true}, {937, false},
-		{936, false}, {1<<64 - 2, true}, {1000, false}} {
+	}{
+		{3, true}, {3, false}, {5, true}, {4, true}, {4, false}, {68, true}, {5, false}, {6, true}, {4, false},
+		{1000, true}, {936, false}, {937, true}, {937, false}, {936, false}, {1<<64 - 2, true}, {1000, false},
+	} {
 		if got := w.isNew(it.counter); got != it.isNew {
 			t.Errorf("counter %d: %v", it.counter, got)
 		} else if got {

@@ -12,7 +12,8 @@ import (
 	"time"
 )
 
-// A node with a tun, in a network namespace of its own, which reaches this process by a pair of veth: this process is 192.168.100.2 to it.
+// A node with a tun, in a network namespace of its own, which reaches this process by a pair of veth: this
+// process is 192.168.100.2 to it.
 const networkConfig = `
 pki: {ca: %[1]s/ca.crt, cert: %[1]s/node.crt, key: %[1]s/node.key}
 static_host_map: {"192.168.100.2": ["%[2]s"]}
@@ -70,7 +71,8 @@ func joined(t *testing.T) error {
 	return nil
 }
 
-// network starts a node in the namespace. It returns the folder of the certificates, and this process's socket, which the node knows.
+// network starts a node in the namespace. It returns the folder of the certificates, and this process's
+// socket, which the node knows.
 func network(t *testing.T) (room string, own *net.UDPConn, said *nodeLog) {
 	t.Helper()
 	if _, err := exec.LookPath("nebula"); err != nil {
@@ -110,7 +112,8 @@ func checksum(b []byte) uint16 {
 	return ^uint16(sum)
 }
 
-// message waits for a packet with data, of this protocol of IPv4, from the node to this process, and returns what IPv4 carries.
+// message waits for a packet with data, of this protocol of IPv4, from the node to this process, and
+// returns what IPv4 carries.
 func message(t *testing.T, conn net.Conn, tunnel *tunnel, protocol byte) []byte {
 	t.Helper()
 	room := make([]byte, 9001)
@@ -123,7 +126,8 @@ func message(t *testing.T, conn net.Conn, tunnel *tunnel, protocol byte) []byte 
 		}
 		text, err := tunnel.open(room[:n])
 		must(t, err)
-		if len(text) > 20 && text[9] == protocol && bytes.Equal(text[12:20], []byte{192, 168, 100, 1, 192, 168, 100, 2}) {
+		addresses := []byte{192, 168, 100, 1, 192, 168, 100, 2}
+		if len(text) > 20 && text[9] == protocol && bytes.Equal(text[12:20], addresses) {
 			return text[20:]
 		}
 	}
@@ -157,8 +161,8 @@ func TestData(t *testing.T) {
 	must(t, tunnel.ping(conn, soon()))
 }
 
-// TestResponder has a node as the initiator: a program in the namespace sends a datagram to this process's address in Nebula's network, and waits for its
-// answer. A first message that was altered, or is by a stranger, changes nothing.
+// TestResponder has a node as the initiator: a program in the namespace sends a datagram to this process's address in
+// Nebula's network, and waits for its answer. A first message that was altered, or is by a stranger, changes nothing.
 func TestResponder(t *testing.T) {
 	room, own, said := network(t)
 	program := exec.Command("ip", "netns", "exec", namespace, "bash", "-c",
@@ -173,7 +177,8 @@ func TestResponder(t *testing.T) {
 	n, from, err := own.ReadFromUDP(first)
 	must(t, err)
 	me := member(t, room, "ca.crt", "me")
-	for _, at := range []int{0, headerLen - 1, headerLen + 32, headerLen + 64 + 20} { // the header, the static key, the certificate
+	// The header, the static key, the certificate.
+	for _, at := range []int{0, headerLen - 1, headerLen + 32, headerLen + 64 + 20} {
 		altered := append([]byte(nil), first[:n]...)
 		altered[at] ^= 1
 		if _, reply, err := me.answer(altered); err == nil || reply != nil {

@@ -52,13 +52,18 @@ func (p *party) hello() []byte {
 	return text(nil, payloadDetails, details)
 }
 
-// connect runs the handshake IX over conn: one packet each way. It sends its own as often as no right answer comes, until the deadline. An answer that isn't
-// right, which anybody can send, changes nothing; the last such is why nothing else has come.
+// connect runs the handshake IX over conn: one packet each way. It sends its own as often as no right answer
+// comes, until the deadline. An answer that isn't right, which anybody can send, changes nothing; the last such
+// is why nothing else has come.
 func (p *party) connect(conn net.Conn, until time.Time) (*tunnel, error) {
 	t := &tunnel{own: ownIndex}
-	h, err := noise.NewHandshakeState(&noise.Config{Pattern: "IX", Static: p.key, VerifyPeer: func(_ context.Context, peer noise.Peer) error {
-		return t.accept(p.authority, peer)
-	}}, true)
+	h, err := noise.NewHandshakeState(&noise.Config{
+		Pattern: "IX",
+		Static:  p.key,
+		VerifyPeer: func(_ context.Context, peer noise.Peer) error {
+			return t.accept(p.authority, peer)
+		},
+	}, true)
 	if err != nil {
 		return nil, err
 	}
@@ -83,16 +88,21 @@ func (p *party) connect(conn net.Conn, until time.Time) (*tunnel, error) {
 	return t, t.finish(h)
 }
 
-// answer runs the handshake as the responder: it reads the first packet of a node, and returns the tunnel and the packet to send back. A caller that gets the
-// same first packet again, since its answer was lost, sends the same answer again.
+// answer runs the handshake as the responder: it reads the first packet of a node, and returns the tunnel
+// and the packet to send back. A caller that gets the same first packet again, since its answer was lost,
+// sends the same answer again.
 func (p *party) answer(packet []byte) (*tunnel, []byte, error) {
 	if len(packet) < headerLen || packet[0] != version<<4|typeHandshake || binary.BigEndian.Uint64(packet[8:]) != 1 {
 		return nil, nil, errors.New("not the first packet of a handshake")
 	}
 	t := &tunnel{own: ownIndex}
-	h, err := noise.NewHandshakeState(&noise.Config{Pattern: "IX", Static: p.key, VerifyPeer: func(_ context.Context, peer noise.Peer) error {
-		return t.accept(p.authority, peer)
-	}}, false)
+	h, err := noise.NewHandshakeState(&noise.Config{
+		Pattern: "IX",
+		Static:  p.key,
+		VerifyPeer: func(_ context.Context, peer noise.Peer) error {
+			return t.accept(p.authority, peer)
+		},
+	}, false)
 	if err != nil {
 		return nil, nil, err
 	}
@@ -150,7 +160,8 @@ func (t *tunnel) accept(authority *certificate, peer noise.Peer) error {
 	return shown.verify(authority, peer.Static, time.Now())
 }
 
-// asked sends a packet each half second, and returns the first that passes the filter. That nobody is there (ECONNREFUSED) may be so for a moment.
+// asked sends a packet each half second, and returns the first that passes the filter. That nobody is there
+// (ECONNREFUSED) may be so for a moment.
 func asked(conn net.Conn, packet []byte, until time.Time, filter func([]byte) bool) ([]byte, error) {
 	room := make([]byte, 9001)
 	for time.Now().Before(until) {
@@ -184,7 +195,8 @@ func (t *tunnel) seal(kind, subtype byte, text []byte) ([]byte, error) {
 	})
 }
 
-// open returns the text of a packet, and changes nothing unless all of it, header included, is the other party's, and new.
+// open returns the text of a packet, and changes nothing unless all of it, header included, is
+// the other party's, and new.
 func (t *tunnel) open(packet []byte) ([]byte, error) {
 	if len(packet) < headerLen || binary.BigEndian.Uint32(packet[4:]) != t.own {
 		return nil, errors.New("not a packet for this tunnel")

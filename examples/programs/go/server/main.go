@@ -1,4 +1,5 @@
-// The responder: it takes connections on 127.0.0.1, port 4042, says which client it is, and sends its text back. It keeps its key in the file server.key.
+// The responder: it takes connections on 127.0.0.1, port 4042, says which client it is, and sends its text back. It
+// keeps its key in the file server.key.
 package main
 
 import (
@@ -20,7 +21,8 @@ func main() {
 		log.Fatal(err)
 	}
 	public := fmt.Sprintf("%x\n", key.Public())
-	if err := os.WriteFile("server.public", []byte(public), 0o644); err != nil { // the client gets it by a way that nobody else can write to
+	// The client gets it by a way that nobody else can write to.
+	if err := os.WriteFile("server.public", []byte(public), 0o644); err != nil {
 		log.Fatal(err)
 	}
 	listener, err := noise.Listen("tcp", "127.0.0.1:4042", &noise.Config{

@@ -1,4 +1,5 @@
-// Udp is an echo over a tunnel of datagrams by IK, whose handshake survives junk, loss, repetition and another order: a server, and a client that sends lines.
+// Udp is an echo over a tunnel of datagrams by IK, whose handshake survives junk, loss, repetition and another order: a
+// server, and a client that sends lines.
 package main
 
 import (
@@ -24,7 +25,12 @@ func main() {
 		conn, err := net.ListenPacket("udp", os.Args[2])
 		must(err)
 		var s *server
-		s = newServer(conn, key, func(client noise.PublicKey) bool { return client == other }, func(it *session, text []byte) { s.write(it, text) })
+		s = newServer(
+			conn,
+			key,
+			func(client noise.PublicKey) bool { return client == other },
+			func(it *session, text []byte) { s.write(it, text) },
+		)
 		must(s.run())
 		return
 	}

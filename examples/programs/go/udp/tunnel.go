@@ -12,7 +12,8 @@ import (
 	"example.org/yulimosar/noise"
 )
 
-// A packet is its kind; of data also the index that the server has given the session in the payload of message 2; then a message or a datagram.
+// A packet is its kind; of data also the index that the server has given the session in the payload of message 2; then
+// a message or a datagram.
 const (
 	first  = 1
 	second = 2
@@ -39,9 +40,10 @@ type session struct {
 	addr    net.Addr // where the client is
 }
 
-// server has, for each client that it accepts, the session in use and one whose client hasn't shown yet that it is there: memory that strangers can't make
-// grow, since message 1 of IK has to be of an accepted key. A message 1 that somebody has kept and repeats takes the place of no session in use; of one that isn't yet
-// it may, and then that client has to dial again.
+// server has, for each client that it accepts, the session in use and one whose client hasn't shown yet that it is
+// there: memory that strangers can't make grow, since message 1 of IK has to be of an accepted key. A message 1 that
+// somebody has kept and repeats takes the place of no session in use; of one that isn't yet it may, and then that
+// client has to dial again.
 type server struct {
 	conn     net.PacketConn
 	config   *noise.Config
@@ -53,15 +55,31 @@ type server struct {
 	received func(s *session, text []byte)
 }
 
-func newServer(conn net.PacketConn, key noise.DH, accepted func(noise.PublicKey) bool, received func(*session, []byte)) *server {
-	config := &noise.Config{Pattern: pattern, Prologue: prologue, Static: key, VerifyPeer: func(_ context.Context, peer noise.Peer) error {
-		if !accepted(peer.Static) {
-			return errors.New("a client that isn't accepted")
-		}
-		return nil
-	}}
-	return &server{conn: conn, config: config, used: map[noise.PublicKey]*session{}, new: map[noise.PublicKey]*session{}, indices: map[uint32]*session{},
-		received: received}
+func newServer(
+	conn net.PacketConn,
+	key noise.DH,
+	accepted func(noise.PublicKey) bool,
+	received func(*session, []byte),
+) *server {
+	config := &noise.Config{
+		Pattern:  pattern,
+		Prologue: prologue,
+		Static:   key,
+		VerifyPeer: func(_ context.Context, peer noise.Peer) error {
+			if !accepted(peer.Static) {
+				return errors.New("a client that isn't accepted")
+			}
+			return nil
+		},
+	}
+	return &server{
+		conn:     conn,
+		config:   config,
+		used:     map[noise.PublicKey]*session{},
+		new:      map[noise.PublicKey]*session{},
+		indices:  map[uint32]*session{},
+		received: received,
+	}
 }
 
 // run takes packets until the connection is closed. What isn't right changes nothing.
@@ -121,7 +139,8 @@ func (s *server) greet(message []byte, from net.Addr) (err error) {
 	return nil
 }
 
-// open takes data. The first of a new session shows that its client is there, and takes the place of the session before.
+// open takes data. The first of a new session shows that its client is there, and takes the
+// place of the session before.
 func (s *server) open(packet []byte, from net.Addr) {
 	it := s.indices[binary.BigEndian.Uint32(packet[1:])]
 	if it == nil {
@@ -156,9 +175,11 @@ func (s *server) write(it *session, text []byte) error {
 	return err
 }
 
-// dial runs the handshake over conn until the deadline: it sends message 1 until a right message 2 has come, and takes no notice of what else comes.
+// dial runs the handshake over conn until the deadline: it sends message 1 until a right message 2 has come, and takes
+// no notice of what else comes.
 func dial(conn net.Conn, key noise.DH, server noise.PublicKey, until time.Time) (*session, error) {
-	h, err := noise.NewHandshakeState(&noise.Config{Pattern: pattern, Prologue: prologue, Static: key, PeerStatic: &server}, true)
+	config := &noise.Config{Pattern: pattern, Prologue: prologue, Static: key, PeerStatic: &server}
+	h, err := noise.NewHandshakeState(config, true)
 	if err != nil {
 		return nil, err
 	}

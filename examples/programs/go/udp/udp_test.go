@@ -20,7 +20,8 @@ func pair(t *testing.T) *noise.KeyPair {
 	return key
 }
 
-// bad is a connection over which each packet may be lost, repeated, altered or late, and junk and old packets come between.
+// bad is a connection over which each packet may be lost, repeated, altered or late, and junk and
+// old packets come between.
 type bad struct {
 	net.PacketConn
 	mutex sync.Mutex
@@ -72,7 +73,8 @@ func listen(t *testing.T, seed int64) *bad {
 	return &bad{PacketConn: conn, dice: rand.New(rand.NewSource(seed))}
 }
 
-// TestBadNetwork has clients over such connections, each of which asks until all has come back; one that isn't accepted; and one that connects again.
+// TestBadNetwork has clients over such connections, each of which asks until all has come back; one that isn't
+// accepted; and one that connects again.
 func TestBadNetwork(t *testing.T) {
 	key, clients := pair(t), []*noise.KeyPair{pair(t), pair(t), pair(t)}
 	accepted := map[noise.PublicKey]bool{}
@@ -81,7 +83,12 @@ func TestBadNetwork(t *testing.T) {
 	}
 	conn := listen(t, 1)
 	var s *server
-	s = newServer(conn, key, func(client noise.PublicKey) bool { return accepted[client] }, func(it *session, text []byte) { s.write(it, text) })
+	s = newServer(
+		conn,
+		key,
+		func(client noise.PublicKey) bool { return accepted[client] },
+		func(it *session, text []byte) { s.write(it, text) },
+	)
 	ended := make(chan error, 1)
 	go func() { ended <- s.run() }()
 	var group sync.WaitGroup
@@ -99,7 +106,8 @@ func TestBadNetwork(t *testing.T) {
 		}(i)
 	}
 	group.Wait()
-	if _, err := dial(&toOne{listen(t, 9), conn.LocalAddr()}, pair(t), key.Public(), time.Now().Add(time.Second)); err == nil {
+	stranger := &toOne{listen(t, 9), conn.LocalAddr()}
+	if _, err := dial(stranger, pair(t), key.Public(), time.Now().Add(time.Second)); err == nil {
 		t.Error("a client that isn't accepted has a session")
 	}
 	conn.Close()
@@ -111,7 +119,8 @@ func TestBadNetwork(t *testing.T) {
 	}
 }
 
-// ask sends texts until each has come back. Where nothing comes back any more, the server has another session of this key: ask dials again.
+// ask sends texts until each has come back. Where nothing comes back any more, the server has another session of
+// this key: ask dials again.
 func ask(conn net.Conn, key noise.DH, server noise.PublicKey) error {
 	left, until := map[string]bool{}, time.Now().Add(30*time.Second)
 	for i := 0; i < 20; i++ {

@@ -14,8 +14,14 @@ import (
 
 var (
 	cipherSuite = noise.NewCipherSuite(noise.DH25519, noise.CipherChaChaPoly, noise.HashSHA256)
-	tokens      = map[string]noise.MessagePattern{"s": noise.MessagePatternS, "e": noise.MessagePatternE, "ee": noise.MessagePatternDHEE,
-		"es": noise.MessagePatternDHES, "se": noise.MessagePatternDHSE, "ss": noise.MessagePatternDHSS}
+	tokens      = map[string]noise.MessagePattern{
+		"s":  noise.MessagePatternS,
+		"e":  noise.MessagePatternE,
+		"ee": noise.MessagePatternDHEE,
+		"es": noise.MessagePatternDHES,
+		"se": noise.MessagePatternDHSE,
+		"ss": noise.MessagePatternDHSS,
+	}
 	name = regexp.MustCompile(`^Noise_([A-Z0-9]+)(psk(\d)(\+.*)?)?_`)
 )
 
@@ -32,8 +38,13 @@ func start(g *suite.Group, role string) (suite.Party, error) {
 		return nil, fmt.Errorf("%w: more than one psk", suite.ErrNotSupported)
 	}
 	config := noise.Config{
-		CipherSuite: cipherSuite, Random: bytes.NewReader(keys.E.Data), Pattern: patternOf(g, found[1]), Initiator: role == "initiator",
-		Prologue: g.Prologue.Data, PeerStatic: keys.RS.Data, PeerEphemeral: keys.RE.Data,
+		CipherSuite:   cipherSuite,
+		Random:        bytes.NewReader(keys.E.Data),
+		Pattern:       patternOf(g, found[1]),
+		Initiator:     role == "initiator",
+		Prologue:      g.Prologue.Data,
+		PeerStatic:    keys.RS.Data,
+		PeerEphemeral: keys.RE.Data,
 	}
 	if len(g.PSKs) > 0 {
 		config.PresharedKey = g.PSKs[0].Data
@@ -59,7 +70,11 @@ func list(joined string) (made []noise.MessagePattern) {
 }
 
 func patternOf(g *suite.Group, base string) noise.HandshakePattern {
-	made := noise.HandshakePattern{Name: base, InitiatorPreMessages: list(g.Before("initiator")), ResponderPreMessages: list(g.Before("responder"))}
+	made := noise.HandshakePattern{
+		Name:                 base,
+		InitiatorPreMessages: list(g.Before("initiator")),
+		ResponderPreMessages: list(g.Before("responder")),
+	}
 	for _, it := range g.Tokens() {
 		made.Messages = append(made.Messages, list(strings.Join(it, ", ")))
 	}
@@ -72,7 +87,8 @@ func (p *party) split(first, second *noise.CipherState) {
 	}
 }
 
-var errSecond = fmt.Errorf("%w: the second cipher state of a one-way pattern is the caller's to discard", suite.ErrNotSupported)
+var errSecond = fmt.Errorf("%w: the second cipher state of a one-way pattern is the caller's to discard",
+	suite.ErrNotSupported)
 
 func (p *party) Write(payload []byte) (message []byte, err error) {
 	if p.send != nil {

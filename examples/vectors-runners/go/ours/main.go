@@ -48,7 +48,9 @@ func start(g *suite.Group, role string) (suite.Party, error) {
 		return nil, fmt.Errorf("%w: ephemeral keys in pre-messages", suite.ErrNotSupported)
 	}
 	config := &noise.Config{
-		Pattern: name + ":\n  " + strings.Join(g.Pattern, "\n  ") + "\n", Prologue: g.Prologue.Data, InsecureAcceptAnyKey: true,
+		Pattern:              name + ":\n  " + strings.Join(g.Pattern, "\n  ") + "\n",
+		Prologue:             g.Prologue.Data,
+		InsecureAcceptAnyKey: true,
 	}
 	setPSKs(&config.PSKs, g.PSKs)
 	setKey(&config.PeerStatic, keys.RS)

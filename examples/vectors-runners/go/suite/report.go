@@ -29,7 +29,9 @@ func printReport(tests []*Test, notes map[string]note) (failed bool) {
 	}
 	fmt.Printf("%-28s %-7s %7s %7s %7s\n", "flag", "kind", "passed", "failed", "not run")
 	for _, flag := range flags {
-		fmt.Printf("%-28s %-7s %7d %7d %7d\n", flag, notes[flag].Kind, counts[flag]["passed"], counts[flag]["failed"], counts[flag]["not run"])
+		count := counts[flag]
+		fmt.Printf("%-28s %-7s %7d %7d %7d\n", flag, notes[flag].Kind,
+			count["passed"], count["failed"], count["not run"])
 	}
 	for _, t := range tests {
 		if t.outcome == "failed" {

@@ -1,5 +1,5 @@
-// Package suite runs the suite of test vectors with an implementation in Go. A program calls Main with a function that starts a party: see the
-// folders beside this.
+// Package suite runs the suite of test vectors with an implementation in Go. A program calls Main with a function that
+// starts a party: see the folders beside this.
 package suite
 
 import (
@@ -134,7 +134,8 @@ type Step struct {
 	Bytes, Is, Payload                      *Bytes
 }
 
-// Party is one party of a Noise. An error of a call is a refusal. After the handshake, Write and Read are of transport messages.
+// Party is one party of a Noise. An error of a call is a refusal. After the handshake, Write and Read
+// are of transport messages.
 type Party interface {
 	Write(payload []byte) ([]byte, error)
 	Read(message []byte) ([]byte, error)
@@ -279,7 +280,8 @@ func (t *Test) pass(g *Group, start Start) {
 	}
 }
 
-// Main runs the suite of the file os.Args[1], and reports; os.Args[2] is a file for JUnit's XML. The status is 0 if no test failed.
+// Main runs the suite of the file os.Args[1], and reports; os.Args[2] is a file for JUnit's XML. The
+// status is 0 if no test failed.
 func Main(name string, start Start) {
 	if len(os.Args) < 2 {
 		fmt.Fprintf(os.Stderr, "usage: %s SUITE.json [JUNIT.xml]\n", name)

@@ -1,4 +1,5 @@
-//! Runs the suite of test vectors with an implementation in Rust. A program calls [`run`] with a function that starts a party: see `main.rs` and `snow/`.
+//! Runs the suite of test vectors with an implementation in Rust. A program calls [`run`] with a function that starts a
+//! party: see `main.rs` and `snow/`.
 
 pub mod json;
 mod report;

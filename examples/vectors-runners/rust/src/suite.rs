@@ -190,7 +190,8 @@ impl<'a, F: Fn(&Setup) -> Result<Box<dyn Party>, Fault>> Run<'a, F> {
     }
 }
 
-/// Runs the suite of the first argument, and reports; the second is a file for JUnit's XML. The status is that of the program: 0 if no test failed.
+/// Runs the suite of the first argument, and reports; the second is a file for JUnit's XML. The status is that of the
+/// program: 0 if no test failed.
 pub fn run<F: Fn(&Setup) -> Result<Box<dyn Party>, Fault>>(name: &str, start: F) -> i32 {
     let words: Vec<String> = std::env::args().collect();
     let text = words.get(1).and_then(|path| std::fs::read_to_string(path).ok());

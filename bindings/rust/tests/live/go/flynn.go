@@ -25,8 +25,13 @@ type flynnChannel struct {
 func openFlynn(conn net.Conn, w words) (channel, error) {
 	public, err := curve25519.X25519(w.own, curve25519.Basepoint)
 	must(err)
-	config := noise.Config{CipherSuite: noise.NewCipherSuite(noise.DH25519, noise.CipherChaChaPoly, noise.HashSHA256), Random: rand.Reader,
-		Prologue: []byte("live"), Initiator: w.initiator, StaticKeypair: noise.DHKey{Private: w.own, Public: public}}
+	config := noise.Config{
+		CipherSuite:   noise.NewCipherSuite(noise.DH25519, noise.CipherChaChaPoly, noise.HashSHA256),
+		Random:        rand.Reader,
+		Prologue:      []byte("live"),
+		Initiator:     w.initiator,
+		StaticKeypair: noise.DHKey{Private: w.own, Public: public},
+	}
 	name, place, _ := strings.Cut(w.pattern, "psk")
 	for _, pattern := range flynnPatterns {
 		if pattern.Name == name {

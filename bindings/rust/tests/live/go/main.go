@@ -1,5 +1,5 @@
-// One end over TCP, as examples/live/main.rs says: main noise|flynn PATTERN OWN_SECRET PEER_KEY PSK ADDRESS ORDER SIZE, by the package for Go or by
-// flynn/noise.
+// One end over TCP, as examples/live/main.rs says: main noise|flynn PATTERN OWN_SECRET PEER_KEY PSK ADDRESS ORDER SIZE,
+// by the package for Go or by flynn/noise.
 package main
 
 import (
@@ -43,7 +43,15 @@ func main() {
 	arguments := os.Args[2:]
 	size, err := strconv.Atoi(arguments[6])
 	must(err)
-	w := words{arguments[0], bytes32(arguments[1]), bytes32(arguments[2]), nil, !strings.HasPrefix(arguments[4], "@"), arguments[5] == "first", size}
+	w := words{
+		arguments[0],
+		bytes32(arguments[1]),
+		bytes32(arguments[2]),
+		nil,
+		!strings.HasPrefix(arguments[4], "@"),
+		arguments[5] == "first",
+		size,
+	}
 	if arguments[3] != "-" {
 		w.psk = bytes32(arguments[3])
 	}
@@ -116,7 +124,8 @@ func run(c channel, w words) {
 	count, err := read(c, w)
 	hears <- err == nil
 	<-done
-	fmt.Printf("wrote %d %s, read %d %s\n", wrote, map[bool]string{true: "ended", false: "open"}[ended], count, nameOf(err))
+	state := map[bool]string{true: "ended", false: "open"}[ended]
+	fmt.Printf("wrote %d %s, read %d %s\n", wrote, state, count, nameOf(err))
 }
 
 func write(c channel, w words) (int, bool) {
@@ -157,7 +166,8 @@ func nameOf(err error) string {
 	switch {
 	case err == nil:
 		return "end"
-	case errors.Is(err, noise.ErrTag), errors.Is(err, noise.ErrShort), errors.Is(err, noise.ErrTooLong), errors.Is(err, errRefused):
+	case errors.Is(err, noise.ErrTag), errors.Is(err, noise.ErrShort),
+		errors.Is(err, noise.ErrTooLong), errors.Is(err, errRefused):
 		return "refused"
 	case errors.Is(err, noise.ErrCut), errors.Is(err, io.ErrUnexpectedEOF):
 		return "cut"

@@ -1,4 +1,5 @@
-//! The crate `snow`, written after its documentation: where this repository is checked the crate isn't at hand, so this file was never compiled.
+//! The crate `snow`, written after its documentation: where this repository is checked the crate isn't at hand, so this
+//! file was never compiled.
 
 use snow::{Builder, Error, HandshakeState, TransportState};
 use vectors::{run, Fault, Party, Setup};
