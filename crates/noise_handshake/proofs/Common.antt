@@ -28,7 +28,7 @@ pub use Rattle.noise_state.specs.declared.symmetric.SymmetricState.{SymmetricSta
 pub use Rattle.noise_handshake.specs.Counterparts.{Counterparts, DhResultsAgree, DhResultsAlike, IsEquipped, counterpart, is_dh, keys_if, shown_after, shown_before, xor_agreement, xor_public}
 pub use Rattle.noise_handshake.specs.HandshakeValue.{Advances, HandshakeValue, HasPsks, IsAgreement, ended_as, is_turn, length_now, length_unless, message_len_of, read_fault, write_fault}
 pub use Rattle.noise_handshake.specs.Asking.{LeavesUnread, LeavesUnwritten, Wants, WantsPskToRead, WantsPskToWrite, after_asked}
-pub use Rattle.noise_handshake.specs.Late.{IsLateWhole, MatchesWith, with_later}
+pub use Rattle.noise_handshake.specs.Late.{IsLateWhole, IsPskAfter, MatchesWith, with_later}
 pub use Rattle.noise_handshake.specs.Length.{Carries, Carry, added_width, keyed_after, keyed_after_tokens, tag_width, token_width, tokens_width}
 pub use Rattle.noise_handshake.specs.Matching.{DoesNotRead, DoesNotWrite, IsKeyed, IsSupplied, Matches, ValueMatches, after_message, after_not_read, after_not_written, after_own, ended_party}
 pub use Rattle.noise_handshake.specs.Message.{after_payload, after_token, after_tokens, before_payload, message_bytes, token_bytes, with_ephemeral}
@@ -48,7 +48,6 @@ pub use Rattle.noise_handshake.specs.declared.remote.Remote.{Remote}
 pub use Rattle.noise_handshake.specs.inner.Kept.{IsKept, held_in}
 pub use Rattle.noise_handshake.specs.inner.Keying.{Keying, keying_after, keying_of}
 pub use Rattle.noise_handshake.specs.inner.Known.{KnowsRemote, are_known, has_after, has_after_tokens, is_known, remote_known}
-pub use Rattle.noise_handshake.specs.inner.Late.{IsPskAfter}
 pub use Rattle.noise_handshake.specs.inner.Layout.{ArePlaced, IsLaid, LaysNext, placed_from, tokens_of}
 pub use Rattle.noise_handshake.specs.inner.Listening.{BeginsBefore, Fails, Listening, StopsKnowing, width_of_key}
 pub use Rattle.noise_handshake.specs.inner.Means.{reader_of, writer_of}

@@ -12,7 +12,7 @@ use Rattle.noise_handshake.specs.declared.stop.Stop.{Stop}
 use Rattle.noise_handshake.proofs.Standing.{listens, tokens-are}
 use Rattle.noise_handshake.proofs.Later.{count-take, count-less, given-same, leads-same, reads-same, stops-same, stops-for-same, lacks-same, lacks-for-same}
 use Rattle.noise_handshake.proofs.Once.{refuses-one}
-use Rattle.noise_handshake.proofs.PskPlaces.{no-psk, psk-place}
+use Rattle.noise_handshake.proofs.PskPlaces.{no-place, no-psk, psk-place}
 use Rattle.noise_handshake.specs.declared.faults.ReadFault.TheVariants as read
 use Rattle.noise_handshake.specs.declared.faults.WriteFault.TheVariants as write
 use Rattle.noise_keys.specs.Keys.{KeyPairs}
@@ -195,9 +195,7 @@ module _ {K : Type 0} (h : HandshakeValue K) (less : h.passed < length h.pattern
   supplied-now = omega (arith, next-count)
 
   pub supplied-not : (k : ℕ) → IsPskAfter (tokens_at h.pattern.messages h.passed) (length h.psks) k → ⊥
-  supplied-not k a =
-      no-psk (tokens_at h.pattern.messages h.passed) (take k (tokens_at h.pattern.messages h.passed)) (drop (suc k) (tokens_at h.pattern.messages h.passed))
-      (length h.psks) supplied-now a.tokens a.count
+  supplied-not k a = no-place (tokens_at h.pattern.messages h.passed) (length h.psks) k supplied-now a
 
   -- nor after it
   pub supplied-after : (h2 : HandshakeValue K) → Advances h h2 → IsSupplied h2
