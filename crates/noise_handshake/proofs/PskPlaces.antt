@@ -1,5 +1,5 @@
 -- The place of a psk token among tokens.
-use Rattle.std.proofs.Common.{rules, ◌≡◌, ℕ, suc, ◌+◌, ◌≤◌, List, [], ◌∷◌, ◌++◌, length, take, drop, ap, sym, ◌∙◌, arith, length-take}
+use Rattle.std.proofs.Common.{rules, ◌≡◌, ℕ, suc, ◌≤◌, List, [], ◌∷◌, ◌++◌, length, take, drop, ap, sym, ◌∙◌, arith, length-take}
 use Rattle.noise_handshake.proofs.Common.{take-append_seam, sum_by-append, count_by, Token, is_psk, IsPskAfter}
 use Rattle.noise_names.specs.declared.token.Token.TheVariants.{Psk}
 use Rattle.noise_handshake.proofs.Later.{count-take, count-less}
