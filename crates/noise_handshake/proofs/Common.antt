@@ -2,11 +2,11 @@
 pub use Rattle.std.proofs.Math.Seq.{drop-append-add, drop-append_seam, take-append-add, take-append_seam}
 pub use Rattle.std.proofs.lemmas.Bool.{and_from, and_parts, leb-true, not-true, not_from_false, or_left, or_parts, or_right}
 pub use Rattle.std.proofs.lemmas.Bool.Decides.{nat_tests}
-pub use Rattle.std.proofs.lemmas.List.{drop-append-le, drop-set-add, drop-take, drop_all, drop_at, length-take-le, nil_from_length, take-append-drop, take-append-le, take_more, take_rest}
+pub use Rattle.std.proofs.lemmas.List.{drop-append-le, drop_all, drop_at, length-take-le, nil_from_length, take-append-drop, take-append-le, take_more, take_rest}
 pub use Rattle.std.proofs.lemmas.List.Folds.{list_any-append}
 pub use Rattle.std.proofs.lemmas.List.Sums.{sum_by-append, sum_by-cons, sum_by-take-le}
-pub use Rattle.std.specs.List.{list_all, list_any, refill}
-pub use Rattle.std.specs.Prelude.{Err, IfOk, IsFalse, IsTrue, MatchOption, MatchResult, None, Ok, OnOk, Option, Result, Some, count_by, is_none, nat_le, unwrap_or, ◌&&◌, ◌==◌, ◌||◌, ◌↔◌}
+pub use Rattle.std.specs.List.{list_all, list_any}
+pub use Rattle.std.specs.Prelude.{Err, IsFalse, IsTrue, MatchOption, MatchResult, None, Ok, OnOk, Option, Result, Some, count_by, is_none, nat_le, unwrap_or, ◌&&◌, ◌==◌, ◌||◌, ◌↔◌}
 pub use Rattle.noise_keys.specs.declared.keys.Own.{Own}
 pub use Rattle.noise_keys.specs.declared.keys.Own.TheVariants.{Ephemeral, Static}
 pub use Rattle.noise_names.specs.Limits.{HavePsksAt, IsPattern, is_pre_message, psk_if, with_psk_tokens}
@@ -20,15 +20,15 @@ pub use Rattle.noise_names.specs.declared.token.Role.TheVariants.{Initiator, Res
 pub use Rattle.noise_names.specs.declared.token.Token.{Token}
 pub use Rattle.noise_names.specs.declared.token.Token.TheVariants.{E, Ee, Es, S, Se, Ss}
 pub use Rattle.noise_state.specs.Ciphertexts.{ciphertext-same, length-ciphertext}
-pub use Rattle.noise_state.specs.History.{Ciphertext, History, MixHash, MixKeyAndHash, and_then, cipher_key, ciphertext, nonce}
-pub use Rattle.noise_state.specs.Outcomes.{decrypts-not, encrypts-not}
+pub use Rattle.noise_state.specs.History.{Ciphertext, History, MixHash, MixKeyAndHash, and_then, cipher_key, ciphertext}
+pub use Rattle.noise_state.specs.Outcomes.{decrypts-not}
 pub use Rattle.noise_state.specs.Symmetric.{after_ciphertext, ciphertext_now, mix_hash, mix_key_and_hash}
 pub use Rattle.noise_state.specs.Standing.{StateMatches, keyed, nonce_now}
 pub use Rattle.noise_state.specs.declared.symmetric.SymmetricState.{SymmetricState}
 pub use Rattle.noise_handshake.specs.Counterparts.{Counterparts, DhResultsAgree, DhResultsAlike, IsEquipped, counterpart, is_dh, keys_if, shown_after, shown_before, xor_agreement, xor_public}
 pub use Rattle.noise_handshake.specs.HandshakeValue.{Advances, HandshakeValue, HasPsks, IsAgreement, ended_as, is_turn, length_now, length_unless, message_len_of, read_fault, write_fault}
-pub use Rattle.noise_handshake.specs.Asking.{LeavesUnread, LeavesUnwritten, Wants, WantsPskToRead, WantsPskToWrite, after_asked}
-pub use Rattle.noise_handshake.specs.Late.{IsLateWhole, MatchesWith, with_later}
+pub use Rattle.noise_handshake.specs.Asking.{Wants, WantsPskToRead, WantsPskToWrite}
+pub use Rattle.noise_handshake.specs.Late.{IsLateWhole, IsPskAfter, MatchesWith, with_later}
 pub use Rattle.noise_handshake.specs.Length.{Carries, Carry, added_width, keyed_after, keyed_after_tokens, tag_width, token_width, tokens_width}
 pub use Rattle.noise_handshake.specs.Matching.{DoesNotRead, DoesNotWrite, IsKeyed, IsSupplied, Matches, ValueMatches, after_message, after_not_read, after_not_written, after_own, ended_party}
 pub use Rattle.noise_handshake.specs.Message.{after_payload, after_token, after_tokens, before_payload, message_bytes, token_bytes, with_ephemeral}
@@ -48,7 +48,6 @@ pub use Rattle.noise_handshake.specs.declared.remote.Remote.{Remote}
 pub use Rattle.noise_handshake.specs.inner.Kept.{IsKept, held_in}
 pub use Rattle.noise_handshake.specs.inner.Keying.{Keying, keying_after, keying_of}
 pub use Rattle.noise_handshake.specs.inner.Known.{KnowsRemote, are_known, has_after, has_after_tokens, is_known, remote_known}
-pub use Rattle.noise_handshake.specs.inner.Late.{IsPskAfter}
 pub use Rattle.noise_handshake.specs.inner.Layout.{ArePlaced, IsLaid, LaysNext, placed_from, tokens_of}
 pub use Rattle.noise_handshake.specs.inner.Listening.{BeginsBefore, Fails, Listening, StopsKnowing, width_of_key}
 pub use Rattle.noise_handshake.specs.inner.Means.{reader_of, writer_of}

@@ -1,6 +1,6 @@
 -- What holds of every handshake holds after a message.
-use Rattle.std.proofs.Common.{rules, ◌≡◌, ℕ, suc, ◌+◌, ◌-◌, ◌*◌, ◌<◌, ◌≤◌, List, length, drop, ap, sym, subst, ◌∙◌, arith, length-drop}
-use Rattle.noise_handshake.proofs.Common.{Option, count_by, Token, is_psk, has_psk, has_key, keyed, nonce_now, SymmetricState, Own, Remote, keyed_after_tokens, tokens_at, HandshakeValue, nonce_after_message, nonce_due, psks_of, IsSound, passed_places}
+use Rattle.std.proofs.Common.{rules, ◌≡◌, ℕ, suc, ◌+◌, ◌*◌, ◌<◌, ◌≤◌, List, length, drop, ap, sym, subst, ◌∙◌, arith, length-drop}
+use Rattle.noise_handshake.proofs.Common.{count_by, Token, is_psk, has_psk, has_key, keyed, nonce_now, SymmetricState, Remote, keyed_after_tokens, tokens_at, HandshakeValue, nonce_after_message, nonce_due, psks_of, IsSound, passed_places}
 use Rattle.noise_handshake.proofs.Counting.{bound-after, due-next, message-most}
 use Rattle.noise_handshake.proofs.Places.{has_key-passed}
 use Rattle.noise_keys.specs.Keys.{KeyPairs}

@@ -1,7 +1,7 @@
 -- The next message of a handshake: what its fields give a reader or a writer, and what they hold after it.
 use Rattle.std.proofs.Common.{rules, ◌≡◌, ℕ, ◌+◌, ◌-◌, ◌<◌, ◌≤◌, ◌^◌, List, Bool, true, false, length, take, drop, sym, ap, subst, refl, ◌∙◌, arith, length-drop, drop-drop}
 use Rattle.std.specs.Prelude.{is_some, not}
-use Rattle.noise_handshake.proofs.Common.{length-take-le, None, Option, Some, count_by, ◌&&◌, ◌==◌, list_all, Token, E, S, Initiator, is_psk, other, turn_from, Plan, has_psk, has_key, overhead_of, StateMatches, keyed, nonce_now, SymmetricState, Own, MessageLayout, PlacedToken, Remote, HandshakeValue, HasPsks, Advances, is_turn, message_len_of, read_fault, write_fault, added_width, keyed_after_tokens, after_payload, nonce_after_message, ValueMatches, after_message, after_own, passed_places, Party, remote_after, tokens_at, tokens_now, held_in, IsKept, IsPskAfter, KnowsRemote, are_known, is_known, has_after_tokens, tokens_of, ArePlaced, LaysNext, Listening, Speaking, has_own}
+use Rattle.noise_handshake.proofs.Common.{length-take-le, None, Some, count_by, ◌&&◌, ◌==◌, list_all, Token, E, S, Initiator, is_psk, other, turn_from, Plan, has_psk, has_key, overhead_of, StateMatches, keyed, nonce_now, SymmetricState, MessageLayout, PlacedToken, Remote, HandshakeValue, HasPsks, Advances, is_turn, message_len_of, read_fault, write_fault, added_width, keyed_after_tokens, after_payload, nonce_after_message, ValueMatches, after_message, after_own, passed_places, Party, remote_after, tokens_at, tokens_now, held_in, IsKept, IsPskAfter, KnowsRemote, are_known, is_known, has_after_tokens, tokens_of, ArePlaced, LaysNext, Listening, Speaking, has_own}
 use Rattle.noise_handshake.specs.declared.handshake.Handshake.TheInside.{Inside}
 use Rattle.noise_handshake.proofs.Advancing.{advanced, unended-read, unended-write}
 use Rattle.noise_handshake.proofs.Keeping.{key-after, sound-after}

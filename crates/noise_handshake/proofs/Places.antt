@@ -1,5 +1,5 @@
 -- Whether there is a key along the places of a pattern, and how much longer than its payload a message is.
-use Rattle.std.proofs.Common.{rules, ◌≡◌, ℕ, ◌+◌, ◌-◌, ◌<◌, List, [], ◌∷◌, ◌++◌, length, take, refl, ap, sym, ◌∙◌, arith, append_assoc, append-nil}
+use Rattle.std.proofs.Common.{rules, ◌≡◌, ℕ, ◌+◌, ◌<◌, List, [], ◌∷◌, ◌++◌, length, take, refl, ap, sym, ◌∙◌, arith, append_assoc, append-nil}
 use Rattle.std.specs.Prelude.{Bool, false}
 use Rattle.noise_handshake.proofs.Common.{◌||◌, ◌&&◌, take_more, list_any-append, Role, Initiator, Responder, Token, E, S, Ee, Es, Se, Ss, turn_from, Plan, does, payload, Place, place, token_places, message_places, has_psk, is_at, occurs, has_key, added_len, overhead_from, overhead_of, keyed_after, keyed_after_tokens, token_width, added_width, passed_places, tokens_at}
 use Rattle.noise_names.specs.declared.token.Token.TheVariants.{Psk}

@@ -1,5 +1,5 @@
 -- The place of a psk token among tokens.
-use Rattle.std.proofs.Common.{rules, ◌≡◌, ℕ, suc, ◌+◌, ◌≤◌, List, [], ◌∷◌, ◌++◌, length, take, ap, sym, ◌∙◌, arith, length-take}
+use Rattle.std.proofs.Common.{rules, ◌≡◌, ℕ, suc, ◌≤◌, List, [], ◌∷◌, ◌++◌, length, take, drop, ap, sym, ◌∙◌, arith, length-take}
 use Rattle.noise_handshake.proofs.Common.{take-append_seam, sum_by-append, count_by, Token, is_psk, IsPskAfter}
 use Rattle.noise_names.specs.declared.token.Token.TheVariants.{Psk}
 use Rattle.noise_handshake.proofs.Later.{count-take, count-less}
@@ -30,3 +30,10 @@ psk-place ts before later n k a e c =
     (λ h. omega (arith, theirs, a.count, count-less ts (suc (length before)) k (omega (arith, h))))
     (λ h. omega (arith, mine, count, count-less ts (suc k) (length before) (omega (arith, h)))) in
     sym seam ∙ ap (λ (j : ℕ). take j ts) same
+
+pub no-place : (ts : List Token) (n k : ℕ) → count_by is_psk ts ≤ n → IsPskAfter ts n k → ⊥
+no-place ts n k few a = no-psk ts (take k ts) (drop (suc k) ts) n few a.tokens a.count
+
+pub one-place : (ts : List Token) (n k j : ℕ) → IsPskAfter ts n k → IsPskAfter ts n j → k ≡ j
+one-place ts n k j a b =
+    omega (arith, ap length (psk-place ts (take j ts) (drop (suc j) ts) n k a b.tokens b.count), length-take k ts, length-take j ts, a.within, b.within)

@@ -1,7 +1,7 @@
 -- What holds of every handshake, and what a caller's parts are tested for.
-use Rattle.std.proofs.Common.{◌≡◌, ℕ, List, Bool, true, false}
+use Rattle.std.proofs.Common.{◌≡◌, Bool, true, false}
 use Rattle.std.specs.Prelude.{not}
-use Rattle.noise_handshake.proofs.Common.{and_from, and_parts, not-true, not_from_false, ◌&&◌, Option, has_key, keyed, nonce_now, Own, HandshakeValue, nonce_due, passed_places}
+use Rattle.noise_handshake.proofs.Common.{and_from, and_parts, not-true, not_from_false, ◌&&◌, has_key, keyed, nonce_now, HandshakeValue, nonce_due, passed_places}
 use Rattle.noise_keys.specs.Keys.{KeyPairs}
 
 left : (a b : Bool) → (not a && not b) ≡ true → a ≡ false

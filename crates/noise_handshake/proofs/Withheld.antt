@@ -1,7 +1,7 @@
 -- Why a payload isn't written, whatever the keys agree on.
-use Rattle.std.proofs.Common.{rules, ◌≡◌, ℕ, ◌+◌, ◌<◌, ◌≤◌, List, true, length}
+use Rattle.std.proofs.Common.{rules, ◌≡◌, ℕ, ◌+◌, ◌<◌, ◌≤◌, true, length}
 use Rattle.std.specs.Prelude.{nat_lt}
-use Rattle.noise_handshake.proofs.Common.{Option, Some, overhead_of, Own, WriteFault, HandshakeValue, length_now, write_fault, ValueMatches, DoesNotWrite, Party}
+use Rattle.noise_handshake.proofs.Common.{Some, overhead_of, WriteFault, HandshakeValue, length_now, write_fault, ValueMatches, DoesNotWrite, Party}
 use Rattle.noise_keys.specs.Keys.{KeyPairs}
 
 module _ {K : Type 0} (pairs : K → KeyPairs) (h : HandshakeValue K) (v : Party)

@@ -1,11 +1,10 @@
 -- The parts of a handshake, for a caller that keeps them itself between two messages.
-use Rattle.std.specs.Prelude.{◌≡◌, ℕ, ◌≤◌, List, length, drop, false, Option, is_some}
+use Rattle.std.specs.Prelude.{◌≡◌, ℕ, ◌≤◌, List, length, drop, false, is_some}
 use Rattle.noise_names.specs.declared.token.Token.TheVariants.{E, S}
 use Rattle.noise_names.specs.Tokens.{other}
 use Rattle.noise_names.specs.Validity.{is_among}
 use Rattle.noise_names.specs.Overhead.{has_key}
 use Rattle.noise_state.specs.Standing.{keyed, nonce_now, state_of}
-use Rattle.noise_keys.specs.declared.keys.Own.{Own}
 use Rattle.noise_keys.specs.declared.keys.Own.TheVariants.{Ephemeral, Static}
 use Rattle.noise_handshake.specs.declared.parts.Parts.{Parts}
 use Rattle.noise_handshake.specs.declared.parts.Progress.{Progress}

@@ -3,7 +3,6 @@ pub mod Kept
 pub mod Keyed
 pub mod Keying
 pub mod Known
-pub mod Late
 pub mod Layout
 pub mod Listening
 pub mod Means

@@ -7,7 +7,7 @@ use crate::stop::Stop;
 use crate::{Handshake, Keys, Unread, Unwritten, Want};
 
 impl<K: Keys> Handshake<K> {
-    ghost use Rattle.noise_handshake.specs.Party.{Party, Refuses, tokens_at};
+    ghost use Rattle.noise_handshake.specs.Party.{Party, Refuses};
     ghost use Rattle.noise_handshake.specs.declared.faults.Cause.TheVariants.{Agreement};
     ghost use Rattle.noise_handshake.specs.declared.faults.ReadFault.TheVariants.{Refused};
     ghost use Rattle.noise_handshake.specs.declared.faults.Want.{Want};
@@ -17,16 +17,15 @@ impl<K: Keys> Handshake<K> {
     ghost use Rattle.noise_handshake.specs.Calls.{HasReadAt, HasWrittenTo, IsLeftUnread, IsLeftUnwritten, IsPlaceIn, IsSameAround, speaks_now};
     ghost use Rattle.noise_handshake.specs.HandshakeValue.{read_fault, write_fault, message_len_of, Advances, HasPsks};
     ghost use Rattle.noise_handshake.specs.HandshakeValue.{after_unread, after_unwritten, IsOfDue, IsOfTurn, IsWant};
-    ghost use Rattle.noise_handshake.specs.Late.{MatchesWith};
+    ghost use Rattle.noise_handshake.specs.Late.{LacksPskAt, MatchesWith};
     ghost use Rattle.noise_handshake.specs.Writing.{LacksDhResult};
-    ghost use Rattle.noise_handshake.specs.inner.Late.{IsPskAfter};
 
     // What reading a due message lacks at or before token k, its first psk token without a psk; or where it is refused
     // before.
     fn read_to_psk(&self, k: usize, message: &[u8]) -> Result<Want, Stop>
         requires due { read_fault self.now ≡ None }
         requires within { self.now.passed ≤ length self.now.pattern.messages }
-        requires psk { IsPskAfter (tokens_at self.now.pattern.messages self.now.passed) (length self.now.psks) k }
+        requires psk { LacksPskAt self.now k }
         ensures wants { (v : Party) (later : List (List ℕ)) → MatchesWith K.pairs later self.now v
             → let leaves = LeavesUnread v (length self.now.psks) message.now in MatchResult result
             (λ want. leaves (Unread.Wants want)) (λ s. leaves (Unread.Declined (Refused s.token s.cause))) }

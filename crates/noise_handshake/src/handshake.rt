@@ -59,18 +59,20 @@ impl<K: Keys> Handshake<K> {
     ghost use Rattle.noise_names.specs.Plan.{has_psk};
     ghost use Rattle.noise_names.specs.Overhead.{has_key, overhead_of};
     ghost use Rattle.noise_state.specs.History.{hash};
+    ghost use Rattle.noise_handshake.specs.declared.faults.Cause.{Cause};
+    ghost use Rattle.noise_handshake.specs.declared.faults.ReadFault.{ReadFault};
+    ghost use Rattle.noise_handshake.specs.declared.faults.WriteFault.{WriteFault};
     ghost use Rattle.noise_handshake.specs.Passed.{passed_places};
     ghost use Rattle.noise_handshake.specs.Party.{Party, Refuses, Speaks, reader, tokens_at, tokens_now};
     ghost use Rattle.noise_handshake.specs.HandshakeValue.{is_turn, read_fault, after_read_fault, write_fault, after_write_fault, message_len_of, IsRefusal};
     ghost use Rattle.noise_handshake.specs.HandshakeValue.{IsAgreement, HasPsks, Advances, ended_as};
     ghost use Rattle.noise_handshake.specs.Calls.{HasBegun, HasNotRead, HasNotWritten, HasRead, HasReadAt, HasWrittenTo, IsPlaceIn, IsSameAround, ReadingWants, WritingWants, speaks_now};
-    ghost use Rattle.noise_handshake.specs.Late.{IsLateWhole, MatchesWith, late_fault, with_later};
+    ghost use Rattle.noise_handshake.specs.Late.{IsLateWhole, LacksPskAt, MatchesWith, late_fault, with_later};
     ghost use Rattle.noise_handshake.specs.Matching.{Matches, ValueMatches, DoesNotWrite, IsSupplied};
     ghost use Rattle.noise_handshake.specs.Opening.{IsOpenedOf};
     ghost use Rattle.noise_handshake.specs.Parts.{held_of, HasProgress, IsWholeValue};
     ghost use Rattle.noise_handshake.specs.Setup.{party_at_start, psks_of, setup_fault};
     ghost use Rattle.noise_handshake.specs.Writing.{Writes, writer};
-    ghost use Rattle.noise_handshake.specs.inner.Late.{IsPskAfter};
     ghost use Rattle.noise_handshake.specs.inner.Layout.{IsLaid};
     ghost use Rattle.noise_handshake.specs.inner.Listening.{BeginsBefore, StopsBefore};
     ghost use Rattle.noise_handshake.specs.inner.Speaking.{WriterWants};
@@ -383,8 +385,8 @@ impl<K: Keys> Handshake<K> {
     // The first token of the next message, counted from 0, that is a psk token without a psk, if there is one.
     pub(crate) fn lacks_psk(&self) -> Option<u8>
         requires due { self.now.passed < length self.now.pattern.messages }
-        ensures lacks { MatchOption result (HasPsks self.now)
-            (λ k. IsPskAfter (tokens_at self.now.pattern.messages self.now.passed) (length self.now.psks) k) }
+        ensures lacks { MatchOption result (HasPsks self.now) (LacksPskAt self.now) }
+        ensures first { (k : ℕ) → LacksPskAt self.now k → result ≡ Some k }
     {
         match psk_after(&self.next.tokens, self.psks.len() - self.used) {
             Some(k) => Some(k as u8),
@@ -445,6 +447,8 @@ impl<K: Keys> Handshake<K> {
             (HasReadAt (Matches K.pairs) v message.old message.new self.new)
             (HasNotRead (Matches K.pairs) v message.old self.new) }
         ensures psks { IfOk result (λ _. HasPsks self.old) }
+        ensures lacks { read_fault self.old ≡ None → (k : ℕ) → LacksPskAt self.old k
+            → result ≡ Err (ReadFault.Refused k Cause.Agreement) }
     {
         if let Some(fault) = self.read_fault() {
             return Err(fault);
@@ -481,6 +485,8 @@ impl<K: Keys> Handshake<K> {
             (λ payload. HasRead (Matches K.pairs) v message.old payload.now self.new)
             (HasNotRead (Matches K.pairs) v message.old self.new) }
         ensures psks { IfOk result (λ _. HasPsks self.old) }
+        ensures lacks { read_fault self.old ≡ None → (k : ℕ) → LacksPskAt self.old k
+            → result ≡ Err (ReadFault.Refused k Cause.Agreement) }
     {
         let (from, to) = self.read_within(message)?;
         Ok(&mut message[from..to])
@@ -573,6 +579,8 @@ impl<K: Keys> Handshake<K> {
             (HasWrittenTo (Matches K.pairs) v payload.now out.new self.new)
             (HasNotWritten (Matches K.pairs) v (length payload.now) self.new) }
         ensures psks { IfOk result (λ _. HasPsks self.old) }
+        ensures lacks { write_fault self.old (length payload.now) ≡ None → (k : ℕ) → LacksPskAt self.old k
+            → result ≡ Err (WriteFault.Agreement k) }
     {
         if let Some(fault) = self.write_fault(payload.len()) {
             return Err(fault);

@@ -6,9 +6,9 @@ ghost use Rattle.noise_names.specs.Tokens.{is_psk};
 ghost use Rattle.noise_names.specs.Plan.{has_psk};
 ghost use Rattle.noise_names.specs.Overhead.{has_key};
 ghost use Rattle.noise_handshake.specs.Passed.{passed_places};
+ghost use Rattle.noise_handshake.specs.Late.{IsPskAfter};
 ghost use Rattle.noise_handshake.specs.Length.{keyed_after, keyed_after_tokens, token_width, tokens_width};
 ghost use Rattle.noise_handshake.specs.inner.Layout.{placed_from, tokens_of, IsLaid, LaysNext};
-ghost use Rattle.noise_handshake.specs.inner.Late.{IsPskAfter};
 
 use crate::tokens::psk_count;
 use arrayvec::ArrayVec;

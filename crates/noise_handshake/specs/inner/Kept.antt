@@ -1,5 +1,5 @@
 -- What the fields of a handshake hold.
-use Rattle.std.specs.Prelude.{◌≡◌, ◌≤◌, ℕ, List, Option, length, drop}
+use Rattle.std.specs.Prelude.{◌≡◌, ◌≤◌, length, drop}
 use Rattle.noise_names.specs.Plan.{has_psk}
 use Rattle.noise_names.specs.Validity.{IsValid}
 use Rattle.noise_names.specs.Limits.{IsPattern}

@@ -1,5 +1,4 @@
 -- What reading and writing ask of a party.
-use Rattle.std.specs.Prelude.{ℕ, List, Option}
 use Rattle.noise_keys.specs.Keys.{KeyPairs}
 use Rattle.noise_handshake.specs.Party.{Reader}
 use Rattle.noise_handshake.specs.Writing.{Writer}

@@ -1,11 +1,10 @@
 -- What holds of every handshake.
-use Rattle.std.specs.Prelude.{◌≡◌, ℕ, ◌≤◌, ◌*◌, List, length, drop, true, Option, is_some}
+use Rattle.std.specs.Prelude.{◌≡◌, ◌≤◌, ◌*◌, length, drop, true, is_some}
 use Rattle.noise_names.specs.declared.token.Token.TheVariants.{E, S}
 use Rattle.noise_names.specs.Plan.{places_of}
 use Rattle.noise_names.specs.Validity.{is_among}
 use Rattle.noise_names.specs.Overhead.{has_key}
 use Rattle.noise_state.specs.Standing.{keyed, nonce_now}
-use Rattle.noise_keys.specs.declared.keys.Own.{Own}
 use Rattle.noise_keys.specs.declared.keys.Own.TheVariants.{Ephemeral, Static}
 use Rattle.noise_handshake.specs.HandshakeValue.{HandshakeValue}
 use Rattle.noise_handshake.specs.Nonces.{nonce_due}

@@ -1,5 +1,5 @@
 use Rattle.std.proofs.Common.{rules, ℕ, List, ap, subst, arith}
-use Rattle.noise_handshake.proofs.Common.{writer_of, MatchOption, count_by, Token, is_psk, LacksDhResultFor, Writer, LacksDhResultAt, tokens_of}
+use Rattle.noise_handshake.proofs.Common.{writer_of, MatchOption, count_by, Token, is_psk, LacksDhResultFor, Writer, LacksDhResultAt}
 use Rattle.noise_handshake.proofs.Fronts.{tokens-take, all-take}
 use Rattle.noise_handshake.proofs.writer.write_lacking_before.Goals as goal
 

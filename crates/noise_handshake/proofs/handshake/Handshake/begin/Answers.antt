@@ -1,4 +1,4 @@
-use Rattle.std.proofs.Common.{◌≡◌, ℕ, length, ap, sym, subst, ◌∙◌, arith}
+use Rattle.std.proofs.Common.{◌≡◌, ℕ, ap, sym, subst, ◌∙◌, arith}
 use Rattle.std.specs.Prelude.{Bool, not, false}
 use Rattle.noise_handshake.proofs.Common.{None, Initiator, Responder, Plan, has_psk, IsPattern, Remote, HandshakeValue, keys_of, setup_fault, psks_of, IsSound, LaysNext, E, S, other, KnowsRemote}
 use Rattle.noise_handshake.specs.inner.PreMessage.{HasPre}

@@ -1,4 +1,4 @@
-use Rattle.std.proofs.Common.{rules, ◌-◌, length-drop, take_all}
+use Rattle.std.proofs.Common.{rules, length-drop, take_all}
 use Rattle.noise_handshake.proofs.Starting.{few-left}
 use Rattle.noise_handshake.proofs.handshake.Handshake.psks_to_come.Goals as goal
 

@@ -1,4 +1,4 @@
-use Rattle.std.proofs.Common.{rules, refl, sym, ◌∙◌}
+use Rattle.std.proofs.Common.{rules, refl}
 use Rattle.noise_handshake.proofs.Next.{reads-next, places-next, psks-next, nonces-next, known-next, trial-next, listening-next}
 use Rattle.noise_handshake.proofs.Wanted.{wants}
 use Rattle.noise_handshake.proofs.handshake.Handshake.read_lacking.Goals as goal

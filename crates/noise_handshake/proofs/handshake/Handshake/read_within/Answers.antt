@@ -1,5 +1,3 @@
-use Rattle.std.proofs.Common.{ap, sym, subst, ◌∙◌}
-use Rattle.noise_handshake.proofs.Common.{DoesNotRead, Matches, ReadFault, after_not_read}
 use Rattle.noise_handshake.proofs.LateParties.{matches-of, supplied-after, supplied-not, value-of}
 use Rattle.noise_handshake.proofs.handshake.Handshake.read_within.Goals as goal
 

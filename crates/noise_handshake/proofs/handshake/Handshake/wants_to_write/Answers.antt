@@ -1,4 +1,4 @@
-use Rattle.std.proofs.Common.{ap, ◌∙◌, arith}
+use Rattle.std.proofs.Common.{ap, ◌∙◌}
 use Rattle.noise_handshake.proofs.Common.{Remote}
 use Rattle.noise_handshake.proofs.LateParties.{holding, matches-given, write-none, write-dh-result, write-before, write-before-not, write-psk}
 use Rattle.noise_handshake.proofs.handshake.Handshake.wants_to_write.Goals as goal

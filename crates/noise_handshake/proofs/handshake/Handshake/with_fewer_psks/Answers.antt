@@ -1,5 +1,5 @@
 use Rattle.std.proofs.Common.{◌≡◌, ◌++◌, ℕ, List, length, ap, sym, ◌∙◌, arith}
-use Rattle.noise_handshake.proofs.Common.{None, Plan, psks_of, setup_fault}
+use Rattle.noise_handshake.proofs.Common.{None, Plan, setup_fault}
 use Rattle.noise_handshake.proofs.Setting.{counted}
 use Rattle.noise_handshake.proofs.handshake.Handshake.with_fewer_psks.Goals as goal
 

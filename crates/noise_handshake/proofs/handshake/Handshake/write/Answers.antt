@@ -1,5 +1,5 @@
-use Rattle.std.proofs.Common.{◌≡◌, ◌≤◌, ℕ, length, sym, subst, ◌∙◌}
-use Rattle.noise_handshake.proofs.Common.{HandshakeValue, Matches, Party, Some, WriteFault, write_fault}
+use Rattle.std.proofs.Common.{◌≡◌, ℕ, length, sym, subst, ◌∙◌}
+use Rattle.noise_handshake.proofs.Common.{Matches, Party, Some, WriteFault, write_fault}
 use Rattle.noise_handshake.proofs.LateParties.{fault-no-agreement, supplied-not, value-of, withheld-view, writes-supplied}
 use Rattle.noise_handshake.proofs.Withheld.{withholds-of}
 use Rattle.noise_handshake.proofs.handshake.Handshake.write.Goals as goal

@@ -1,5 +1,5 @@
-use Rattle.std.proofs.Common.{rules, ◌≡◌, ℕ, ◌+◌, ◌≤◌, length, take, refl, ap, sym, subst, true, ◌∙◌, arith, length-take}
-use Rattle.noise_handshake.proofs.Common.{Some, WriteFault, HandshakeValue, write_fault, ValueMatches, Party, held_in}
+use Rattle.std.proofs.Common.{rules, ℕ, ◌+◌, ◌≤◌, length, take, refl, ap, sym, subst, true, ◌∙◌, arith, length-take}
+use Rattle.noise_handshake.proofs.Common.{Some, HandshakeValue, ValueMatches, held_in}
 use Rattle.noise_handshake.proofs.Layouts.{length-tokens_of}
 use Rattle.noise_handshake.proofs.Next.{writes-next, writes-ours, writes-unended, writes-long, writes-wide, writes-room, writes-most, psks-next, nonces-next, own-ours, used-next, key-next, unchanged-wrote, advances-next, trial-next, speaking-next, after-wrote, short-next}
 use Rattle.noise_handshake.proofs.Standing.{ends}

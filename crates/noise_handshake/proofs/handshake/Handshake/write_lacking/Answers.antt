@@ -1,4 +1,4 @@
-use Rattle.std.proofs.Common.{rules, sym, ◌∙◌}
+use Rattle.std.proofs.Common.{rules}
 use Rattle.noise_handshake.proofs.Lacked.{wants}
 use Rattle.noise_handshake.proofs.Next.{speaks-next, speaks-ours, psks-next, own-ours, known-ours, due-next}
 use Rattle.noise_handshake.proofs.handshake.Handshake.write_lacking.Goals as goal

@@ -1,5 +1,5 @@
 use Rattle.std.proofs.Common.{ℕ, length, sym, subst, ◌∙◌, arith, suc}
-use Rattle.noise_handshake.proofs.Common.{HasPsks, IsAgreement, LacksDhResult, MatchOption, MatchesWith, Option, Party, ValueMatches, Wants, tokens_now}
+use Rattle.noise_handshake.proofs.Common.{HasPsks, IsAgreement, LacksDhResult, MatchOption, Option, Party, ValueMatches, Wants, tokens_now}
 use Rattle.noise_handshake.specs.declared.faults.Want.{Want}
 use Rattle.noise_handshake.proofs.LateParties.{holding, matches-given, agrees, few-now, after-written, writes-partial, matches-same, fault-no-agreement, speaks-due, written-no-agreement, withholds-partial, lacks-partial, withheld-view}
 use Rattle.noise_handshake.proofs.Later.{count-take}
