@@ -1,6 +1,7 @@
 -- Why a payload isn't written, by the faults of a handshake and of a transport.
-use Rattle.std.proofs.Common.{◌≡◌, ℕ, ◌==◌, nat_lt, List, length, Bool, true, false, not, ◌&&◌, Option, Some, None, Result, Ok, Err, MatchOption, IfErr, IsOk, if◌then◌else◌, refl}
-use Rattle.noise_session.proofs.Common.{⊤, HandshakeValue, is_turn, write_fault, length_now, IsAgreement, SendFault, Progress, refusal, Handshaking}
+use Rattle.std.proofs.Common.{◌≡◌, ℕ, ◌==◌, ◌-◌, nat_lt, List, length, take, drop, Bool, true, false, not, ◌&&◌, Option, Some, None, Result, Ok, Err, MatchOption, IfErr, IsOk, if◌then◌else◌, refl}
+use Rattle.noise_session.proofs.Common.{⊤, put_mid, HandshakeValue, is_turn, write_fault, length_now, IsAgreement, SendFault, Progress, refusal, Handshaking}
+use Rattle.noise_session.proofs.Places.{unwritten}
 use Rattle.noise_handshake.specs.declared.faults.WriteFault.{WriteFault}
 use Rattle.noise_handshake.specs.declared.faults.WriteFault.TheVariants as write
 use Rattle.noise_session.specs.declared.faults.SendFault.TheVariants as fault
@@ -85,8 +86,9 @@ pub seal-refused : (o : Option SendFault) (f : SendFault) → MatchOption o (IsO
 seal-refused None f h = cc
 seal-refused (Some e) f h = cc
 
--- what is refused without a change stays so where an `Err` is passed on
-pub refused-too : (o : Option SendFault) (r s : Result ℕ SendFault) (a b c d : List ℕ) → MatchOption o ⊤ (λ f. (r ≡ Err f) × (a ≡ b))
-    → ((f : SendFault) → r ≡ Err f → s ≡ Err f) → (a ≡ b → c ≡ d) → MatchOption o ⊤ (λ f. (s ≡ Err f) × (c ≡ d))
-refused-too None r s a b c d h passed same = tt
-refused-too (Some f) r s a b c d h passed same = (passed f h.0, same h.1)
+-- what is refused leaves a buffer as it was, where it leaves its end so
+pub refused-whole : (o : Option SendFault) (r : Result ℕ SendFault) (start : ℕ) (out written : List ℕ)
+    → MatchOption o ⊤ (λ f. (r ≡ Err f) × (written ≡ take (length out - start) (drop start out)))
+    → MatchOption o ⊤ (λ f. (r ≡ Err f) × (put_mid start (length out - start) out written ≡ out))
+refused-whole None r start out written h = tt
+refused-whole (Some f) r start out written h = (h.0, unwritten out written start h.1)

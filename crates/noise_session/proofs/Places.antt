@@ -1,5 +1,5 @@
 -- Parts of a buffer.
-use Rattle.std.proofs.Common.{◌≡◌, ℕ, ◌+◌, ◌-◌, ◌≤◌, List, ◌++◌, length, take, drop, arith, rules, refl, ◌∙◌, ap, length-drop, length-append}
+use Rattle.std.proofs.Common.{◌≡◌, ℕ, ◌+◌, ◌-◌, ◌≤◌, List, ◌++◌, length, take, drop, arith, rules, refl, ◌∙◌, ap, length-drop}
 use Rattle.std.proofs.lemmas.List.{append-nil}
 use Rattle.noise_session.proofs.Common.{take-append-drop, places, same_lists, drop_at, drop-drop, take_rest, length-take-le, nil_from_length, put_mid, frame, reported_in, MatchesIn, Payload, slice_range}
 use Rattle.noise_session.specs.declared.step.Step.{Step}
@@ -56,7 +56,3 @@ framed n k out written new two is = is ∙ ap (λ (xs : List ℕ). frame (take n
 -- what is left after the first bytes of a buffer holds a message
 pub room-after : (at : ℕ) (out : List ℕ) (m from : ℕ) → at + m ≤ length out → from ≤ at → m ≤ length (take (length out - from) (drop from out))
 room-after at out m from room low = search (rules, length-drop)
-
--- what is written after the first bytes leaves room for the whole
-pub room-left : (at n : ℕ) (out written : List ℕ) → at ≤ length out → n ≤ length written → n + at ≤ length (put_mid at (length out - at) out written)
-room-left at n out written some within = search (rules, length-append)

@@ -58,14 +58,11 @@ pub transport_opens : {T : Type 0} (t u : TransportValue) (h next : HalfValue) (
 transport_opens t u h next message r payload_in viewed is o = search rules
 
 -- the payload, where it was copied to the front
-pub copied-there : (payload copied out : List ℕ) → copied ≡ payload → take (length payload) (copied ++ drop (length payload) out) ≡ payload
+copied-there : (payload copied out : List ℕ) → copied ≡ payload → take (length payload) (copied ++ drop (length payload) out) ≡ payload
 copied-there payload copied out same = take_at copied (drop (length payload) out) (length payload) (ap length same) ∙ same
 
-pub seals-of : (h next : HalfValue) (n : ℕ) (p q out after : List ℕ) (r : Result ℕ SendFault) → p ≡ q → SenderSeals h next n p out after r → SenderSeals h next n q out after r
-seals-of h next n p q out after r is s = subst (λ (x : List ℕ). SenderSeals h next n x out after r) is s
-
 -- what is after the message, where the payload was copied to the front
-pub after-copy : (r : Result ℕ SendFault) (payload copied out new : List ℕ) → copied ≡ payload
+after-copy : (r : Result ℕ SendFault) (payload copied out new : List ℕ) → copied ≡ payload
     → IfOk r (λ n. drop n new ≡ drop n (copied ++ drop (length payload) out)) → IfOk r (λ n. (n ≡ length payload + 16) × (n ≤ length new))
     → IfOk r (λ n. drop n new ≡ drop n out)
 after-copy (Err fault) payload copied out new same rest len = tt
@@ -75,3 +72,22 @@ after-copy (Ok n) payload copied out new same rest len =
     let is : drop (m + 16) all ≡ drop (m + 16) out =
     sym (drop-drop 16 m all) ∙ ap (drop 16) (drop_at copied (drop m out) m (ap length same)) ∙ drop-drop 16 m out in
     rest ∙ subst (λ (k : ℕ). drop k all ≡ drop k out) (sym len.0) is
+
+-- a payload that was copied to the front is sealed there
+pub seals-copied : (h next : HalfValue) (payload copied out new : List ℕ) (k : ℕ) → copied ≡ payload
+    → SenderSeals h next (length payload) (take (length payload) (copied ++ drop (length payload) out)) (copied ++ drop (length payload) out) new (Ok k)
+    → SenderSeals h next (length payload) payload out new (Ok k)
+seals-copied h next payload copied out new k same sealed =
+    let all = copied ++ drop (length payload) out in
+    let s = subst (λ (x : List ℕ). SenderSeals h next (length payload) x all new (Ok k)) (copied-there payload copied out same) sealed in
+    record {
+      fault = s.fault;
+      below = s.below;
+      len = s.len;
+      rest = after-copy (Ok k) payload copied out new same s.rest s.len;
+      counted = s.counted;
+      unchanged = tt;
+      sealed = s.sealed;
+      renewed = s.renewed;
+      seals = s.seals;
+    }

@@ -120,7 +120,8 @@ impl Sender {
         if let Some(fault) = self.refusal(payload.len()) {
             return Err(fault);
         }
-        Ok(self.seal_due(payload, out))
+        out[..payload.len()].copy_from_slice(payload);
+        Ok(self.seal_due(out, payload.len()))
     }
 
     /// Seals the payload in the first `payload_len` bytes of `buffer` in place: the message is in the first bytes, 16
@@ -138,7 +139,7 @@ impl Sender {
         if let Some(fault) = self.refusal(payload_len) {
             return Err(fault);
         }
-        Ok(self.encrypt_due(buffer, payload_len))
+        Ok(self.seal_due(buffer, payload_len))
     }
 
     /// Seals a payload as a frame into the first bytes of `out`, 18 more than it has: the message after its length in 2
@@ -152,22 +153,14 @@ impl Sender {
         if let Some(fault) = self.refusal(payload.len()) {
             return Err(fault);
         }
-        let len = self.seal_due(payload, &mut out[2..]);
+        let message = &mut out[2..];
+        message[..payload.len()].copy_from_slice(payload);
+        let len = self.seal_due(message, payload.len());
         Ok(frame_message(out, len))
     }
 
-    // Seals a payload for which there is no fault.
-    fn seal_due(&mut self, payload: &[u8], out: &mut [u8]) -> usize
-        requires due { sender_fault self.old (length payload.now) ≡ None }
-        requires room { length payload.now + 16 ≤ length out.old }
-        ensures seals { SenderSeals self.old self.new (length payload.now) payload.now out.old out.new (Ok result) }
-    {
-        out[..payload.len()].copy_from_slice(payload);
-        self.encrypt_due(out, payload.len())
-    }
-
     // Seals the payload at the front of `buffer` in place, for which there is no fault.
-    fn encrypt_due(&mut self, buffer: &mut [u8], payload_len: usize) -> usize
+    fn seal_due(&mut self, buffer: &mut [u8], payload_len: usize) -> usize
         requires due { sender_fault self.old payload_len ≡ None }
         requires room { payload_len + 16 ≤ length buffer.old }
         ensures seals { SenderSeals self.old self.new payload_len (take payload_len buffer.old) buffer.old buffer.new (Ok result) }

@@ -1,6 +1,6 @@
 //! The state of an `End`: its party, and what has come of the next frame.
 
-ghost use Rattle.std.specs.Prelude.{◌≡◌, ◌≤◌, ℕ, List, [], length, drop, true, None, Err, IsTrue, IsSome, IfOk, IfErr, IfSome};
+ghost use Rattle.std.specs.Prelude.{◌≡◌, ◌≤◌, ℕ, [], length, drop, true, None, Err, IsTrue, IsSome, IfOk, IfErr, IfSome};
 ghost use Rattle.std.specs.Option.{ForSome};
 ghost use Rattle.std.specs.Io.KnownBytes.{IsAtEnd};
 ghost use Rattle.noise_session.specs.Counting.{inner_of, failures_of};
@@ -8,8 +8,8 @@ ghost use Rattle.noise_session.specs.Ends.{EndState, PhaseMatches, progress_in, 
 ghost use Rattle.noise_session.specs.Frames.{IsPartial, IsWhole, frame};
 ghost use Rattle.noise_session.specs.Inputs.{EndReceives, is_end, after_receiving};
 ghost use Rattle.noise_session.specs.Outputs.{after_output};
-ghost use Rattle.noise_session.specs.Progress.{idle_step, refusal, message_length, frame_len_of};
-ghost use Rattle.noise_session.specs.Sending.{EndSends, WritesInto, IsRefused};
+ghost use Rattle.noise_session.specs.Progress.{idle_step, frame_len_of};
+ghost use Rattle.noise_session.specs.Sending.{WritesInto};
 ghost use Rattle.noise_session.specs.Taking.{EndTakes, Judges};
 ghost use Rattle.noise_session.specs.inner.Partial.{partial_of};
 ghost use Rattle.noise_session.specs.inner.Places.{reported_in, received_in, MatchesIn};
@@ -37,7 +37,7 @@ pub(crate) struct State<K: Keys> {
 }
 
 impl<K: Keys> State<K> {
-    ghost use Rattle.noise_session.specs.inner.States.{end_in, message_in, framed_in};
+    ghost use Rattle.noise_session.specs.inner.States.{end_in, message_in};
 
     // That of a new `End` in this phase.
     pub(crate) fn new(alloc: Global, phase: Phase<K>) -> Result<State<K>, AllocError>
@@ -101,48 +101,6 @@ impl<K: Keys> State<K> {
         }
     }
 
-    // Writes a payload as a message into the first bytes of `out`, and returns how many.
-    fn write(&mut self, payload: &[u8], out: &mut [u8]) -> Result<usize, SendFault>
-        requires room { refusal (progress_in self.old.phase) (length payload.now) ≡ None
-            → message_length (progress_in self.old.phase) (length payload.now) ≤ length out.old }
-        ensures len { IfOk result (λ n. (refusal (progress_in self.old.phase) (length payload.now) ≡ None)
-            × (n ≡ message_length (progress_in self.old.phase) (length payload.now))
-            × (n ≤ length out.new) × (n ≤ 65535)) }
-        ensures beyond { IfOk result (λ n. drop n out.new ≡ drop n out.old) }
-        ensures refused { IsRefused (progress_in self.old.phase) payload.now out.old result out.new }
-        ensures failures { IfErr result (λ fault. (failures : ℕ) → after_output failures (Err fault) ≡ failures) }
-        ensures sends { EndSends K.pairs (end_in self.old) payload.now (framed_in out.new result)
-            (end_in self.new) }
-    {
-        match &mut self.phase {
-            Phase::Handshaking { handshake, .. } => match handshake.write(payload, out) {
-                Ok(len) => {
-                    self.phase.settle();
-                    Ok(len)
-                }
-                Err(WriteFault::NotYourTurn) => Err(SendFault::NotYourTurn),
-                Err(WriteFault::TooLong) => Err(SendFault::TooLong),
-                Err(WriteFault::Agreement { token }) => {
-                    self.phase.end();
-                    self.incoming.clear();
-                    Err(SendFault::Agreement { token })
-                }
-                Err(_) => unreachable!(),
-            },
-            Phase::Open(transport) => match transport.seal(payload, out) {
-                Ok(len) => Ok(len),
-                Err(SendFault::Exhausted) => {
-                    self.end();
-                    Err(SendFault::Exhausted)
-                }
-                Err(SendFault::OneWay) => Err(SendFault::OneWay),
-                Err(SendFault::TooLong) => Err(SendFault::TooLong),
-                Err(_) => unreachable!(),
-            },
-            Phase::Ended { .. } => Err(SendFault::Ended),
-        }
-    }
-
     // Writes a payload as a frame into the first bytes of `out`, and returns how many.
     pub(crate) fn send(&mut self, payload: &[u8], out: &mut [u8]) -> Result<usize, SendFault>
         requires room { ForSome (frame_len_of (progress_in self.old.phase) (length payload.now))
@@ -152,9 +110,34 @@ impl<K: Keys> State<K> {
             (end_in self.new) }
     {
         let start = out.len().min(2);
-        match self.write(payload, &mut out[start..]) {
-            Ok(len) => Ok(frame_message(out, len)),
-            Err(fault) => Err(fault),
+        match &mut self.phase {
+            Phase::Handshaking { handshake, .. } => {
+                match handshake.write(payload, &mut out[start..]) {
+                    Ok(len) => {
+                        self.phase.settle();
+                        Ok(frame_message(out, len))
+                    }
+                    Err(WriteFault::NotYourTurn) => Err(SendFault::NotYourTurn),
+                    Err(WriteFault::TooLong) => Err(SendFault::TooLong),
+                    Err(WriteFault::Agreement { token }) => {
+                        self.phase.end();
+                        self.incoming.clear();
+                        Err(SendFault::Agreement { token })
+                    }
+                    Err(_) => unreachable!(),
+                }
+            }
+            Phase::Open(transport) => match transport.seal(payload, &mut out[start..]) {
+                Ok(len) => Ok(frame_message(out, len)),
+                Err(SendFault::Exhausted) => {
+                    self.end();
+                    Err(SendFault::Exhausted)
+                }
+                Err(SendFault::OneWay) => Err(SendFault::OneWay),
+                Err(SendFault::TooLong) => Err(SendFault::TooLong),
+                Err(_) => unreachable!(),
+            },
+            Phase::Ended { .. } => Err(SendFault::Ended),
         }
     }
 }

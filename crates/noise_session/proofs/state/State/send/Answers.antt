@@ -1,9 +1,15 @@
-use Rattle.std.proofs.Common.{◌≡◌, ◌≤◌, ◌+◌, ◌-◌, ℕ, List, length, take, drop, None, Some, Ok, Err, sym, ◌∙◌, ap, subst, arith}
+use Rattle.std.proofs.Common.{◌≡◌, ◌≤◌, ◌+◌, ◌-◌, ℕ, List, [], length, take, drop, None, Some, Ok, Err, IsTrue, refl, sym, ◌∙◌, ap, subst, arith, rules}
 use Rattle.std.specs.Option.{ForSome}
 use Rattle.std.specs.Prelude.{if◌then◌else◌}
-use Rattle.noise_session.proofs.Common.{is_none, put_mid, Progress, refusal, message_length, frame_len_of, progress_in, frame, Sends}
-use Rattle.noise_session.proofs.Making.{refused-too}
-use Rattle.noise_session.proofs.Places.{unwritten, framed, rest-after, room-after, room-left}
+use Rattle.noise_session.proofs.Common.{is_none, put_mid, Progress, refusal, message_length, frame_len_of, progress_in, frame}
+use Rattle.noise_session.proofs.Common.{after_own, Phase, TransportValue, seal_fault, EndState, EndMatches, PhaseMatches, HandshakeMatches, OpenMatches, EndedMatches, transport_in, ended_session, Sends, lacks_dh_result, sends_handshake, sends_transport}
+use Rattle.noise_session.specs.inner.Phases.{is_due}
+use Rattle.noise_session.specs.Sending.Sends.{refuses}
+use Rattle.noise_session.proofs.Parties.{no-hash, is-open, as-handshake, as-open, refused-by}
+use Rattle.noise_session.proofs.Judging.{ended-open}
+use Rattle.noise_session.proofs.Making.{ok-due, not-turn, too-long, lack-due, seal-due, seal-refused, refused-whole}
+use Rattle.noise_session.proofs.Places.{framed, rest-after, room-after}
+use Rattle.noise_session.specs.declared.faults.SendFault.TheVariants as fault
 use Rattle.noise_session.proofs.state.State.send.Goals as goal
 
 -- the length of a frame that is due
@@ -14,60 +20,235 @@ due-len p n due = ap (λ r. if is_none r then Some (2 + message_length p n) else
 due-fits : (p : Progress) (n room : ℕ) → ForSome (frame_len_of p n) (λ k. k ≤ room) → refusal p n ≡ None → 2 + message_length p n ≤ room
 due-fits p n room fits due = fits _ (due-len p n due)
 
-pub write-requires : goal.write-requires
-write-requires g c =
+-- A message of the due length was written after the first two bytes of a buffer, and made a frame.
+module _ (p : Progress) (n len whole : ℕ) (out written new : List ℕ) (fits : ForSome (frame_len_of p n) (λ k. k ≤ length out))
+    (due : refusal p n ≡ None) (long : len ≡ message_length p n) (is_whole : whole ≡ len + 2) where
+  abbrev IsMade : Type 0
+  IsMade = (frame_len_of p n ≡ Some whole) × (drop whole new ≡ drop whole out) × (take whole new ≡ frame (take len written))
+
+  abbrev MadeAt : ℕ → Type 0
+  MadeAt start = take whole new ≡ frame (take len (drop 2 (put_mid start (length out - start) out written)))
+      → drop 2 new ≡ drop 2 (put_mid start (length out - start) out written)
+      → drop len written ≡ drop len (take (length out - start) (drop start out)) → IsMade
+
+  made-there : MadeAt 2
+  made-there is after rest =
+      let room = due-fits p n (length out) fits due in
+      let count : 2 + message_length p n ≡ whole = omega arith in (
+        due-len p n due ∙ ap (λ (k : ℕ). Some k) count,
+        rest-after 2 len whole out written new (omega arith) (omega arith) after rest,
+        framed len whole out written new (omega arith) is,
+      )
+
+  made : (start : ℕ) → start ≡ 2 → MadeAt start
+  made start e = subst MadeAt (sym e) made-there
+
+pub seal-requires : goal.seal-requires
+seal-requires g c =
     let n = length c.args.payload.now in
     let out = c.args.out.now in
     let p = progress_in c.args.self.now.phase in
-    record { room = λ due. room-after 2 out (message_length p n) c.min-start.result (due-fits p n (length out) c.requires.room due) (omega arith) }
-
-pub frame_message-requires-clause-room : goal.frame_message-requires-clause-room
-frame_message-requires-clause-room g c =
-    let n = length c.args.payload.now in
-    let out = c.args.out.now in
-    let len = c.in-Ok.len in
-    let room = due-fits (progress_in c.args.self.now.phase) n (length out) c.requires.room c.in-Ok.ensures.len.0 in
-    let start : 2 ≡ c.min-start.result = omega arith in
-    subst (λ (k : ℕ). len + 2 ≤ length (put_mid k (length out - k) out c.write.new.out)) start
-    (room-left 2 len out c.write.new.out (omega arith) c.in-Ok.ensures.len.2)
+    record {
+      room = λ none.
+          let due : refusal p n ≡ None = search rules in
+          room-after 2 out (n + 16) c.min-start.result (rw c.in-Open.is at (due-fits p n (length out) c.requires.room due)) (omega arith);
+    }
 
 pub returns-in-Ok-clause-writes : goal.returns-in-Ok-clause-writes
 returns-in-Ok-clause-writes g c =
     let n = length c.args.payload.now in
-    let p = progress_in c.args.self.now.phase in
     let out = c.args.out.now in
     let len = c.in-Ok.len in
-    let whole = c.frame_message.result in
+    let h = c.in-Handshaking.handshake in
+    let start = c.min-start.result in
     let written = c.write.new.out in
-    let new = c.frame_message.new.out in
-    let due = c.in-Ok.ensures.len.0 in
+    let p = progress_in c.args.self.now.phase in
+    let due-there = ok-due h n (take (length out - start) (drop start out)) written len c.in-Ok.ensures.fault in
+    let due : refusal p n ≡ None = rw c.in-Handshaking.is due-there in
+    let long : len ≡ message_length p n = search rules in
     let room = due-fits p n (length out) c.requires.room due in
-    let start : c.min-start.result ≡ 2 = omega arith in
-    let is : take whole new ≡ frame (take len (drop 2 (put_mid 2 (length out - 2) out written))) =
-    subst (λ (k : ℕ). take whole new ≡ frame (take len (drop 2 (put_mid k (length out - k) out written)))) start c.frame_message.ensures.frame in
-    let after : drop 2 new ≡ drop 2 (put_mid 2 (length out - 2) out written) =
-    subst (λ (k : ℕ). drop 2 new ≡ drop 2 (put_mid k (length out - k) out written)) start c.frame_message.ensures.beyond in
-    let rest : drop len written ≡ drop len (take (length out - 2) (drop 2 out)) =
-    subst (λ (k : ℕ). drop len written ≡ drop len (take (length out - k) (drop k out))) start c.in-Ok.ensures.beyond in
-    let count : 2 + message_length p n ≡ whole = omega (arith, c.in-Ok.ensures.len.1, c.frame_message.ensures.len.0) in
+    let f = made p n len c.frame_message.result out written c.frame_message.new.out c.requires.room due long c.frame_message.ensures.len.0 start
+    (omega arith) c.frame_message.ensures.frame c.frame_message.ensures.beyond c.in-Ok.ensures.beyond in
     record {
-      len = (due-len p n due ∙ ap (λ (k : ℕ). Some k) count, c.frame_message.ensures.len.1);
-      beyond = rest-after 2 len whole out written new (omega arith) (omega (arith, c.frame_message.ensures.len.0)) after rest;
+      len = (f.0, c.frame_message.ensures.len.1);
+      beyond = f.1;
       refused = rw due tt;
       sends = λ v s.
-          let w = c.in-Ok.ensures.sends v s in (
-            w.0,
-            subst (λ (f : List ℕ). Sends v c.args.payload.now (Ok f) w.0)
-                (sym (framed len whole out written new (omega arith) is)) w.1,
-            w.2,
+          let m = as-handshake g.K.Keys.pairs _ _ _ v c.in-Handshaking.is s.phase in
+          let w = c.in-Ok.ensures.writes v.party m.party in
+          let due-by = refused-by g.K.Keys.pairs _ _ v n _ s.phase c.in-Handshaking.is due-there in
+          let next : EndState = record v { party = after_own v.party w.0 c.args.payload.now } in (
+            next,
+            subst (λ (bytes : List ℕ). Sends v c.args.payload.now (Ok bytes) next) (sym f.2)
+                (sends_handshake v c.args.payload.now (take len written) w.0 due-by w.1),
+            record { phase = c.settle.ensures.matches next (w.2, m.interval, m.sent, m.received); partial = s.partial },
           );
     }
 
-pub returns-in-Err-clause-writes : goal.returns-in-Err-clause-writes
-returns-in-Err-clause-writes g c = record {
-  len = tt;
-  beyond = tt;
-  refused = refused-too _ (Err c.in-Err.fault) (Err c.in-Err.fault) _ _ _ _ c.in-Err.ensures.refused (λ fault e. e)
-      (unwritten c.args.out.now c.write.new.out c.min-start.result);
-  sends = λ v s. c.in-Err.ensures.sends v s;
-}
+pub returns-in-Err-NotYourTurn-clause-writes : goal.returns-in-Err-NotYourTurn-clause-writes
+returns-in-Err-NotYourTurn-clause-writes g c =
+    let n = length c.args.payload.now in
+    let out = c.args.out.now in
+    let start = c.min-start.result in
+    let part = take (length out - start) (drop start out) in
+    let reported = rw c.in-Err-NotYourTurn.field-0-is at c.in-Err-NotYourTurn.ensures.fault in
+    let unchanged = rw c.in-Err-NotYourTurn.field-0-is at c.in-Err-NotYourTurn.ensures.state in
+    let due = subst (λ (p : Phase g.row.K.Denot). IsTrue (is_due p)) c.in-Handshaking.is c.args.self.now.due in
+    let why-there = not-turn c.in-Handshaking.handshake n part c.write.new.out due reported in
+    record {
+      len = tt;
+      beyond = tt;
+      refused = refused-whole _ (Err fault.NotYourTurn) start out c.write.new.out (search rules);
+      sends = λ v s.
+          let m = as-handshake g.K.Keys.pairs _ _ _ v c.in-Handshaking.is s.phase in (
+            refuses v c.args.payload.now fault.NotYourTurn (refused-by g.K.Keys.pairs _ _ v n _ s.phase c.in-Handshaking.is why-there),
+            record { phase = subst (λ u. HandshakeMatches g.K.Keys.pairs u c.in-Handshaking.interval v) (sym unchanged) m; partial = s.partial },
+          );
+    }
+
+pub returns-in-Err-TooLong-clause-writes : goal.returns-in-Err-TooLong-clause-writes
+returns-in-Err-TooLong-clause-writes g c =
+    let n = length c.args.payload.now in
+    let out = c.args.out.now in
+    let start = c.min-start.result in
+    let part = take (length out - start) (drop start out) in
+    let reported = rw c.in-Err-TooLong.field-0-is at c.in-Err-TooLong.ensures.fault in
+    let unchanged = rw c.in-Err-TooLong.field-0-is at c.in-Err-TooLong.ensures.state in
+    let due = subst (λ (p : Phase g.row.K.Denot). IsTrue (is_due p)) c.in-Handshaking.is c.args.self.now.due in
+    let why-there = too-long c.in-Handshaking.handshake n part c.write.new.out due reported in
+    record {
+      len = tt;
+      beyond = tt;
+      refused = refused-whole _ (Err fault.TooLong) start out c.write.new.out (search rules);
+      sends = λ v s.
+          let m = as-handshake g.K.Keys.pairs _ _ _ v c.in-Handshaking.is s.phase in (
+            refuses v c.args.payload.now fault.TooLong (refused-by g.K.Keys.pairs _ _ v n _ s.phase c.in-Handshaking.is why-there),
+            record { phase = subst (λ u. HandshakeMatches g.K.Keys.pairs u c.in-Handshaking.interval v) (sym unchanged) m; partial = s.partial },
+          );
+    }
+
+pub returns-in-Err-Agreement-clause-writes : goal.returns-in-Err-Agreement-clause-writes
+returns-in-Err-Agreement-clause-writes g c =
+    let n = length c.args.payload.now in
+    let out = c.args.out.now in
+    let start = c.min-start.result in
+    let part = take (length out - start) (drop start out) in
+    let reported = rw c.in-Err-Agreement.field-0-is at c.in-Err-Agreement.ensures.fault in
+    let due-there = lack-due c.in-Handshaking.handshake n part c.write.new.out c.in-Err-Agreement.token reported in
+    let due : refusal (progress_in c.args.self.now.phase) n ≡ None = rw c.in-Handshaking.is due-there in
+    record {
+      len = tt;
+      beyond = tt;
+      refused = rw due tt;
+      sends = λ v s.
+          let m = as-handshake g.K.Keys.pairs _ _ _ v c.in-Handshaking.is s.phase in
+          let w = rw c.in-Err-Agreement.field-0-is at c.in-Err-Agreement.ensures.writes v.party m.party in
+          let due-by = refused-by g.K.Keys.pairs _ _ v n _ s.phase c.in-Handshaking.is due-there in
+          let ended_party : EndedMatches c.write.new.self.role None (ended_session v) = record { ended = refl; role = w.1.role; hash = sym (no-hash v m.more) } in (
+            lacks_dh_result v c.args.payload.now c.in-Err-Agreement.token due-by w.0.1,
+            record {
+              phase = subst (λ (p : Phase g.row.K.Denot). PhaseMatches g.K.Keys.pairs p (ended_session v)) (sym c.end.ensures) ended_party;
+              partial = c.clear.ensures.empty;
+            },
+          );
+    }
+
+pub returns-in-Ok-seal-clause-writes : goal.returns-in-Ok-seal-clause-writes
+returns-in-Ok-seal-clause-writes g c =
+    let n = length c.args.payload.now in
+    let out = c.args.out.now in
+    let len = c.in-Ok-seal.len in
+    let t = c.in-Open.transport in
+    let start = c.min-start.result in
+    let written = c.seal.new.out in
+    let p = progress_in c.args.self.now.phase in
+    let half = c.in-Ok-seal.ensures.seals.half in
+    let due-there = seal-due (seal_fault t n) len half.fault in
+    let due : refusal p n ≡ None = rw c.in-Open.is due-there in
+    let long : len ≡ message_length p n = rw c.in-Open.is half.len.0 in
+    let room = due-fits p n (length out) c.requires.room due in
+    let f = made p n len c.frame_message-in-Ok-seal.result out written c.frame_message-in-Ok-seal.new.out c.requires.room due long
+    c.frame_message-in-Ok-seal.ensures.len.0 start
+    (omega arith) c.frame_message-in-Ok-seal.ensures.frame c.frame_message-in-Ok-seal.ensures.beyond half.rest in
+    record {
+      len = (f.0, c.frame_message-in-Ok-seal.ensures.len.1);
+      beyond = f.1;
+      refused = rw due tt;
+      sends = λ v s.
+          let o = as-open g.K.Keys.pairs _ _ v c.in-Open.is s.phase in
+          let r = half.seals (transport_in v) o.transport.sender in
+          let due-by = refused-by g.K.Keys.pairs _ _ v n _ s.phase c.in-Open.is due-there in
+          let next : EndState = record v { sent = v.sent + 1 } in (
+            next,
+            subst (λ (bytes : List ℕ). Sends v c.args.payload.now (Ok bytes) next) (sym (f.2 ∙ ap frame r.0))
+                (sends_transport v c.args.payload.now due-by (is-open v t o)),
+            record { phase = record { going = o.going; all = o.all; transport = c.in-Ok-seal.ensures.seals.matches (transport_in v) o.transport }; partial = s.partial },
+          );
+    }
+
+pub returns-in-Err-Exhausted-clause-writes : goal.returns-in-Err-Exhausted-clause-writes
+returns-in-Err-Exhausted-clause-writes g c =
+    let n = length c.args.payload.now in
+    let out = c.args.out.now in
+    let start = c.min-start.result in
+    let reported = rw c.in-Err-Exhausted.field-0-is at c.in-Err-Exhausted.ensures.seals.half.fault in
+    let why-there = seal-refused (seal_fault c.in-Open.transport n) fault.Exhausted reported in
+    record {
+      len = tt;
+      beyond = tt;
+      refused = refused-whole _ (Err fault.Exhausted) start out c.seal.new.out (search rules);
+      sends = λ v s.
+          let o = as-open g.K.Keys.pairs _ _ v c.in-Open.is s.phase in
+          let ended_party : EndedMatches c.seal.new.self.role (Some c.seal.new.self.hash) (ended_session v) =
+          subst (λ (t : TransportValue). EndedMatches t.role (Some t.hash) (ended_session v)) (sym c.in-Err-Exhausted.ensures.seals.unchanged)
+          (ended-open c.in-Open.transport v o []) in (
+            refuses v c.args.payload.now fault.Exhausted (refused-by g.K.Keys.pairs _ _ v n _ s.phase c.in-Open.is why-there),
+            subst (λ e. EndMatches g.K.Keys.pairs e (ended_session v)) (sym c.end-in-Err-Exhausted.ensures) (record { phase = ended_party; partial = refl }),
+          );
+    }
+
+pub returns-in-Err-OneWay-clause-writes : goal.returns-in-Err-OneWay-clause-writes
+returns-in-Err-OneWay-clause-writes g c =
+    let n = length c.args.payload.now in
+    let out = c.args.out.now in
+    let start = c.min-start.result in
+    let reported = rw c.in-Err-OneWay.field-0-is at c.in-Err-OneWay.ensures.seals.half.fault in
+    let why-there = seal-refused (seal_fault c.in-Open.transport n) fault.OneWay reported in
+    record {
+      len = tt;
+      beyond = tt;
+      refused = refused-whole _ (Err fault.OneWay) start out c.seal.new.out (search rules);
+      sends = λ v s.
+          let o = as-open g.K.Keys.pairs _ _ v c.in-Open.is s.phase in (
+            refuses v c.args.payload.now fault.OneWay (refused-by g.K.Keys.pairs _ _ v n _ s.phase c.in-Open.is why-there),
+            record { phase = subst (λ (t : TransportValue). OpenMatches t v) (sym c.in-Err-OneWay.ensures.seals.unchanged) o; partial = s.partial },
+          );
+    }
+
+pub returns-in-Err-TooLong-seal-clause-writes : goal.returns-in-Err-TooLong-seal-clause-writes
+returns-in-Err-TooLong-seal-clause-writes g c =
+    let n = length c.args.payload.now in
+    let out = c.args.out.now in
+    let start = c.min-start.result in
+    let reported = rw c.in-Err-TooLong-seal.field-0-is at c.in-Err-TooLong-seal.ensures.seals.half.fault in
+    let why-there = seal-refused (seal_fault c.in-Open.transport n) fault.TooLong reported in
+    record {
+      len = tt;
+      beyond = tt;
+      refused = refused-whole _ (Err fault.TooLong) start out c.seal.new.out (search rules);
+      sends = λ v s.
+          let o = as-open g.K.Keys.pairs _ _ v c.in-Open.is s.phase in (
+            refuses v c.args.payload.now fault.TooLong (refused-by g.K.Keys.pairs _ _ v n _ s.phase c.in-Open.is why-there),
+            record { phase = subst (λ (t : TransportValue). OpenMatches t v) (sym c.in-Err-TooLong-seal.ensures.seals.unchanged) o; partial = s.partial },
+          );
+    }
+
+pub returns-in-Ended-clause-writes : goal.returns-in-Ended-clause-writes
+returns-in-Ended-clause-writes g c =
+    let n = length c.args.payload.now in
+    record {
+      len = tt;
+      beyond = tt;
+      refused = search rules;
+      sends = λ v s. (refuses v c.args.payload.now fault.Ended (refused-by g.K.Keys.pairs _ _ v n _ s.phase c.in-Ended.is refl), s);
+    }
