@@ -1,7 +1,6 @@
 -- Lines of a text, and the pieces of a list of tokens.
 use Rattle.std.proofs.Common.{◌≡◌, ◌∙◌, ◌<◌, ◌-◌, ℕ, zero, suc, List, [], ◌∷◌, ◌++◌, ap, sym, append_assoc, arith}
-use Rattle.std.specs.Prelude.{IfSome, Option, Some, None, codes}
-use denote.Bor.{Bor}
+use Rattle.std.specs.Prelude.{codes}
 use Rattle.std.proofs.lemmas.List.{flat_map_more}
 use Rattle.noise_names.specs.declared.token.Token.{Token}
 use Rattle.noise_names.specs.Text.{word_of}
@@ -31,8 +30,3 @@ piece-more list left rest (right, e) (t, f) =
           ∙ sym (append_assoc (words_before right) word rest)
           ∙ ap (λ (z : List ℕ). z ++ rest) (flat_map_more (λ (u : Token). word_of u ++ codes ", ") [] right t),
     )
-
-pub some-word : (r : Option (Bor (List ℕ))) (list : List ℕ) (t : Token) → IfSome r (λ rest. list ≡ word_of t ++ (codes ", " ++ rest.now))
-    → IfSome r (λ rest. HasWord list rest.now)
-some-word None list t h = tt
-some-word (Some rest) list t h = (t, h)

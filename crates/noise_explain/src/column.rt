@@ -1,13 +1,11 @@
 //! The column of a fault of a pattern text.
 
-ghost use Rattle.std.specs.Prelude.{◌≡◌, ◌≢◌, ◌++◌, ℕ, List, IfNone, IfSome, codes, drop, length};
+ghost use Rattle.std.specs.Prelude.{◌≡◌, ◌≢◌, ◌++◌, ℕ, List, IfNone, IfSome, codes, drop};
 ghost use Rattle.noise_names.specs.declared.token.Token.{Token};
-ghost use Rattle.noise_names.specs.Names.{base_front, is_base_byte};
 ghost use Rattle.noise_names.specs.Text.{word_of};
 ghost use Rattle.noise_explain.specs.Positions.{IsColumn, IsWrongPiece, arrow_column, heading_column};
 
-use noise_lines::token_word;
-use noise_names::{TextFaultKind, Token};
+use noise_names::{TextFaultKind, Token, base_len};
 
 /// The column of a fault of this kind in the line of this number.
 pub fn column_of(kind: TextFaultKind, number: usize, line: &[u8]) -> usize
@@ -32,19 +30,6 @@ fn heading_column(line: &[u8]) -> usize
         Some((first, _)) if first.is_ascii_uppercase() => base_len(line).min(8) + 1,
         _ => 1,
     }
-}
-
-// How many upper-case letters and digits are at the front.
-fn base_len(line: &[u8]) -> usize
-    ensures { result ≡ length (base_front line.now) }
-{
-    line.iter().take_while(|b| is_base_byte(**b)).count()
-}
-
-fn is_base_byte(byte: u8) -> bool
-    ensures { result ≡ is_base_byte byte }
-{
-    byte.is_ascii_uppercase() || byte.is_ascii_digit()
 }
 
 fn arrow_column(line: &[u8]) -> usize
@@ -83,32 +68,6 @@ fn after_word(list: &[u8]) -> Option<&[u8]>
     ensures some { IfSome result (λ rest. (t : Token) × (list.now ≡ word_of t ++ (codes ", " ++ rest.now))) }
     ensures none { IfNone result ((t : Token) (rest : List ℕ) → list.now ≢ word_of t ++ (codes ", " ++ rest)) }
 {
-    if let Some(rest) = after_token(list, Token::E) {
-        return Some(rest);
-    }
-    if let Some(rest) = after_token(list, Token::S) {
-        return Some(rest);
-    }
-    if let Some(rest) = after_token(list, Token::Ee) {
-        return Some(rest);
-    }
-    if let Some(rest) = after_token(list, Token::Es) {
-        return Some(rest);
-    }
-    if let Some(rest) = after_token(list, Token::Se) {
-        return Some(rest);
-    }
-    if let Some(rest) = after_token(list, Token::Ss) {
-        return Some(rest);
-    }
-    after_token(list, Token::Psk)
-}
-
-// What follows this token, a comma and a space at the front of a list.
-fn after_token(list: &[u8], token: Token) -> Option<&[u8]>
-    ensures some { IfSome result (λ rest. list.now ≡ word_of token ++ (codes ", " ++ rest.now)) }
-    ensures none { IfNone result ((rest : List ℕ) → list.now ≢ word_of token ++ (codes ", " ++ rest)) }
-{
-    let after = list.strip_prefix(token_word(token).as_bytes())?;
+    let (_, after) = Token::parse_first(list)?;
     after.strip_prefix(b", ")
 }

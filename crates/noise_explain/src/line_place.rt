@@ -25,17 +25,9 @@ pub(crate) fn is_after_datagrams(text: &[u8], number: usize) -> bool {
 
 // Whether a line above the one of this number begins so.
 fn has_above(text: &[u8], number: usize, front: &[u8]) -> bool {
-    let mut above: usize = 1;
-    for line in text.split(|b| *b == b'\n') {
-        if above >= number {
-            return false;
-        }
-        if line.starts_with(front) {
-            return true;
-        }
-        above = above.saturating_add(1);
-    }
-    false
+    text.split(|b| *b == b'\n')
+        .take(number.saturating_sub(1))
+        .any(|line| line.starts_with(front))
 }
 
 pub(crate) fn is_first_version(text: &[u8]) -> bool {

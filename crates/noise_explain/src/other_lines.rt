@@ -5,7 +5,7 @@ use crate::column::{after_arrow, column_of, piece_column};
 use crate::excerpt::{push_number, push_sentence};
 use crate::position::{after_line, line_at};
 use crate::text_advice::fault_advice;
-use noise_names::{TextFault, TextFaultKind};
+use noise_names::{TextFault, TextFaultKind, Token};
 use std::alloc::{AllocError, Global};
 
 // How many lines are read after the first wrong one: a pattern has at most 12.
@@ -85,15 +85,5 @@ fn kind_of(line: &[u8]) -> Option<TextFaultKind> {
 fn has_words(list: &[u8]) -> bool {
     let before = piece_column(list).saturating_sub(6);
     let (_, last) = list.split_at(before.min(list.len()));
-    is_word(last)
-}
-
-fn is_word(word: &[u8]) -> bool {
-    word == b"e".as_slice()
-        || word == b"s".as_slice()
-        || word == b"ee".as_slice()
-        || word == b"es".as_slice()
-        || word == b"se".as_slice()
-        || word == b"ss".as_slice()
-        || word == b"psk".as_slice()
+    matches!(Token::parse_first(last), Some((_, [])))
 }

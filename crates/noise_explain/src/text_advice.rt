@@ -181,15 +181,9 @@ fn limit_advice(list: &[u8]) -> Advice {
     }
 }
 
-// How many tokens of a list aren't psk: each begins at the front or after a space.
+// How many tokens of a list aren't psk.
 fn own_count(list: &[u8]) -> usize {
-    let mut count: usize = 0;
-    let mut before = b' ';
-    for byte in list {
-        if before == b' ' && *byte != b'p' {
-            count = count.saturating_add(1);
-        }
-        before = *byte;
-    }
-    count
+    list.split(|b| *b == b' ')
+        .filter(|word| !word.starts_with(b"psk".as_slice()))
+        .count()
 }
