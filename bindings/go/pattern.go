@@ -31,7 +31,7 @@ var tokenNames = [...]string{"", "e", "s", "ee", "es", "se", "ss", "psk", payloa
 
 // PatternError is a fault of a pattern text. It is an ErrPattern.
 type PatternError struct {
-	// Line is that of the text, counted from 1; 0 if the pattern breaks a rule of validity.
+	// Line is the line of the text, counted from 1; 0 if the pattern breaks a rule of validity.
 	Line int
 	// Rule is the lowest rule, 1 to 5, that is broken at the first place where any is; 0 if the text has a fault.
 	Rule int
