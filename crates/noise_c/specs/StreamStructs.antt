@@ -3,7 +3,9 @@ use Rattle.std.specs.Prelude.{◌≡◌, ◌≢◌, ◌↔◌, ◌⊎◌, ◌≤
 use Rattle.noise_channel.specs.declared.fault.StreamFault.{StreamFault}
 use Rattle.noise_channel.specs.declared.next.StreamState.{StreamState}
 use Rattle.noise_channel.specs.declared.next.StreamState.TheVariants.{Open, Ended, Broken}
-use Rattle.noise_channel.specs.Halves.{StreamSenderValue, StreamReceiverValue, StreamSenderMatches, StreamReceiverMatches, is_writer, is_reader, writer_fault, end_fault, Counted}
+use Rattle.noise_channel.specs.Halves.{StreamSenderValue, StreamReceiverValue, StreamSenderMatches, StreamReceiverMatches, is_writer, is_reader, writer_fault, end_fault}
+use Rattle.noise_channel.specs.StreamCalls.{WritesNext}
+use Rattle.noise_session.specs.HalfCalls.{IsCounted}
 use Rattle.noise_session.specs.TransportValue.{TransportState}
 use Rattle.noise_session.specs.Frames.{frame, frame_length, IsPartial}
 use Rattle.noise_channel.specs.Framing.{Begins}
@@ -97,8 +99,8 @@ pub record ReportsPlace (code : ℕ) (old new : NoiseStreamResult) (buffer : ℕ
 -- What reading leaves of the half by its number: what is opened counts, what is refused breaks the stream, and nothing
 -- else changes it.
 pub record LeavesReader (code : ℕ) (old new : NoiseStreamReceiver) : Type 0 where
-  pub payload : code ≡ OK → Counted (half_from_c old.half) (half_from_c new.half) × (state_in new.state ≡ Open)
-  pub end : code ≡ END → Counted (half_from_c old.half) (half_from_c new.half) × (state_in new.state ≡ Ended)
+  pub payload : code ≡ OK → IsCounted (half_from_c old.half) (half_from_c new.half) × (state_in new.state ≡ Open)
+  pub end : code ≡ END → IsCounted (half_from_c old.half) (half_from_c new.half) × (state_in new.state ≡ Ended)
   pub refused : IsRefusalCode code → (half_from_c new.half ≡ half_from_c old.half) × (state_in new.state ≡ Broken)
   pub same : ((code ≡ MORE) ⊎ (code ≡ CLOSED) ⊎ (code ≡ STRUCT)) → new ≡ old
 
@@ -109,21 +111,14 @@ BeginsToWrite k v = StreamSenderMatches (stream_sender_from_c k) v (Speaks 0)
 abbrev pub BeginsToRead : NoiseStreamReceiver → TransportState → Type 0
 BeginsToRead k v = StreamReceiverMatches (stream_receiver_from_c k) v (Listens 0)
 
--- asked for this, the half writes these bytes, of so many first bytes of the payload
-abbrev pub WritesNext : NoiseStreamSender → Asked → ℕ → List ℕ → NoiseStreamSender → Type 0
-WritesNext old asked taken bytes new =
-    (v : TransportState) (s : StreamSenderState) → StreamSenderMatches (stream_sender_from_c old) v s
-    → (t : StreamSenderState)
-    × ChannelWrites (outgoing v) s asked (Wrote taken bytes) t × StreamSenderMatches (stream_sender_from_c new) v t
-
 -- one frame more, and whether the stream is ended
 abbrev pub CountsFrame : NoiseStreamSender → NoiseStreamSender → Bool → Type 0
 CountsFrame old new ended =
-    Counted (half_from_c old.half) (half_from_c new.half) × ((stream_sender_from_c new).ended ≡ ended)
+    IsCounted (half_from_c old.half) (half_from_c new.half) × ((stream_sender_from_c new).ended ≡ ended)
 
 -- the half reads what stands at the start of these bytes, and that is reported
-abbrev pub ReadsNext : NoiseStreamReceiver → List ℕ → ℕ → NoiseStreamResult → List ℕ → NoiseStreamReceiver → Type 0
-ReadsNext old buffer code results after new =
+abbrev pub ReportsRead : NoiseStreamReceiver → List ℕ → ℕ → NoiseStreamResult → List ℕ → NoiseStreamReceiver → Type 0
+ReportsRead old buffer code results after new =
     (v : TransportState) (s : StreamReceiverState) → StreamReceiverMatches (stream_receiver_from_c old) v s
     → (g : NextValue) × (t : StreamReceiverState) × ReportsGiven code results after g
     × ChannelReads (incoming v) s buffer g t
@@ -142,7 +137,8 @@ pub record WritesFrame (payload : List ℕ) (old new : NoiseStreamSender) (out a
   pub code_is : code ≡ stream_write_code old (length payload) (length out)
   pub place : code ≡ OK
       → next ≡ record results { len = frame_of (length payload); used = part_of (length payload) }
-  pub writes : code ≡ OK → WritesNext old (ToWrite payload) next.used (take next.len after) new
+  pub writes : code ≡ OK → WritesNext (stream_sender_from_c old) (ToWrite payload)
+      (Wrote next.used (take next.len after)) (stream_sender_from_c new)
   pub beyond : drop (frame_of (length payload)) after ≡ drop (frame_of (length payload)) out
   pub counted : code ≡ OK → 1 ≤ length payload → CountsFrame old new false
   pub nothing : code ≡ OK → length payload ≡ 0 → stream_sender_from_c new ≡ stream_sender_from_c old
@@ -155,7 +151,8 @@ pub record WritesEnd (old new : NoiseStreamSender) (out after : List ℕ)
     (results next : NoiseStreamResult) (code : ℕ) : Type 0 where
   pub code_is : code ≡ stream_end_code old (length out)
   pub place : code ≡ OK → next ≡ record results { len = 18 }
-  pub ends : code ≡ OK → WritesNext old ToEnd 0 (take 18 after) new
+  pub ends : code ≡ OK → WritesNext (stream_sender_from_c old) ToEnd (Wrote 0 (take 18 after))
+      (stream_sender_from_c new)
   pub beyond : drop 18 after ≡ drop 18 out
   pub counted : code ≡ OK → CountsFrame old new true
   pub known : code ≡ OK → is_stream_sender new ≡ true
@@ -166,7 +163,7 @@ pub record WritesEnd (old new : NoiseStreamSender) (out after : List ℕ)
 pub record ReadsFrame (old new : NoiseStreamReceiver) (buffer after : List ℕ)
     (results next : NoiseStreamResult) (code : ℕ) : Type 0 where
   pub unusable : code ≡ STRUCT ↔ is_stream_receiver old ≡ false
-  pub reads : code ≢ STRUCT → ReadsNext old buffer code next after new
+  pub reads : code ≢ STRUCT → ReportsRead old buffer code next after new
   pub closed : is_stream_receiver old ≡ true → (code ≡ CLOSED ↔ (stream_receiver_from_c old).state ≢ Open)
   pub more : is_stream_receiver old ≡ true → (stream_receiver_from_c old).state ≡ Open → IsPartial buffer
       → (code ≡ MORE) × (next.wanted ≡ frame_length buffer - length buffer)

@@ -20,7 +20,7 @@ after-end d u calls (stops _ _) = (refl, refl, refl)
 after-end d u calls (goes_on _ _ _ _ asked put more (over _ _) rest) = after-end d u more rest
 
 -- how much of a payload is taken
-some-taken : (p : List ℕ) → p ≢ [] → 1 ≤ first_part_len p
+pub some-taken : (p : List ℕ) → p ≢ [] → 1 ≤ first_part_len p
 some-taken [] some = absurd (some refl)
 some-taken (x ∷ p) some = grind (arith, nat_tests)
 

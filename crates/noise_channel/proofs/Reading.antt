@@ -10,8 +10,9 @@ use Rattle.noise_channel.specs.declared.next.Next.{Next}
 use Rattle.noise_channel.specs.declared.next.Next.TheVariants as next
 use Rattle.noise_channel.specs.Halves.{StreamReceiverValue, StreamReceiverMatches}
 use Rattle.noise_channel.specs.Streams.{Direction, incoming}
-use Rattle.noise_channel.specs.Reading.{StreamReceiverState, NextValue, ChannelReads, Leaves, given}
+use Rattle.noise_channel.specs.Reading.{StreamReceiverState, NextValue, ChannelReads, given}
 use Rattle.noise_channel.specs.Reading.ChannelReads.{wants, gives, ends, refuses, closed_at_end, closed_broken}
+use Rattle.noise_channel.specs.StreamCalls.{StreamReceiverReads}
 use Rattle.noise_channel.specs.Runs.{StreamReceiverRun, Rests, uses, payloads}
 use Rattle.noise_channel.specs.Runs.StreamReceiverRun.{arrives, calls, stops}
 use Rattle.noise_channel.specs.Receiving.{ReadsSome, ReadsOnce, ReadsTo}
@@ -97,13 +98,13 @@ after-used to used old new is same =
     subst (λ (k : ℕ). drop k new ≡ drop k old) is (sym (drop-drop 16 to new) ∙ ap (drop 16) same ∙ drop-drop 16 to old)
 
 -- a call that gives no payload and no end leaves the buffer as it is
-pub stays-idle : (came new : List ℕ) (r : Next) → ((from to used : ℕ) → r ≡ next.Payload from to used → ⊥) → ((used : ℕ) → r ≡ next.End used → ⊥)
-    → Leaves came new r → new ≡ came
-stays-idle came new (next.Payload from to used) some end left = absurd (some from to used refl)
-stays-idle came new (next.End used) some end left = absurd (end used refl)
-stays-idle came new (next.Wants count) some end left = left.0
-stays-idle came new (next.Refused cause) some end left = left
-stays-idle came new next.Closed some end left = left
+pub stays-idle : (r after : StreamReceiverValue) (came new : List ℕ) (g : Next) → ((from to used : ℕ) → g ≡ next.Payload from to used → ⊥)
+    → ((used : ℕ) → g ≡ next.End used → ⊥) → StreamReceiverReads r after came new g → new ≡ came
+stays-idle r after came new (next.Payload from to used) some end h = absurd (some from to used refl)
+stays-idle r after came new (next.End used) some end h = absurd (end used refl)
+stays-idle r after came new (next.Wants count) some end h = h.3
+stays-idle r after came new (next.Refused cause) some end h = h.1.unchanged
+stays-idle r after came new next.Closed some end h = h.2
 
 -- a call that gives no payload and no end
 pub reads-idle : (v : TransportState) (s : StreamReceiverState) (came new before : List ℕ) (after : StreamReceiverValue) (r : Next)

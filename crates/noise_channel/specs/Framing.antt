@@ -15,4 +15,5 @@ abbrev pub Frames : List ℕ → Framed → Type 0
 Frames buffer (framed.Wants count) = IsPartial buffer × (count ≡ frame_length buffer - length buffer) × (1 ≤ count)
     × (count ≤ 65535)
 Frames buffer (framed.Message from to) =
-    (from ≡ 2) × (from ≤ to) × (to ≤ length buffer) × (to ≤ 65537) × Begins buffer (slice_range buffer from to)
+    (from ≡ 2) × (from ≤ to) × (to ≡ frame_length buffer) × (to ≤ length buffer) × (to ≤ 65537)
+    × Begins buffer (slice_range buffer from to)

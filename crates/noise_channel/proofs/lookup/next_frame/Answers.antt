@@ -8,5 +8,5 @@ returns-then-buffer-whole c =
 
 pub returns-else-buffer-whole : goal.returns-else-buffer-whole
 returns-else-buffer-whole c =
-    lying c.args.buffer.now c.frame_len-whole.result c.frame_len-whole.ensures.range.0 c.frame_len-whole.ensures.range.1 c.if-buffer-whole.false
+    lying c.args.buffer.now c.frame_len-whole.result c.frame_len-whole.ensures.len c.frame_len-whole.ensures.range.0 c.frame_len-whole.ensures.range.1 c.if-buffer-whole.false
     (c.frame_len-whole.ensures.spelled (omega arith))

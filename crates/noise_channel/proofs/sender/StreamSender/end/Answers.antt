@@ -1,4 +1,4 @@
-use Rattle.std.proofs.Common.{[], take, refl, sym, ◌∙◌, ap, subst}
+use Rattle.std.proofs.Common.{take, sym, ◌∙◌, ap, subst}
 use Rattle.noise_channel.specs.Writing.Asked.{ToEnd}
 use Rattle.noise_session.specs.Halves.{writes_nothing}
 use Rattle.noise_channel.specs.Halves.{StreamSenderValue, StreamSenderMatches}
@@ -17,6 +17,6 @@ returns-then-writes_nothing-clause-writes c v s matches =
 pub returns-clause-writes : goal.returns-clause-writes
 returns-clause-writes c v s matches =
     let w : StreamSenderValue = record { half = c.self.inside.sender; ended = c.self.inside.ended } in
-    ends-as w v c.if-self.false (ap (λ (h : StreamSenderValue). writes_nothing h.half) c.self.view_is ∙ sym c.writes_nothing.ensures ∙ c.if-writes_nothing.false)
-    c.seal_frame.new.self [] (take c.in-Ok.written c.seal_frame.new.out) c.in-Ok.ensures.seals.seals s c.in-Ok.ensures.seals.below refl
-    (subst (λ (h : StreamSenderValue). StreamSenderMatches h v s) (sym c.self.view_is) matches)
+    ends-as w v c.if-self.false c.seal_frame.new.self (take c.in-Ok.written c.seal_frame.new.out) s
+    (ap (λ (h : StreamSenderValue). writes_nothing h.half) c.self.view_is ∙ sym c.writes_nothing.ensures ∙ c.if-writes_nothing.false)
+    c.in-Ok.ensures.seals.below c.in-Ok.ensures.seals.seals (subst (λ (h : StreamSenderValue). StreamSenderMatches h v s) (sym c.self.view_is) matches)
