@@ -99,5 +99,9 @@ IsReportedFault found Memory = ⊤
 -- Two parties with both key pairs each, whose DH is the xor of bytes, have a result at each DH of every pattern.
 abbrev pub XorKeysHaveDhResults : Type 0
 XorKeysHaveDhResults = (p : Plan) (a b : XorKeys) → IsSome a.e → IsSome a.s → IsSome b.e → IsSome b.s
-    → HaveDhResults (λ keys own. key_of own keys.e keys.s)
-    (λ keys own remote. xor_dh_result (key_of own keys.e keys.s) remote) p a b
+    → HaveDhResults
+    (λ keys. record {
+      public = λ own. key_of own keys.e keys.s;
+      agree = λ own remote. xor_dh_result (key_of own keys.e keys.s) remote;
+    })
+    p a b
