@@ -29,7 +29,7 @@ pub use Rattle.noise_session.specs.Taking.{Judges, Takes}
 pub use Rattle.noise_state.specs.History.{Ciphertext, Entry, History, MixHash, MixKey, MixKeyAndHash, and_then, hash, hash_of}
 pub use Rattle.noise_theorems.specs.FittingMessages.{bytes_not_received, message_fits, messages_fit_from}
 pub use Rattle.noise_theorems.specs.Payloads.{PayloadsAreReported, done_of, notes_about, own_payloads, payload_given, payload_reported, reported_to, was_written, written_by}
-pub use Rattle.noise_theorems.specs.Setup.{IsReportedFault, XorKeysHaveDhResults, history_of, or_next, start_by}
+pub use Rattle.noise_theorems.specs.Setup.{IsReportedFault, XorKeysHaveDhResults, history_of_lines, or_next, start_by}
 pub use Rattle.noise_handshake.specs.Counterparts.{is_dh, shown_before}
 pub use Rattle.noise_lines.specs.Lines.{line_of, lines_text}
 pub use Rattle.noise_names.specs.Validity.{IsFirstFault, IsValid, is_among, occurs}

@@ -62,13 +62,13 @@ transcript_of p s interval lines =
     transcript (material_of s.initiator s.responder) p s.initiator.prologue interval lines
 
 -- the history after those of them that are handshake messages
-abbrev pub history_of : Plan → BothStarts → List (Role × List ℕ) → History
-history_of p s lines = history_in (material_of s.initiator s.responder) p s.initiator.prologue lines
+abbrev pub history_of_lines : Plan → BothStarts → List (Role × List ℕ) → History
+history_of_lines p s lines = history_in (material_of s.initiator s.responder) p s.initiator.prologue lines
 
 -- the handshake hash (Noise 11.2), if there is a line for each handshake message
 abbrev pub hash_of_messages : Plan → BothStarts → List (Role × List ℕ) → Option (List ℕ)
 hash_of_messages p s lines =
-    if nat_le (length p.messages) (length lines) then Some (hash (history_of p s lines)) else None
+    if nat_le (length p.messages) (length lines) then Some (hash (history_of_lines p s lines)) else None
 
 module _ {K : Type 0} (pairs : K → KeyPairs) where
   -- The two ends are those after the lines: they hold the pattern, the roles, the keys and the psks to come, the
@@ -76,9 +76,9 @@ module _ {K : Type 0} (pairs : K → KeyPairs) where
   pub record AreAfter (p : Plan) (s : BothStarts) (interval : ℕ) (lines : List (Role × List ℕ))
       (duel : DuelValue K K) : Type 0 where
     pub initiator : EndMatches pairs duel.initiator
-        (end_after p Initiator s.initiator s.responder interval (history_of p s lines) lines)
+        (end_after p Initiator s.initiator s.responder interval (history_of_lines p s lines) lines)
     pub responder : EndMatches pairs duel.responder
-        (end_after p Responder s.responder s.initiator interval (history_of p s lines) lines)
+        (end_after p Responder s.responder s.initiator interval (history_of_lines p s lines) lines)
 
 -- the first of two faults
 abbrev pub or_next : Option SetupFault → Option SetupFault → Option SetupFault
@@ -99,5 +99,9 @@ IsReportedFault found Memory = ⊤
 -- Two parties with both key pairs each, whose DH is the xor of bytes, have a result at each DH of every pattern.
 abbrev pub XorKeysHaveDhResults : Type 0
 XorKeysHaveDhResults = (p : Plan) (a b : XorKeys) → IsSome a.e → IsSome a.s → IsSome b.e → IsSome b.s
-    → HaveDhResults (λ keys own. key_of own keys.e keys.s)
-    (λ keys own remote. xor_dh_result (key_of own keys.e keys.s) remote) p a b
+    → HaveDhResults
+    (λ keys. record {
+      public = λ own. key_of own keys.e keys.s;
+      agree = λ own remote. xor_dh_result (key_of own keys.e keys.s) remote;
+    })
+    p a b
