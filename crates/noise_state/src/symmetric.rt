@@ -155,9 +155,9 @@ impl SymmetricState {
     /// `buf` has to hold them where they are at most 65535 bytes. At an `Err`, which is Exhausted
     /// or TooLong, nothing has changed.
     pub fn encrypt_and_hash(&mut self, buf: &mut [u8], len: usize) -> Result<usize, CipherFault>
-        requires { sealed_len (keyed self.old) len ≤ 65535
+        requires room { sealed_len (keyed self.old) len ≤ 65535
             → sealed_len (keyed self.old) len ≤ length buf.old }
-        ensures { EncryptsAndHashes self.old len buf.old result self.new buf.new }
+        ensures encrypts { EncryptsAndHashes self.old len buf.old result self.new buf.new }
     {
         let sent = self.cipher.encrypt(&self.hash, buf, len)?;
         self.hash = hash_of_both(&self.hash, &buf[..sent]);

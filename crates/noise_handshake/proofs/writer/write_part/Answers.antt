@@ -11,5 +11,5 @@ returns-clause-beyond c =
     let len : ℕ = c.put-len.result in
     let tag : ℕ = c.tag_width.result in
     let same : length new ≡ len + tag = omega (arith, length-take (len + tag) put, c.tag_width.ensures) in
-    let n : c.in-Ok.width ≡ len + tag = omega (arith, c.in-Ok.ensures.1, sealed_len-tag (keyed c.args.state.now) len, c.tag_width.ensures) in
+    let n : c.in-Ok.width ≡ len + tag = omega (arith, c.in-Ok.ensures.encrypts.1, sealed_len-tag (keyed c.args.state.now) len, c.tag_width.ensures) in
     rest-unchanged c.args.out.now put new len tag (len + tag) c.in-Ok.width refl n same c.put-len.ensures.beyond
