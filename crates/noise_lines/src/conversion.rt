@@ -15,7 +15,7 @@ use std::alloc::{AllocError, Global};
 /// The text of a version 1 file with the header of version 2 and, after it, lines that expect these. `TooLong` is for a
 /// result of more than 4194304 bytes.
 pub fn convert(alloc: Global, text: &[u8], lines: &[Vec<u8>]) -> Result<Vec<u8>, Fault>
-    requires { (file : VectorFile) × (file.version ≡ One) × (text.now ≡ file_text file) }
+    requires text { (file : VectorFile) × (file.version ≡ One) × (text.now ≡ file_text file) }
     ensures converted { (file : VectorFile) → file.version ≡ One → text.now ≡ file_text file
         → IfOk result (λ converted. converted.items ≡ converted_text file (bytes_of lines.now)) }
     ensures short { IfOk result (λ converted. length converted.items ≤ 4194304) }

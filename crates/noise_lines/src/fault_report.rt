@@ -100,15 +100,15 @@ pub fn fault_line(alloc: Global, fault: Fault) -> Result<Line, AllocError>
 
 // A word and a number.
 fn counted_line(alloc: Global, word: &str, number: u64) -> Result<Line, AllocError>
-    requires { IsTrue (is_printed word.now) }
-    ensures { IfOk result (λ line. line.text.items ≡ join_with_byte 32 (word.now ∷ decimal number ∷ [])) }
+    requires printed { IsTrue (is_printed word.now) }
+    ensures text { IfOk result (λ line. line.text.items ≡ join_with_byte 32 (word.now ∷ decimal number ∷ [])) }
 {
     Line::new(alloc, word)?.number(number)
 }
 
 fn line_fault(alloc: Global, number: usize, word: &str) -> Result<Line, AllocError>
-    requires { IsTrue (is_printed word.now) }
-    ensures { IfOk result
+    requires printed { IsTrue (is_printed word.now) }
+    ensures text { IfOk result
         (λ line. line.text.items ≡ join_with_byte 32 (codes "line" ∷ decimal number ∷ word.now ∷ [])) }
 {
     Line::new(alloc, "line")?.number(number as u64)?.word(word)

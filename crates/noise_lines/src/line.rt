@@ -28,8 +28,8 @@ pub struct Line {
 impl Line {
     /// The line of this one word.
     pub fn new(alloc: Global, word: &str) -> Result<Line, AllocError>
-        requires { IsTrue (is_printed word.now) }
-        ensures { IfOk result (λ line. line.text.items ≡ word.now) }
+        requires printed { IsTrue (is_printed word.now) }
+        ensures text { IfOk result (λ line. line.text.items ≡ word.now) }
     {
         let mut text = Vec::new(alloc);
         text.extend_from_slice(word.as_bytes())?;
@@ -38,8 +38,8 @@ impl Line {
 
     /// With one word more.
     pub fn word(self, word: &str) -> Result<Line, AllocError>
-        requires { IsTrue (is_printed word.now) }
-        ensures { IfOk result (λ line. line.text.items ≡ self.text.items ++ 32 ∷ word.now) }
+        requires printed { IsTrue (is_printed word.now) }
+        ensures text { IfOk result (λ line. line.text.items ≡ self.text.items ++ 32 ∷ word.now) }
     {
         let Line { alloc, mut text } = self;
         text.push(b' ')?;

@@ -29,7 +29,7 @@ fn push_overhead(
 ) -> Result<(), AllocError>
     requires first { 1 ≤ message }
     requires last { message ≤ length pattern.now.messages }
-    ensures { OnOk result (text.new.items ≡ text.old.items ++ overhead_line pattern.now message) }
+    ensures appended { OnOk result (text.new.items ≡ text.old.items ++ overhead_line pattern.now message) }
 {
     let overhead = pattern.overhead(message);
     let line = format!(in alloc; "overhead {message} {overhead}\n")?;

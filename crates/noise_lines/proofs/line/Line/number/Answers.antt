@@ -7,4 +7,4 @@ pub word-requires : goal.word-requires
 word-requires c =
     let text : c.as_str.result.now ≡ decimal c.args.number = search rules in
     let small : c.args.number < 2 ^ 64 = search rules in
-    rw text (printed-decimal c.args.number small)
+    record { printed = rw text (printed-decimal c.args.number small) }
