@@ -169,12 +169,12 @@ pub(crate) fn with_key(state: &State, chaining_key: &[u8; 32], input: &[u8]) -> 
 }
 
 // The hash of both.
-pub(crate) fn mixed(hash: &[u8], data: &[u8]) -> [u8; 32]
-    ensures { result ≡ sha256 (hash.now ++ data.now) }
+pub(crate) fn mixed(hash: &[u8], text: &[u8]) -> [u8; 32]
+    ensures { result ≡ sha256 (hash.now ++ text.now) }
 {
     let mut hasher = Sha256::new();
     hasher.update(hash);
-    hasher.update(data);
+    hasher.update(text);
     hasher.finalize()
 }
 
