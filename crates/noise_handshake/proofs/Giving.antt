@@ -48,7 +48,7 @@ module _ (w : Writer) (known : Remote) (psks others : List (List ℕ)) (r : Hist
 
 -- ---- what a party gives is determined
 
-given-one : (w : Writer) (known : Remote) (psks : List (List ℕ)) (ts : List Token) (xs ys : List (List ℕ)) → Given w known psks ts xs
+pub given-one : (w : Writer) (known : Remote) (psks : List (List ℕ)) (ts : List Token) (xs ys : List (List ℕ)) → Given w known psks ts xs
     → Given w known psks ts ys → xs ≡ ys
 given-one w known psks [] [] [] g h = refl
 given-one w known psks [] [] (y ∷ ys) g h = absurd h

@@ -12,4 +12,5 @@ pub mod PreMessage
 pub mod Reading
 pub mod Sound
 pub mod Speaking
+pub mod Stepping
 pub mod Writing
