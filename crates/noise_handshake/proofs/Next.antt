@@ -122,7 +122,7 @@ module _ {K : Type 0} (pairs : K → KeyPairs) (a : Inside K) (i : IsKept pairs 
           → count_by is_psk (tokens_of placed) ≤ length (take (length ds - a.used) (drop a.used ds))
       psks-next ds e = omega (arith, enough-next, ap length (items-from ds a.psks.items a.used e))
 
-      used-within : a.used + a.next.psks ≤ length a.psks.items
+      pub used-within : a.used + a.next.psks ≤ length a.psks.items
       used-within = omega (arith, enough-next, length-drop a.used a.psks.items, taken-next, i.1)
 
       pub used-next : length a.psks.items ≤ 9 → a.used + a.next.psks ≤ 9
@@ -165,7 +165,7 @@ module _ {K : Type 0} (pairs : K → KeyPairs) (a : Inside K) (i : IsKept pairs 
           counted ∙ ap (λ (z : SymmetricState). nonce_after_message a.means.has_psks (keyed z) (nonce_now z) (tokens_of placed)) e
           ∙ ap (λ (b : Bool). nonce_after_message b (keyed a.state) (nonce_now a.state) (tokens_of placed)) i.0
 
-      unchanged-next : (known : Remote)
+      pub unchanged-next : (known : Remote)
           → KnowsRemote (held_in (record a { used = a.used + a.next.psks; passed = a.passed + 1; next = laid; state = new; remote = known }))
           → IsKept pairs (record a { used = a.used + a.next.psks; passed = a.passed + 1; next = laid; state = new; remote = known })
       unchanged-next known knows = (

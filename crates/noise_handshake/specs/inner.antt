@@ -1,4 +1,5 @@
 -- What only private functions and proofs of this crate need: no public clause names any of it.
+pub mod Following
 pub mod Kept
 pub mod Keyed
 pub mod Keying
