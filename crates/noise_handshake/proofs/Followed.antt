@@ -1,23 +1,22 @@
 -- What following the tokens of a message leaves.
-use Rattle.std.proofs.Common.{rules, ◌≡◌, ℕ, suc, ◌+◌, ◌*◌, ◌<◌, ◌≤◌, Bool, true, false, List, [], ◌∷◌, ◌++◌, length, take, drop, refl, ap, sym, subst, ◌∙◌, arith, take_all, length-drop}
-use Rattle.noise_handshake.proofs.Common.{Ok, Err, Some, count_by, drop_at, is_psk, after_ciphertext, ciphertext, after_own, message_bytes, HasPsks, Matches, MessageLayout, LaysNext, Plan, has_key, passed_places, Token, E, S, Ee, Es, Se, Ss, Initiator, other, turn_from, has_psk, History, SymmetricState, StateMatches, keyed, nonce_now, Remote, Cause, before_payload, after_tokens, Reader, BeginsAs, remote_after, Writer, Given, tag_width, token_width, tokens_width, keyed_after, keyed_after_tokens, nonce_after_tokens, nonce_after_message, tokens_at, tokens_now, HandshakeValue, ValueMatches, Party, held_in, IsKept, KnowsRemote, PlacedToken, tokens_of, Keying, keying_of}
+use Rattle.std.proofs.Common.{◌≡◌, ℕ, suc, ◌+◌, ◌*◌, ◌<◌, ◌≤◌, Bool, true, false, List, [], ◌∷◌, ◌++◌, length, take, drop, refl, ap, sym, subst, ◌∙◌, arith, take_all, length-drop}
+use Rattle.noise_handshake.proofs.Common.{length-take-le, take-append-drop, Advances, after_payload, Ok, Err, Some, count_by, drop_at, is_psk, after_ciphertext, ciphertext, after_own, message_bytes, HasPsks, Matches, MessageLayout, LaysNext, Plan, has_key, passed_places, Token, E, S, Ee, Es, Se, Ss, Initiator, other, turn_from, has_psk, History, SymmetricState, StateMatches, keyed, nonce_now, Remote, Cause, before_payload, after_tokens, Reader, BeginsAs, remote_after, Writer, Given, tag_width, token_width, tokens_width, keyed_after, keyed_after_tokens, nonce_after_tokens, nonce_after_message, tokens_at, tokens_now, HandshakeValue, ValueMatches, Party, held_in, IsKept, KnowsRemote, PlacedToken, tokens_of, Keying, keying_of}
 use Rattle.noise_names.specs.declared.token.Token.TheVariants.{Psk}
 use Rattle.noise_state.specs.Cipher.{next_nonce}
 use Rattle.noise_keys.specs.Keys.{KeyPairs}
 use Rattle.noise_handshake.specs.Steps.{after_steps}
 use Rattle.noise_handshake.specs.declared.following.Front.{Front}
 use Rattle.noise_handshake.specs.declared.handshake.Handshake.TheInside.{Inside}
-use Rattle.noise_handshake.specs.inner.Following.{Fronts, IsFront, Leaves, TokensLeave, gone_on, tokens_due}
-use Rattle.noise_handshake.specs.inner.Keying.{keying_after_tokens}
+use Rattle.noise_handshake.specs.inner.Following.{Fronts, IsFront, Leaves, gone_on, tokens_due}
+use Rattle.noise_handshake.specs.inner.Keying.{keying_after_message, keying_after_tokens}
 use Rattle.noise_handshake.specs.inner.Reading.{ReadsTokens}
 use Rattle.noise_handshake.specs.inner.Stepping.{TellsRead, TellsWritten}
 use Rattle.noise_handshake.specs.inner.Writing.{WritesTokens}
 use Rattle.noise_handshake.proofs.Apart.{front-apart, reads-leads}
-use Rattle.noise_handshake.proofs.Fronts.{tokens-take}
 use Rattle.noise_handshake.proofs.Giving.{given-front, given-one}
 use Rattle.noise_handshake.proofs.Knowing.{knows-read, knows-wrote}
 use Rattle.noise_handshake.proofs.Layouts.{length-tokens_of}
-use Rattle.noise_handshake.proofs.LateParties.{next-count, value-of}
+use Rattle.noise_handshake.proofs.LateParties.{matches-of, next-count, value-of}
 use Rattle.noise_handshake.proofs.Next.{key-next, tokens-next, unchanged-next}
 use Rattle.noise_handshake.proofs.Standing.{tokens-are}
 use Rattle.noise_handshake.proofs.Told.{width-read, width-written}
@@ -108,40 +107,49 @@ module _ {K : Type 0} (pairs : K → KeyPairs) (a : Inside K) (i : IsKept pairs 
   count-now v s = count-due ∙ ap length (tokens-are pairs h v s)
 
   -- all its tokens
-  module _ (ds : List PlacedToken) (d : ds ≡ a.next.tokens.items) (count : ℕ) (all : count ≡ length (tokens_due h)) (short : length ds ≤ 10)
-      (f : Front) where
-    whole-due : tokens_of (take count ds) ≡ tokens_at a.pattern.messages a.passed
-    whole-due =
-        ap tokens_of (take_all count ds (omega (arith, all, count-due, ap length d))) ∙ tokens-next pairs a i less ds d
+  pub whole-due : (ds : List PlacedToken) → ds ≡ a.next.tokens.items → (count : ℕ) → count ≡ length (tokens_due h)
+      → tokens_of (take count ds) ≡ tokens_at a.pattern.messages a.passed
+  whole-due ds d count all =
+      ap tokens_of (take_all count ds (omega (arith, all, count-due, ap length d))) ∙ tokens-next pairs a i less ds d
 
-    leaves-in : keyed f.state ≡ keyed_after_tokens a.means.has_psks (keyed a.state) (tokens_of (take count ds))
-        → nonce_now f.state ≡ nonce_after_tokens a.means.has_psks (keyed a.state) (nonce_now a.state) (tokens_of (take count ds))
-        → KnowsRemote (record (held_in a) { remote = f.remote; passed = a.passed + 1 }) → TokensLeave h f
-    leaves-in k n knows =
-        let us : List Token = tokens_of (take count ds) in
-        subst (λ (z : HandshakeValue K). TokensLeave z f) seen (λ bytes. record {
-          key = k ∙ ap (λ (b : Bool). keyed_after_tokens b (keyed a.state) us) i.0 ∙ ap (keyed_after_tokens (has_psk a.pattern) (keyed a.state)) whole-due;
-          counted = ap (λ (b : Bool). next_nonce b (nonce_now f.state)) k ∙ ap (next_nonce (keyed_after_tokens a.means.has_psks (keyed a.state) us)) n
-              ∙ ap (λ (b : Bool). nonce_after_message b (keyed a.state) (nonce_now a.state) us) i.0
-              ∙ ap (nonce_after_message (has_psk a.pattern) (keyed a.state) (nonce_now a.state)) whole-due;
+  module _ (us : List Token) (e : us ≡ tokens_at a.pattern.messages a.passed) (short : length us ≤ 10) where
+    leaves-in : (state : SymmetricState) (remote : Remote) → keyed state ≡ keyed_after_tokens a.means.has_psks (keyed a.state) us
+        → nonce_now state ≡ nonce_after_message a.means.has_psks (keyed a.state) (nonce_now a.state) us
+        → KnowsRemote (record (held_in a) { remote = remote; passed = a.passed + 1 }) → Leaves h state remote
+    leaves-in state remote k n knows =
+        subst (λ (z : HandshakeValue K). Leaves z state remote) seen (record {
+          key = k ∙ ap (λ (b : Bool). keyed_after_tokens b (keyed a.state) us) i.0 ∙ ap (keyed_after_tokens (has_psk a.pattern) (keyed a.state)) e;
+          counted = n ∙ ap (λ (b : Bool). nonce_after_message b (keyed a.state) (nonce_now a.state) us) i.0
+              ∙ ap (nonce_after_message (has_psk a.pattern) (keyed a.state) (nonce_now a.state)) e;
           knows = knows;
-          few = omega (arith, short, ap length d, count-due, ap (λ (z : HandshakeValue K). length (tokens_due z)) seen);
+          few = omega (arith, short, ap length e);
         })
 
-    pub leaves-read : turn_from Initiator a.passed ≡ other a.means.role
-        → keying_of f.state f.remote ≡ keying_after_tokens a.means.has_psks (keying_of a.state a.remote) (tokens_of (take count ds)) → TokensLeave h f
-    leaves-read turn q =
-        let k = knows-read (held_in a) i.3 less f.remote f.state [] (tokens_of (take count ds)) turn whole-due
-        (ap (λ (z : Keying). z.e) q) (ap (λ (z : Keying). z.s) q) in
-        leaves-in (ap (λ (z : Keying). z.keyed) q) (ap (λ (z : Keying). z.nonce) q) (record { e = k.e; s = k.s })
+    -- that were read
+    pub leaves-read : turn_from Initiator a.passed ≡ other a.means.role → (state : SymmetricState) (remote : Remote)
+        → keying_of state remote ≡ keying_after_message a.means.has_psks (keying_of a.state a.remote) us → Leaves h state remote
+    leaves-read turn state remote q =
+        let k = knows-read (held_in a) i.3 less remote state [] us turn e (ap (λ (z : Keying). z.e) q) (ap (λ (z : Keying). z.s) q) in
+        leaves-in state remote (ap (λ (z : Keying). z.keyed) q) (ap (λ (z : Keying). z.nonce) q) (record { e = k.e; s = k.s })
 
-    pub leaves-wrote : turn_from Initiator a.passed ≡ a.means.role → f.remote ≡ a.remote
-        → keyed f.state ≡ keyed_after_tokens a.means.has_psks (keyed a.state) (tokens_of (take count ds))
-        → nonce_now f.state ≡ nonce_after_tokens a.means.has_psks (keyed a.state) (nonce_now a.state) (tokens_of (take count ds)) → TokensLeave h f
-    leaves-wrote turn same key n =
-        let k = knows-wrote (held_in a) i.3 less f.state [] turn in
-        leaves-in key n (subst (λ (z : Remote). KnowsRemote (record (held_in a) { remote = z; passed = a.passed + 1 })) (sym same)
-        (record { e = k.e; s = k.s }))
+    -- that were written
+    pub leaves-wrote : turn_from Initiator a.passed ≡ a.means.role → (state : SymmetricState)
+        → keyed state ≡ keyed_after_tokens a.means.has_psks (keyed a.state) us
+        → nonce_now state ≡ nonce_after_message a.means.has_psks (keyed a.state) (nonce_now a.state) us → Leaves h state a.remote
+    leaves-wrote turn state key n =
+        let k = knows-wrote (held_in a) i.3 less state [] turn in leaves-in state a.remote key n (record { e = k.e; s = k.s })
+
+    -- and then any ciphertext
+    pub read-mixed : (f : Front) (bytes : List ℕ)
+        → keying_of f.state f.remote ≡ keying_after_tokens a.means.has_psks (keying_of a.state a.remote) us
+        → keying_of (after_ciphertext f.state bytes) f.remote ≡ keying_after_message a.means.has_psks (keying_of a.state a.remote) us
+    read-mixed f bytes q = ap (λ (z : Keying). record z { nonce = next_nonce z.keyed z.nonce }) q
+
+    pub wrote-mixed : (state : SymmetricState) (bytes : List ℕ) → keyed state ≡ keyed_after_tokens a.means.has_psks (keyed a.state) us
+        → nonce_now state ≡ nonce_after_tokens a.means.has_psks (keyed a.state) (nonce_now a.state) us
+        → nonce_now (after_ciphertext state bytes) ≡ nonce_after_message a.means.has_psks (keyed a.state) (nonce_now a.state) us
+    wrote-mixed state bytes k n =
+        ap (λ (b : Bool). next_nonce b (nonce_now state)) k ∙ ap (next_nonce (keyed_after_tokens a.means.has_psks (keyed a.state) us)) n
 
   -- and what the handshake holds after it
   module _ (state : SymmetricState) (remote : Remote) (l : Leaves h state remote) (has : HasPsks h) where
@@ -173,6 +181,38 @@ module _ {K : Type 0} (pairs : K → KeyPairs) (a : Inside K) (i : IsKept pairs 
         (unchanged-next pairs a i less a.next.tokens.items refl a.state state refl key-left counted-left short plan same laid lays h seen has remote
         (record { e = left.knows.e; s = left.knows.s }))
 
+-- one message more has passed
+module _ {K : Type 0} (pairs : K → KeyPairs) (h : HandshakeValue K) (state : SymmetricState) (remote : Remote) where
+  pub gone-advances : HasPsks h → h.ended ≡ false → Advances h (gone_on h state remote)
+  gone-advances has going =
+      let n : ℕ = count_by is_psk (tokens_due h) in
+      record {
+        pattern = refl;
+        role = refl;
+        keys = refl;
+        passed = refl;
+        ended = going;
+        taken = take n h.psks;
+        count = length-take-le n h.psks has;
+        psks = sym (take-append-drop n h.psks);
+      }
+
+  -- for the parties of the handshake
+  pub gone-to : (v : Party) → ValueMatches pairs h v → (xs : List (List ℕ)) (payload : List ℕ) (known : Remote)
+      → StateMatches state (after_payload (has_psk v.pattern) v.history (tokens_now v) xs payload) → remote ≡ known
+      → ValueMatches pairs (gone_on h state remote) (record (after_own v xs payload) { remote = known })
+  gone-to v s xs payload known k e = record {
+    pattern = s.pattern;
+    role = s.role;
+    psks = ap (λ (ts : List Token). drop (count_by is_psk ts) h.psks) (tokens-are pairs h v s) ∙ ap (drop (count_by is_psk (tokens_now v))) s.psks;
+    own = s.own;
+    agree = s.agree;
+    remote = e;
+    passed = ap (λ (n : ℕ). n + 1) s.passed;
+    ended = s.ended;
+    history = k;
+  }
+
 -- a handshake that has all psks matches the party after a message that went past
 -- whose next message it is
 pub less-now : {K : Type 0} (pairs : K → KeyPairs) (h : HandshakeValue K) (v : Party) → Matches pairs h v → v.passed < length v.pattern.messages
@@ -181,9 +221,6 @@ less-now pairs h v s more =
     subst (λ (n : ℕ). n < length h.pattern.messages) (sym s.passed) (subst (λ (p : Plan). v.passed < length p.messages) (sym s.pattern) more)
 
 module _ {K : Type 0} (pairs : K → KeyPairs) (h : HandshakeValue K) (v : Party) (s : Matches pairs h v) (less : h.passed < length h.pattern.messages) where
-  due-now : tokens_due h ≡ tokens_now v
-  due-now = tokens-are pairs h v (value-of pairs h v s)
-
   pub gone-matches : (f : Front) (xs : List (List ℕ)) (payload message : List ℕ) (state : SymmetricState) (known : Remote)
       → IsFront f (has_psk v.pattern) v.history (tokens_now v) xs known
       → message ≡ message_bytes (has_psk v.pattern) v.history (tokens_now v) xs payload
@@ -195,15 +232,7 @@ module _ {K : Type 0} (pairs : K → KeyPairs) (h : HandshakeValue K) (v : Party
       let after : History = after_tokens has_psks v.history (tokens_now v) xs in
       let rest : drop f.from message ≡ ciphertext after payload =
       ap (drop f.from) spelled ∙ drop_at piece (ciphertext after payload) f.from (sym q.from) in
-      record {
-        pattern = s.pattern;
-        role = s.role;
-        psks = ap (λ (ts : List Token). drop (count_by is_psk ts) h.psks) due-now ∙ ap (drop (count_by is_psk (tokens_now v))) s.psks;
-        own = s.own;
-        agree = s.agree;
-        remote = q.remote;
-        passed = ap (λ (n : ℕ). n + 1) s.passed;
-        ended = s.ended;
-        history = mixed ∙ ap (after_ciphertext f.state) rest ∙ ap (λ (z : SymmetricState). after_ciphertext z (ciphertext after payload)) q.state;
-        supplied = omega (arith, next-count h less s.supplied, length-drop (count_by is_psk (tokens_due h)) h.psks);
-      }
+      matches-of pairs (gone_on h state f.remote) (record (after_own v xs payload) { remote = known })
+      (gone-to pairs h state f.remote v (value-of pairs h v s) xs payload known
+      (mixed ∙ ap (after_ciphertext f.state) rest ∙ ap (λ (z : SymmetricState). after_ciphertext z (ciphertext after payload)) q.state) q.remote)
+      (omega (arith, next-count h less s.supplied, length-drop (count_by is_psk (tokens_due h)) h.psks))

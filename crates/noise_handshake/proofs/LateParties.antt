@@ -1,5 +1,5 @@
 -- A handshake for the parties whose psks begin with those that were handed in.
-use Rattle.std.proofs.Common.{rules, ◌≡◌, ℕ, zero, suc, ◌+◌, ◌-◌, ◌<◌, ◌≤◌, List, [], ◌∷◌, ◌++◌, length, take, drop, set, refl, ap, sym, subst, ◌∙◌, arith, take-take, length-take, length-drop, take_all, length-append}
+use Rattle.std.proofs.Common.{rules, ◌≡◌, ℕ, zero, suc, ◌+◌, ◌-◌, ◌<◌, ◌≤◌, List, [], ◌∷◌, ◌++◌, length, take, drop, refl, ap, sym, subst, ◌∙◌, arith, take-take, length-take, length-append}
 use Rattle.std.specs.Prelude.{Bool, true, false, not, is_none, is_some, if◌then◌else◌}
 use Rattle.noise_handshake.proofs.Common.{take-append-le, drop-append-le, ◌&&◌, ◌==◌, Option, Some, None, MatchOption, count_by, Token, is_psk, Own, Cause, Agreement, ReadFault, Err, Ok, MatchResult, Result, HandshakeValue, HasPsks, Advances, IsAgreement, ended_as, is_turn, read_fault, write_fault, WriteFault, E, S, Ephemeral, Static, IsLateWhole, IsSound, KnowsRemote, is_among, places_of, IsSupplied, Matches, MatchesWith, Plan, psks_of, with_later, WantsPskToRead, WantsPskToWrite, ValueMatches, DoesNotRead, DoesNotWrite, after_message, after_own, after_not_read, after_not_written, ended_party, Party, Accepts, BeginsAs, Listens, CanBegin, Refuses, Speaks, reader, tokens_at, tokens_now, LacksDhResultFor, WantsToRead, WantsToWrite, Writes, LacksDhResult, LacksDhResultAt, writer, IsPskAfter, BeginsBefore}
 use Rattle.noise_handshake.specs.Calls.{HasNotWritten, HasWrittenTo}
@@ -9,7 +9,7 @@ use Rattle.noise_handshake.specs.Parts.{IsWholeValue}
 use Rattle.noise_handshake.proofs.Fronts.{lacks-all, lacks-first, lacks-for-all}
 use Rattle.noise_handshake.proofs.Apart.{front-apart, reads-leads}
 use Rattle.noise_handshake.specs.declared.stop.Stop.{Stop}
-use Rattle.noise_handshake.proofs.Standing.{listens, tokens-are}
+use Rattle.noise_handshake.proofs.Standing.{tokens-are}
 use Rattle.noise_handshake.proofs.Later.{count-take, count-less, given-same, leads-same, reads-same, stops-same, stops-for-same, lacks-same, lacks-for-same}
 use Rattle.noise_handshake.proofs.Once.{refuses-one}
 use Rattle.noise_handshake.proofs.PskPlaces.{no-psk, psk-place}

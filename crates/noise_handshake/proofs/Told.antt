@@ -1,9 +1,9 @@
 -- What is told of a message's first token, and then of those after it.
-use Rattle.std.proofs.Common.{rules, ◌≡◌, ℕ, suc, ◌+◌, ◌≤◌, Bool, List, [], ◌∷◌, ◌++◌, length, take, drop, refl, ap, sym, subst, ◌∙◌, arith, append_assoc, length-append, length-drop, length-take}
+use Rattle.std.proofs.Common.{◌≡◌, ℕ, suc, ◌+◌, ◌≤◌, Bool, List, [], ◌∷◌, ◌++◌, length, take, drop, ap, sym, subst, ◌∙◌, arith, append_assoc, length-append, length-drop, length-take}
 use Rattle.noise_handshake.proofs.Common.{Token, History, SymmetricState, StateMatches, Remote, token_bytes, after_token, before_payload, Reader, Fits, Fit, BeginsAs, known_after, psks_after, first_psk, Writer, Gives, Given}
 use Rattle.noise_handshake.proofs.Apart.{token-apart}
 use Rattle.noise_handshake.proofs.Giving.{given-one}
-use Rattle.noise_handshake.specs.Steps.{after_step, after_steps, state_of_history}
+use Rattle.noise_handshake.specs.Steps.{after_step, after_steps}
 
 -- a text takes as many bytes as are read of it
 pub width-read : (piece rest : List ℕ) (n : ℕ) → n ≤ length rest → rest ≡ piece ++ drop n rest → length piece ≡ n

@@ -151,14 +151,17 @@ impl<K: Keys> Handshake<K> {
         }
     }
 
-    /// Goes past the next message, which has passed between the parties: it was written by this one, or read and
-    /// accepted. `steps` is told of each of its tokens, and where the payload begins is returned, in bytes. The handshake
-    /// is then that after the message.
+    /// Goes past the next message, which has passed between the parties: this one wrote it, or read and accepted it.
+    /// `steps` is told of each of its tokens. Returned is where its payload begins, in bytes, and the handshake is then
+    /// that after the message.
     ///
-    /// `message` is as it was sent, so a copy of one that was read in place. Its payload isn't decrypted, and nothing of
-    /// a message of its own is compared, so of other messages than those that have passed the handshake after it
-    /// matches no party. None where no message is due, where a psk is lacking, and where the tokens don't fit; then the
-    /// handshake is as it was, and some tokens may have been told.
+    /// `message` is as it was sent, so a copy of one that was read in place. Its payload isn't decrypted, and of a
+    /// message of its own nothing is compared: after a message that hasn't passed the handshake matches no party.
+    /// None where no message is due, where a psk is lacking, and where the tokens don't fit; then the handshake is as
+    /// it was, and some tokens may have been told.
+    ///
+    /// The handshake is one beside that of the party, put together of what `progress` gives: two that go on with one
+    /// key would encrypt at the same nonce.
     pub fn follow<S: Steps>(&mut self, message: &[u8], steps: &mut S) -> Option<usize>
         ensures accepted { (v : Party) (xs : List (List ℕ)) (payload : List ℕ) → Matches K.pairs self.old v
             → Accepts v message.now xs payload

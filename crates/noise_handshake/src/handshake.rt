@@ -411,12 +411,7 @@ impl<K: Keys> Handshake<K> {
         let mut remote = self.remote;
         match read_message(&mut state, &mut remote, &self.means, psks, placed, message) {
             Ok(place) => {
-                self.used += self.next.psks as usize;
-                self.passed += 1;
-                let plan = self.pattern.pattern();
-                self.next = lay_next(plan, self.means.has_psks, state.has_key(), self.passed);
-                self.state = state;
-                self.remote = remote;
+                self.go_on(state, remote);
                 Ok(place)
             }
             Err((token, cause)) => Err(Stop {
@@ -601,9 +596,10 @@ impl<K: Keys> Handshake<K> {
     {
         let psks = &self.psks[self.used..];
         let mut state = self.state.for_trial();
+        let remote = self.remote;
         match write_message(
             &mut state,
-            &self.remote,
+            &remote,
             &self.means,
             psks,
             &self.next.tokens,
@@ -611,11 +607,7 @@ impl<K: Keys> Handshake<K> {
             out,
         ) {
             Ok(len) => {
-                self.used += self.next.psks as usize;
-                self.passed += 1;
-                let plan = self.pattern.pattern();
-                self.next = lay_next(plan, self.means.has_psks, state.has_key(), self.passed);
-                self.state = state;
+                self.go_on(state, remote);
                 Ok(len)
             }
             Err(token) => {

@@ -1,4 +1,4 @@
-use Rattle.std.proofs.Common.{rules, ◌≡◌, ap, ℕ, ◌+◌, List, ◌∷◌, ◌++◌, ◌≤◌, [], length, drop, ◌∙◌, refl, arith, sym, subst, drop-drop}
+use Rattle.std.proofs.Common.{◌≡◌, ap, ℕ, ◌+◌, List, ◌∷◌, ◌++◌, ◌≤◌, [], length, drop, ◌∙◌, refl, arith, sym, subst, drop-drop}
 use Rattle.std.specs.Prelude.{Bool, is_some}
 use Rattle.noise_handshake.proofs.Common.{nil_from_length, reader_of, Token, StateMatches, keyed, cipher_key, PlacedToken, token_bytes, after_token, after_tokens, Reader, BeginsAs, remote_after, cause_of, tokens_of, Fails, Keying}
 use Rattle.noise_handshake.proofs.Apart.{leads-none}

@@ -1,4 +1,4 @@
-use Rattle.std.proofs.Common.{◌≡◌, ℕ, ◌+◌, ◌-◌, ◌<◌, ◌≤◌, Bool, List, ◌++◌, length, take, drop, refl, ap, sym, subst, ◌∙◌, arith, take_all, length-append, length-drop}
+use Rattle.std.proofs.Common.{◌≡◌, ℕ, ◌-◌, ◌<◌, ◌≤◌, Bool, List, ◌++◌, length, take, drop, ap, sym, subst, ◌∙◌, arith, take_all, length-append, length-drop}
 use Rattle.noise_handshake.proofs.Common.{Some, Token, SymmetricState, has_psk, after_ciphertext, ciphertext, before_payload, after_tokens, reader, writer, BeginsAs, Given, remote_after, tokens_now, Matches, HandshakeValue, after_message, after_own}
 use Rattle.noise_handshake.specs.Steps.{after_steps}
 use Rattle.noise_handshake.specs.inner.Following.{IsFront, Leaves}

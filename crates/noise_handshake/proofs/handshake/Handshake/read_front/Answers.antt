@@ -1,12 +1,13 @@
-use Rattle.std.proofs.Common.{rules, ◌≡◌, ◌+◌, ◌-◌, ◌<◌, ◌≤◌, ◌^◌, ℕ, Bool, List, length, take, refl, ap, sym, subst, ◌∙◌, arith, length-take}
-use Rattle.noise_handshake.proofs.Common.{reader_of, count_by, is_psk, Some, Token, SymmetricState, StateMatches, keyed, nonce_now, Reader, BeginsAs, remote_after, ArePlaced, PlacedToken, tokens_of, tokens_at, Keying, keying_of}
+use Rattle.std.proofs.Common.{◌≡◌, ◌+◌, ◌-◌, ◌<◌, ◌≤◌, ◌^◌, ℕ, Bool, List, length, take, ap, ◌∙◌, arith, length-take}
+use Rattle.noise_handshake.proofs.Common.{after_ciphertext, reader_of, count_by, is_psk, Some, Token, SymmetricState, StateMatches, keyed, nonce_now, Reader, BeginsAs, remote_after, ArePlaced, PlacedToken, tokens_of, tokens_at, Keying, keying_of}
 use Rattle.noise_handshake.specs.declared.following.Front.{Front}
 use Rattle.noise_handshake.specs.inner.Following.{Fronts}
 use Rattle.noise_handshake.specs.inner.Keying.{keying_after_tokens}
 use Rattle.noise_handshake.proofs.Counting.{nonces-most}
-use Rattle.noise_handshake.proofs.Followed.{count-now, front-read, front-unread, leaves-read}
+use Rattle.noise_handshake.proofs.Followed.{count-now, front-read, front-unread, leaves-read, read-mixed, whole-due}
 use Rattle.noise_handshake.proofs.Fronts.{tokens-take, placed-take}
 use Rattle.noise_handshake.proofs.Later.{count-take}
+use Rattle.noise_handshake.proofs.Layouts.{length-tokens_of}
 use Rattle.noise_handshake.proofs.LateParties.{supplied-not, value-of}
 use Rattle.noise_handshake.proofs.Next.{reads-next, reads-theirs, places-next, psks-before, nonces-next, trial-next, listening-next}
 use Rattle.noise_handshake.proofs.Standing.{for-view}
@@ -93,9 +94,13 @@ returns-in-Ok-clause-leaves g c all =
     let cut : tokens_of (take count ds) ≡ take count (tokens_of ds) = tokens-take ds count in
     let b : Bool = a.means.has_psks in
     let f : Front = record { from = c.in-Ok.from; state = c.read_tokens.new.state; remote = c.read_tokens.new.known } in
-    leaves-read P a c.self.invariant less c.args.self.now c.self.view_is ds d count all (omega (arith, c.deref-2.ensures.1)) f
-    (reads-theirs P a c.self.invariant c.args.self.now c.self.view_is c.requires.due)
-    (c.in-Ok.ensures.keying ∙ ap (λ (z : SymmetricState). keying_after_tokens b (keying_of z a.remote) (tokens_of (take count ds))) c.for_trial-state.ensures)
+    let us : List Token = tokens_of (take count ds) in
+    let e = whole-due P a c.self.invariant less c.args.self.now c.self.view_is ds d count all in
+    let short : length us ≤ 10 = omega (arith, ap length cut, length-take count (tokens_of ds), length-tokens_of ds, c.deref-2.ensures.1) in
+    λ bytes. leaves-read P a c.self.invariant less c.args.self.now c.self.view_is us e short
+    (reads-theirs P a c.self.invariant c.args.self.now c.self.view_is c.requires.due) (after_ciphertext f.state bytes) f.remote
+    (read-mixed P a c.self.invariant less c.args.self.now c.self.view_is us e short f bytes
+    (c.in-Ok.ensures.keying ∙ ap (λ (z : SymmetricState). keying_after_tokens b (keying_of z a.remote) us) c.for_trial-state.ensures))
 
 pub returns-in-Ok-clause-front : goal.returns-in-Ok-clause-front
 returns-in-Ok-clause-front g c v xs rest s within begins =

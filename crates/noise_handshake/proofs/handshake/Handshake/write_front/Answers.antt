@@ -1,9 +1,8 @@
-use Rattle.std.proofs.Common.{rules, ◌≡◌, ◌+◌, ◌-◌, ◌<◌, ◌≤◌, ◌^◌, ℕ, Bool, List, length, take, refl, ap, sym, subst, ◌∙◌, arith, length-take}
-use Rattle.noise_handshake.proofs.Common.{writer_of, count_by, is_psk, IsTrue, list_all, Some, Token, SymmetricState, StateMatches, keyed, nonce_now, Writer, Given, keyed_after_tokens, nonce_after_tokens, tokens_width, has_own, ArePlaced, PlacedToken, tokens_of, tokens_at}
-use Rattle.noise_handshake.specs.declared.following.Front.{Front}
+use Rattle.std.proofs.Common.{◌≡◌, ◌+◌, ◌-◌, ◌<◌, ◌≤◌, ◌^◌, ℕ, Bool, List, length, take, ap, sym, subst, ◌∙◌, arith, length-take}
+use Rattle.noise_handshake.proofs.Common.{after_ciphertext, writer_of, count_by, is_psk, IsTrue, list_all, Some, Token, SymmetricState, StateMatches, keyed, nonce_now, Writer, Given, keyed_after_tokens, nonce_after_tokens, has_own, ArePlaced, PlacedToken, tokens_of, tokens_at}
 use Rattle.noise_handshake.specs.inner.Following.{Fronts}
 use Rattle.noise_handshake.proofs.Counting.{nonces-most}
-use Rattle.noise_handshake.proofs.Followed.{count-now, front_of, front-written, front-unwritten, leaves-wrote, widths-most}
+use Rattle.noise_handshake.proofs.Followed.{count-now, front_of, front-written, front-unwritten, leaves-wrote, whole-due, widths-most, wrote-mixed}
 use Rattle.noise_handshake.proofs.Fronts.{all-take, tokens-take, placed-take}
 use Rattle.noise_handshake.proofs.Later.{count-take}
 use Rattle.noise_handshake.proofs.Layouts.{length-tokens_of}
@@ -103,11 +102,15 @@ returns-in-Ok-clause-leaves g c all =
     let count : ℕ = c.args.count in
     let cut : tokens_of (take count ds) ≡ take count (tokens_of ds) = tokens-take ds count in
     let b : Bool = a.means.has_psks in
-    let f : Front = record { from = c.in-Ok.from; state = c.write_tokens.new.state; remote = a.remote } in
-    leaves-wrote P a c.self.invariant less c.args.self.now c.self.view_is ds d count all (omega (arith, c.deref-2.ensures.1)) f
-    (speaks-ours P a c.self.invariant c.args.self.now c.self.view_is c.requires.due) refl
-    (c.in-Ok.ensures.keyed ∙ ap (λ (z : SymmetricState). keyed_after_tokens b (keyed z) (tokens_of (take count ds))) c.for_trial-state.ensures)
-    (c.in-Ok.ensures.counted ∙ ap (λ (z : SymmetricState). nonce_after_tokens b (keyed z) (nonce_now z) (tokens_of (take count ds))) c.for_trial-state.ensures)
+    let state : SymmetricState = c.write_tokens.new.state in
+    let us : List Token = tokens_of (take count ds) in
+    let e = whole-due P a c.self.invariant less c.args.self.now c.self.view_is ds d count all in
+    let short : length us ≤ 10 = omega (arith, ap length cut, length-take count (tokens_of ds), length-tokens_of ds, c.deref-2.ensures.1) in
+    let key = c.in-Ok.ensures.keyed ∙ ap (λ (z : SymmetricState). keyed_after_tokens b (keyed z) us) c.for_trial-state.ensures in
+    λ bytes. leaves-wrote P a c.self.invariant less c.args.self.now c.self.view_is us e short
+    (speaks-ours P a c.self.invariant c.args.self.now c.self.view_is c.requires.due) (after_ciphertext state bytes) key
+    (wrote-mixed P a c.self.invariant less c.args.self.now c.self.view_is us e short state bytes key
+    (c.in-Ok.ensures.counted ∙ ap (λ (z : SymmetricState). nonce_after_tokens b (keyed z) (nonce_now z) us) c.for_trial-state.ensures))
 
 pub returns-in-Ok-clause-front : goal.returns-in-Ok-clause-front
 returns-in-Ok-clause-front g c v xs s within given =
