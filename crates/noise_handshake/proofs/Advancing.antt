@@ -1,7 +1,7 @@
 -- What a message that passed leaves.
-use Rattle.std.proofs.Common.{◌≡◌, ◌+◌, ◌++◌, ℕ, List, Bool, true, false, drop, take, length, refl, sym, ap, ◌∙◌, drop-drop}
+use Rattle.std.proofs.Common.{◌≡◌, ℕ, Bool, true, false, refl}
 use Rattle.std.specs.Prelude.{if◌then◌else◌}
-use Rattle.noise_handshake.proofs.Common.{Option, Some, None, count_by, is_psk, tokens_at, take-append-drop, HandshakeValue, Advances, read_fault, write_fault}
+use Rattle.noise_handshake.proofs.Common.{Option, Some, None, HandshakeValue, read_fault, write_fault}
 
 some-none : {A : Type 0} (x : A) → ◌≡◌ {A = Option A} (Some x) None → ⊥
 some-none x e = cc
@@ -16,19 +16,3 @@ unended-read h e = unended h.ended _ _ e
 
 pub unended-write : {K : Type 0} (h : HandshakeValue K) (len : ℕ) → write_fault h len ≡ None → h.ended ≡ false
 unended-write h len e = unended h.ended _ _ e
-
--- some of the psks that were left are taken from their front
-pub advanced : {K : Type 0} (old new : HandshakeValue K) (psks : List (List ℕ)) (used count : ℕ) → new.pattern ≡ old.pattern → new.role ≡ old.role → new.keys ≡ old.keys
-    → new.passed ≡ old.passed + 1 → new.ended ≡ false → old.psks ≡ drop used psks → new.psks ≡ drop (used + count) psks
-    → length (take count old.psks) ≡ count_by is_psk (tokens_at old.pattern.messages old.passed) → Advances old new
-advanced old new psks used count p r k n e before after due = record {
-  pattern = p;
-  role = r;
-  keys = k;
-  passed = n;
-  ended = e;
-  taken = take count old.psks;
-  count = due;
-  psks = sym (take-append-drop count old.psks)
-      ∙ ap (λ (z : List (List ℕ)). take count old.psks ++ z) (ap (drop count) before ∙ drop-drop count used psks ∙ sym after);
-}

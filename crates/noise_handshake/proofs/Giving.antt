@@ -48,7 +48,7 @@ module _ (w : Writer) (known : Remote) (psks others : List (List ℕ)) (r : Hist
 
 -- ---- what a party gives is determined
 
-given-one : (w : Writer) (known : Remote) (psks : List (List ℕ)) (ts : List Token) (xs ys : List (List ℕ)) → Given w known psks ts xs
+pub given-one : (w : Writer) (known : Remote) (psks : List (List ℕ)) (ts : List Token) (xs ys : List (List ℕ)) → Given w known psks ts xs
     → Given w known psks ts ys → xs ≡ ys
 given-one w known psks [] [] [] g h = refl
 given-one w known psks [] [] (y ∷ ys) g h = absurd h
@@ -58,7 +58,7 @@ given-one w known psks (t ∷ ts) (x ∷ xs) [] g h = absurd h
 given-one w known psks (t ∷ ts) (x ∷ xs) (y ∷ ys) g h = search (rules, (given-one w known (psks_after psks t) ts xs ys g.1 h.1))
 
 -- one text for each of the first tokens
-given-front : (w : Writer) (known : Remote) (psks : List (List ℕ)) (ts : List Token) (xs : List (List ℕ)) (n : ℕ) → Given w known psks ts xs
+pub given-front : (w : Writer) (known : Remote) (psks : List (List ℕ)) (ts : List Token) (xs : List (List ℕ)) (n : ℕ) → Given w known psks ts xs
     → Given w known psks (take n ts) (take n xs)
 given-front w known psks ts xs zero g = tt
 given-front w known psks [] [] (suc n) g = tt

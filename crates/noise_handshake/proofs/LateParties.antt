@@ -184,7 +184,7 @@ psks-from (ts ∷ ms) zero h = refl
 psks-from (ts ∷ ms) (suc n) h = psks-from ms n (omega (arith, h))
 
 module _ {K : Type 0} (h : HandshakeValue K) (less : h.passed < length h.pattern.messages) (all : IsSupplied h) where
-  next-count : length h.psks ≡ count_by is_psk (tokens_at h.pattern.messages h.passed) + psks_of (drop (h.passed + 1) h.pattern.messages)
+  pub next-count : length h.psks ≡ count_by is_psk (tokens_at h.pattern.messages h.passed) + psks_of (drop (h.passed + 1) h.pattern.messages)
   next-count =
       let next : suc h.passed ≡ h.passed + 1 = omega arith in
       all ∙ psks-from h.pattern.messages h.passed less

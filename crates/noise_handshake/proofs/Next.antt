@@ -1,11 +1,10 @@
 -- The next message of a handshake: what its fields give a reader or a writer, and what they hold after it.
-use Rattle.std.proofs.Common.{rules, ◌≡◌, ℕ, ◌+◌, ◌-◌, ◌<◌, ◌≤◌, ◌^◌, List, Bool, true, false, length, take, drop, sym, ap, subst, refl, ◌∙◌, arith, length-drop, drop-drop}
+use Rattle.std.proofs.Common.{rules, ◌≡◌, ℕ, ◌+◌, ◌-◌, ◌<◌, ◌≤◌, ◌^◌, List, Bool, true, length, take, drop, sym, ap, subst, refl, ◌∙◌, arith, length-drop, drop-drop}
 use Rattle.std.specs.Prelude.{is_some, not}
-use Rattle.noise_handshake.proofs.Common.{length-take-le, None, Some, count_by, ◌&&◌, ◌==◌, list_all, Token, E, S, Initiator, is_psk, other, turn_from, Plan, has_psk, has_key, overhead_of, StateMatches, keyed, nonce_now, SymmetricState, MessageLayout, PlacedToken, Remote, HandshakeValue, HasPsks, Advances, is_turn, message_len_of, read_fault, write_fault, added_width, keyed_after_tokens, after_payload, nonce_after_message, ValueMatches, after_message, after_own, passed_places, Party, remote_after, tokens_at, tokens_now, held_in, IsKept, IsPskAfter, KnowsRemote, are_known, is_known, has_after_tokens, tokens_of, ArePlaced, LaysNext, Listening, Speaking, has_own}
+use Rattle.noise_handshake.proofs.Common.{None, Some, count_by, ◌&&◌, ◌==◌, list_all, Token, Initiator, is_psk, other, turn_from, Plan, has_psk, has_key, overhead_of, StateMatches, keyed, nonce_now, SymmetricState, MessageLayout, PlacedToken, Remote, HandshakeValue, HasPsks, is_turn, message_len_of, read_fault, write_fault, added_width, keyed_after_tokens, nonce_after_message, ValueMatches, passed_places, Party, tokens_at, tokens_now, held_in, IsKept, IsPskAfter, KnowsRemote, are_known, is_known, tokens_of, ArePlaced, LaysNext, Listening, Speaking, has_own}
 use Rattle.noise_handshake.specs.declared.handshake.Handshake.TheInside.{Inside}
-use Rattle.noise_handshake.proofs.Advancing.{advanced, unended-read, unended-write}
 use Rattle.noise_handshake.proofs.Keeping.{key-after, sound-after}
-use Rattle.noise_handshake.proofs.Knowing.{knows-read, knows-wrote, reading-known, writing-known}
+use Rattle.noise_handshake.proofs.Knowing.{reading-known, writing-known}
 use Rattle.noise_handshake.proofs.Lacked.{due-speaking, due-turn, due-within}
 use Rattle.noise_handshake.proofs.Layouts.{length-tokens_of, places-laid, tokens-laid}
 use Rattle.noise_handshake.proofs.Owned.{owned}
@@ -25,9 +24,6 @@ module _ {K : Type 0} (pairs : K → KeyPairs) (a : Inside K) (i : IsKept pairs 
 
   pub reads-theirs : turn_from Initiator a.passed ≡ other a.means.role
   reads-theirs = reads-turn (held_in a) none-read
-
-  pub reads-unended : a.ended ≡ false
-  reads-unended = unended-read (held_in a) none-read
 
 -- or of this party
 module _ {K : Type 0} (pairs : K → KeyPairs) (a : Inside K) (i : IsKept pairs a) (h : HandshakeValue K) (seen : held_in a ≡ h)
@@ -52,9 +48,6 @@ module _ {K : Type 0} (pairs : K → KeyPairs) (a : Inside K) (i : IsKept pairs 
 
   pub writes-ours : turn_from Initiator a.passed ≡ a.means.role
   writes-ours = writes-turn pairs (held_in a) i.2 len none-write
-
-  pub writes-unended : a.ended ≡ false
-  writes-unended = unended-write (held_in a) len none-write
 
   pub writes-long : message_len_of h len ≡ Some (overhead_of a.pattern (a.passed + 1) + len)
   writes-long = ap (λ (z : HandshakeValue K). message_len_of z len) (sym seen) ∙ writes-length pairs (held_in a) i.2 len none-write
@@ -122,11 +115,8 @@ module _ {K : Type 0} (pairs : K → KeyPairs) (a : Inside K) (i : IsKept pairs 
           → count_by is_psk (tokens_of placed) ≤ length (take (length ds - a.used) (drop a.used ds))
       psks-next ds e = omega (arith, enough-next, ap length (items-from ds a.psks.items a.used e))
 
-      used-within : a.used + a.next.psks ≤ length a.psks.items
+      pub used-within : a.used + a.next.psks ≤ length a.psks.items
       used-within = omega (arith, enough-next, length-drop a.used a.psks.items, taken-next, i.1)
-
-      pub used-next : length a.psks.items ≤ 9 → a.used + a.next.psks ≤ 9
-      used-next few = omega (arith, used-within, few)
 
   pub nonces-next : (state : SymmetricState) → state ≡ a.state → length placed ≤ 10
       → nonce_now state + length (tokens_of placed) < 2 ^ 64 - 1
@@ -165,7 +155,7 @@ module _ {K : Type 0} (pairs : K → KeyPairs) (a : Inside K) (i : IsKept pairs 
           counted ∙ ap (λ (z : SymmetricState). nonce_after_message a.means.has_psks (keyed z) (nonce_now z) (tokens_of placed)) e
           ∙ ap (λ (b : Bool). nonce_after_message b (keyed a.state) (nonce_now a.state) (tokens_of placed)) i.0
 
-      unchanged-next : (known : Remote)
+      pub unchanged-next : (known : Remote)
           → KnowsRemote (held_in (record a { used = a.used + a.next.psks; passed = a.passed + 1; next = laid; state = new; remote = known }))
           → IsKept pairs (record a { used = a.used + a.next.psks; passed = a.passed + 1; next = laid; state = new; remote = known })
       unchanged-next known knows = (
@@ -178,17 +168,6 @@ module _ {K : Type 0} (pairs : K → KeyPairs) (a : Inside K) (i : IsKept pairs 
         i.5,
         i.6,
       )
-
-      pub unchanged-read : turn_from Initiator a.passed ≡ other a.means.role → (known : Remote) → is_some known.e ≡ has_after_tokens E (is_some a.remote.e) (tokens_of placed)
-          → is_some known.s ≡ has_after_tokens S (is_some a.remote.s) (tokens_of placed)
-          → IsKept pairs (record a { used = a.used + a.next.psks; passed = a.passed + 1; next = laid; state = new; remote = known })
-      unchanged-read turn known fe fs =
-          unchanged-next known
-          (knows-read (held_in a) i.3 less known new (drop (a.used + a.next.psks) a.psks.items) (tokens_of placed) turn tokens-next fe fs)
-
-      pub unchanged-wrote : turn_from Initiator a.passed ≡ a.means.role
-          → IsKept pairs (record a { used = a.used + a.next.psks; passed = a.passed + 1; next = laid; state = new })
-      unchanged-wrote turn = unchanged-next a.remote (knows-wrote (held_in a) i.3 less new (drop (a.used + a.next.psks) a.psks.items) turn)
 
   -- for the parties of the handshake
   module _ (h : HandshakeValue K) (seen : held_in a ≡ h) (v : Party) (s : ValueMatches pairs h v) where
@@ -221,32 +200,5 @@ module _ {K : Type 0} (pairs : K → KeyPairs) (a : Inside K) (i : IsKept pairs 
           speaking pairs (held_in a) i.2 len (none-write pairs a i h seen len none) v matches-in a.means.has_psks
           (take (length ds - a.used) (drop a.used ds)) (tokens_of placed) i.0 (items-from ds a.psks.items a.used f) here
 
-    pub after-read : (xs : List (List ℕ)) (payload : List ℕ) (new : SymmetricState) (known : Remote) (laid : MessageLayout)
-        → StateMatches new (after_payload a.means.has_psks v.history (tokens_of placed) xs payload) → known ≡ remote_after a.remote (tokens_of placed) xs
-        → ValueMatches pairs
-        (held_in (record a { used = a.used + a.next.psks; passed = a.passed + 1; next = laid; state = new; remote = known }))
-        (after_message v xs payload)
-    after-read xs payload new known laid t k = search (rules, here, left-next)
-
-    pub after-wrote : (len : ℕ) → write_fault h len ≡ None → (xs : List (List ℕ)) (payload : List ℕ) (new : SymmetricState) (laid : MessageLayout)
-        → StateMatches new (after_payload a.means.has_psks v.history (tokens_of placed) xs payload)
-        → ValueMatches pairs (held_in (record a { used = a.used + a.next.psks; passed = a.passed + 1; next = laid; state = new }))
-        (after_own v xs payload)
-    after-wrote len none xs payload new laid t = search (rules, here, left-next)
-
     pub short-next : (len : ℕ) → write_fault h len ≡ None → overhead_of v.pattern (v.passed + 1) + len ≤ 65535
     short-next len none = short-view pairs (held_in a) i.2 len (none-write pairs a i h seen len none) v matches-in
-
--- one message more has passed
-module _ {K : Type 0} (pairs : K → KeyPairs) (a : Inside K) (i : IsKept pairs a) (less : a.passed < length a.pattern.messages)
-    (h : HandshakeValue K) (seen : held_in a ≡ h) (has : HasPsks h) (going : a.ended ≡ false) (known : Remote) (new : SymmetricState) (laid : MessageLayout) where
-  taken-count : length (take a.next.psks (drop a.used a.psks.items)) ≡ count_by is_psk (tokens_at a.pattern.messages a.passed)
-  taken-count =
-      let n = (i.4 less).psks in
-      let here : count_by is_psk (tokens_at a.pattern.messages a.passed) ≤ length (drop a.used a.psks.items) =
-      subst (λ (z : HandshakeValue K). count_by is_psk (tokens_at z.pattern.messages z.passed) ≤ length z.psks) (sym seen) has in
-      length-take-le a.next.psks (drop a.used a.psks.items)
-      (omega (arith, n, here)) ∙ n
-
-  pub advances-next : Advances h (held_in (record a { used = a.used + a.next.psks; passed = a.passed + 1; next = laid; state = new; remote = known }))
-  advances-next = search (rules, advanced, taken-count)

@@ -1,7 +1,7 @@
 -- What a handshake matches, and what follows for a message.
-use Rattle.std.proofs.Common.{rules, ◌≡◌, ℕ, ◌+◌, ◌<◌, ◌≤◌, List, Bool, true, false, length, drop, sym, ap, subst, refl, ◌∙◌}
+use Rattle.std.proofs.Common.{rules, ◌≡◌, ℕ, ◌<◌, ◌≤◌, List, Bool, true, false, length, sym, ap, refl, ◌∙◌}
 use Rattle.std.specs.Prelude.{if◌then◌else◌}
-use Rattle.noise_handshake.proofs.Common.{Option, None, Some, count_by, ◌==◌, Token, Role, Initiator, is_psk, other, same_role, turn_from, Plan, has_psk, StateMatches, SymmetricState, Own, Remote, Cause, ReadFault, after_payload, Party, Reader, reader, Listens, Reads, Stops, Accepts, Refuses, remote_after, tokens_at, tokens_now, Listening, HandshakeValue, read_fault, is_turn, ValueMatches, DoesNotRead, after_not_read, after_message, ended_party, same_role-true}
+use Rattle.noise_handshake.proofs.Common.{Option, None, Some, ◌==◌, Token, Role, Initiator, other, same_role, turn_from, Plan, has_psk, Own, Remote, Cause, ReadFault, Party, Reader, reader, Listens, Reads, Stops, Accepts, Refuses, tokens_at, tokens_now, Listening, HandshakeValue, read_fault, is_turn, ValueMatches, DoesNotRead, after_not_read, ended_party, same_role-true}
 use Rattle.noise_handshake.specs.declared.faults.ReadFault.TheVariants as read
 use Rattle.noise_keys.specs.Keys.{KeyPairs}
 
@@ -93,24 +93,6 @@ module _ {K : Type 0} (pairs : K → KeyPairs) (h : HandshakeValue K) (v : Party
     psks_are = d ∙ s.psks;
     known_is = s.remote;
     tokens_are = e;
-  }
-
-  pub after : (has_psks : Bool) (tokens : List Token) (xs : List (List ℕ)) (payload : List ℕ) (state : SymmetricState) (remote : Remote)
-      (psks : List (List ℕ)) (passed : ℕ) → has_psks ≡ has_psk h.pattern → tokens ≡ tokens_now v
-      → psks ≡ drop (count_by is_psk tokens) h.psks → passed ≡ h.passed + 1 → StateMatches state (after_payload has_psks v.history tokens xs payload)
-      → remote ≡ remote_after v.remote tokens xs
-      → ValueMatches pairs (record h { state = state; remote = remote; psks = psks; passed = passed }) (after_message v xs payload)
-  after has_psks tokens xs payload state remote psks passed b e u n k m = record {
-    pattern = s.pattern;
-    role = s.role;
-    psks = u ∙ ap (λ (ts : List Token). drop (count_by is_psk ts) h.psks) e ∙ ap (drop (count_by is_psk (tokens_now v))) s.psks;
-    own = s.own;
-    agree = s.agree;
-    remote = m ∙ ap (λ (ts : List Token). remote_after v.remote ts xs) e;
-    passed = n ∙ ap (λ (i : ℕ). i + 1) s.passed;
-    ended = s.ended;
-    history = subst (λ (ts : List Token). StateMatches state (after_payload (has_psk v.pattern) v.history ts xs payload)) e
-        (subst (λ (z : Bool). StateMatches state (after_payload z v.history tokens xs payload)) (b ∙ ap has_psk s.pattern) k);
   }
 
   -- with other psks

@@ -1,7 +1,7 @@
 -- What a handshake that writes asks and leaves.
-use Rattle.std.proofs.Common.{rules, ◌≡◌, ℕ, ◌+◌, ◌<◌, ◌≤◌, List, Bool, true, false, length, drop, sym, ap, subst, refl, ◌∙◌, arith, not}
+use Rattle.std.proofs.Common.{rules, ◌≡◌, ℕ, ◌+◌, ◌<◌, ◌≤◌, List, Bool, true, false, length, sym, ap, subst, refl, ◌∙◌, arith, not}
 use Rattle.std.specs.Prelude.{nat_lt, if◌then◌else◌}
-use Rattle.noise_handshake.proofs.Common.{nat_tests, Option, None, Some, count_by, ◌==◌, IsTrue, list_all, Token, Role, Initiator, is_psk, turn_from, Plan, has_psk, has_key, overhead_of, StateMatches, keyed, SymmetricState, Own, WriteFault, Remote, Writer, writer, Given, LacksDhResultAt, Writes, LacksDhResult, message_bytes, after_payload, added_width, Party, Speaks, tokens_at, tokens_now, Speaking, has_own, HandshakeValue, write_fault, is_turn, length_now, length_unless, message_len_of, IsSound, passed_places, ValueMatches, after_own, same_role-true}
+use Rattle.noise_handshake.proofs.Common.{nat_tests, Option, None, Some, ◌==◌, IsTrue, list_all, Token, Role, Initiator, turn_from, Plan, has_psk, has_key, overhead_of, keyed, Own, WriteFault, Remote, Writer, writer, Given, LacksDhResultAt, Writes, LacksDhResult, message_bytes, added_width, Party, Speaks, tokens_at, tokens_now, Speaking, has_own, HandshakeValue, write_fault, is_turn, length_now, length_unless, message_len_of, IsSound, passed_places, ValueMatches, same_role-true}
 use Rattle.noise_handshake.proofs.Owned.{owned}
 use Rattle.noise_handshake.proofs.Places.{overhead-is}
 use Rattle.noise_handshake.specs.declared.faults.WriteFault.TheVariants as write
@@ -80,24 +80,6 @@ module _ {K : Type 0} (pairs : K → KeyPairs) (h : HandshakeValue K) (s : IsSou
     pub short-view : overhead_of v.pattern (v.passed + 1) + len ≤ 65535
     short-view = subst (λ (k : ℕ). overhead_of v.pattern (k + 1) + len ≤ 65535) t.passed
         (subst (λ (p : Plan). overhead_of p (h.passed + 1) + len ≤ 65535) t.pattern writes-short)
-
-    -- after a message of its own
-    pub wrote : (has_psks : Bool) (tokens : List Token) (xs : List (List ℕ)) (payload : List ℕ) (state : SymmetricState) (psks : List (List ℕ))
-        (passed : ℕ) → has_psks ≡ has_psk h.pattern → tokens ≡ tokens_now v
-        → psks ≡ drop (count_by is_psk tokens) h.psks → passed ≡ h.passed + 1 → StateMatches state (after_payload has_psks v.history tokens xs payload)
-        → ValueMatches pairs (record h { state = state; psks = psks; passed = passed }) (after_own v xs payload)
-    wrote has_psks tokens xs payload state psks passed b e u n k = record {
-      pattern = t.pattern;
-      role = t.role;
-      psks = u ∙ ap (λ (ts : List Token). drop (count_by is_psk ts) h.psks) e ∙ ap (drop (count_by is_psk (tokens_now v))) t.psks;
-      own = t.own;
-      agree = t.agree;
-      remote = t.remote;
-      passed = n ∙ ap (λ (i : ℕ). i + 1) t.passed;
-      ended = t.ended;
-      history = subst (λ (ts : List Token). StateMatches state (after_payload (has_psk v.pattern) v.history ts xs payload)) e
-          (subst (λ (z : Bool). StateMatches state (after_payload z v.history tokens xs payload)) (b ∙ ap has_psk t.pattern) k);
-    }
 
 -- what holds of a party's parts holds of the party that it speaks for
 module _ (v : Party) (role : Role) (has_psks : Bool) (own : Own → Option (List ℕ)) (agree : Own → List ℕ → Option (List ℕ)) (psks : List (List ℕ))

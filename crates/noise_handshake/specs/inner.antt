@@ -1,4 +1,5 @@
 -- What only private functions and proofs of this crate need: no public clause names any of it.
+pub mod Following
 pub mod Kept
 pub mod Keyed
 pub mod Keying
@@ -11,4 +12,5 @@ pub mod PreMessage
 pub mod Reading
 pub mod Sound
 pub mod Speaking
+pub mod Stepping
 pub mod Writing

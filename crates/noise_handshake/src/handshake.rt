@@ -31,14 +31,14 @@ use std::marker::Model;
 #[derive(Drop)]
 pub struct Handshake<K: Keys> {
     pattern: ValidPattern,
-    means: Means<K>,
-    remote: Remote,
-    psks: ArrayVec<[u8; 32], 9>,
-    used: usize,
+    pub(crate) means: Means<K>,
+    pub(crate) remote: Remote,
+    pub(crate) psks: ArrayVec<[u8; 32], 9>,
+    pub(crate) used: usize,
     passed: u8,
     ended: bool,
-    next: MessageLayout,
-    state: SymmetricState,
+    pub(crate) next: MessageLayout,
+    pub(crate) state: SymmetricState,
 }
 
 impl<K: Keys> Model for Handshake<K> {
@@ -73,6 +73,7 @@ impl<K: Keys> Handshake<K> {
     ghost use Rattle.noise_handshake.specs.Parts.{held_of, HasProgress, IsWholeValue};
     ghost use Rattle.noise_handshake.specs.Setup.{party_at_start, psks_of, setup_fault};
     ghost use Rattle.noise_handshake.specs.Writing.{Writes, writer};
+    ghost use Rattle.noise_handshake.specs.inner.Following.{Leaves, gone_on};
     ghost use Rattle.noise_handshake.specs.inner.Layout.{IsLaid};
     ghost use Rattle.noise_handshake.specs.inner.Listening.{BeginsBefore, StopsBefore};
     ghost use Rattle.noise_handshake.specs.inner.Speaking.{WriterWants};
@@ -413,12 +414,7 @@ impl<K: Keys> Handshake<K> {
         let mut remote = self.remote;
         match read_message(&mut state, &mut remote, &self.means, psks, placed, message) {
             Ok(place) => {
-                self.used += self.next.psks as usize;
-                self.passed += 1;
-                let plan = self.pattern.pattern();
-                self.next = lay_next(plan, self.means.has_psks, state.has_key(), self.passed);
-                self.state = state;
-                self.remote = remote;
+                self.go_on(state, remote);
                 Ok(place)
             }
             Err((token, cause)) => Err(Stop {
@@ -609,9 +605,10 @@ impl<K: Keys> Handshake<K> {
     {
         let psks = &self.psks[self.used..];
         let mut state = self.state.for_trial();
+        let remote = self.remote;
         match write_message(
             &mut state,
-            &self.remote,
+            &remote,
             &self.means,
             psks,
             &self.next.tokens,
@@ -619,11 +616,7 @@ impl<K: Keys> Handshake<K> {
             out,
         ) {
             Ok(len) => {
-                self.used += self.next.psks as usize;
-                self.passed += 1;
-                let plan = self.pattern.pattern();
-                self.next = lay_next(plan, self.means.has_psks, state.has_key(), self.passed);
-                self.state = state;
+                self.go_on(state, remote);
                 Ok(len)
             }
             Err(token) => {
@@ -652,6 +645,22 @@ impl<K: Keys> Handshake<K> {
     {
         let psks = &self.psks[self.used..];
         write_lacking(&self.remote, &self.means, psks, &self.next.tokens)
+    }
+
+    // Goes on after the next message, which leaves this state and these keys of the other party.
+    pub(crate) fn go_on(&mut self, state: SymmetricState, remote: Remote)
+        requires more { self.old.passed < length self.old.pattern.messages }
+        requires psks { HasPsks self.old }
+        requires leaves { Leaves self.old state remote }
+        ensures value { self.new ≡ gone_on self.old state remote }
+    {
+        let left = &self.psks[self.used + self.next.psks as usize..];
+        self.used = self.psks.len() - left.len();
+        self.passed += 1;
+        let plan = self.pattern.pattern();
+        self.next = lay_next(plan, self.means.has_psks, state.has_key(), self.passed);
+        self.state = state;
+        self.remote = remote;
     }
 
     // Ends it.

@@ -13,11 +13,13 @@ ghost use Rattle.noise_handshake.specs.inner.Means.{reader_of};
 ghost use Rattle.noise_handshake.specs.inner.Listening.{ReaderWants, width_of_key};
 ghost use Rattle.noise_names.specs.declared.token.Token.{Token};
 ghost use Rattle.noise_handshake.specs.inner.Layout.{tokens_of, ArePlaced};
+ghost use Rattle.noise_handshake.specs.inner.Stepping.{TellsRead};
 ghost use Rattle.noise_handshake.specs.inner.Reading.{IsWantAt, OpensKey, ReadsBefore, ReadsE, ReadsMessage, ReadsS, ReadsToken, ReadsTokens};
 ghost use Rattle.noise_names.specs.Tokens.{is_psk};
 ghost use Rattle.noise_handshake.specs.declared.faults.Cause.TheVariants.{Short, Tag, Agreement};
 
 use crate::layout::PlacedToken;
+use crate::steps::{NoSteps, Steps};
 use crate::stop::Stop;
 use crate::tokens::{Means, asked_at, dh_result_at, mix_ephemeral, psks_after};
 use crate::{Cause, Keys, Own, Remote};
@@ -151,14 +153,15 @@ fn bytes_from(message: &[u8], place: u16) -> &[u8]
     &message[place as usize..]
 }
 
-// Reads tokens at their places in a message, and returns how many bytes they took.
-fn read_tokens<K: Keys>(
+// Reads tokens at their places in a message, tells of each, and returns how many bytes they took.
+pub(crate) fn read_tokens<K: Keys, S: Steps>(
     state: &mut SymmetricState,
     known: &mut Remote,
     means: &Means<K>,
     psks: &[[u8; 32]],
     placed: &[PlacedToken],
     message: &[u8],
+    steps: &mut S,
 ) -> Result<usize, (usize, Cause)>
     requires placed { (place : ℕ) × (place ≤ length message.now)
         × ArePlaced means.now.has_psks (keyed state.old) place placed.now }
@@ -174,6 +177,10 @@ fn read_tokens<K: Keys>(
     ensures read { (r : History) (place : ℕ) → StateMatches state.old r → place ≤ length message.now →
         ArePlaced means.now.has_psks (keyed state.old) place placed.now → ReadsTokens (reader_of K.pairs means.now)
         r state.new known.old known.new psks.now (tokens_of placed.now) message.now place result }
+    ensures told { (r : History) (place : ℕ) → StateMatches state.old r → place ≤ length message.now →
+        ArePlaced means.now.has_psks (keyed state.old) place placed.now → TellsRead S.after
+        (reader_of K.pairs means.now) r known.old psks.now (tokens_of placed.now) message.now place result steps.old
+        steps.new }
 {
     let Some((first, later)) = placed.split_first() else {
         return Ok(0);
@@ -183,8 +190,10 @@ fn read_tokens<K: Keys>(
         Ok(n) => n,
         Err(cause) => return Err((0, cause)),
     };
+    let from = first.place as usize;
+    steps.step(first.token, from, from + n, state);
     let others = psks_after(psks, first.token);
-    match read_tokens(state, known, means, others, later, message) {
+    match read_tokens(state, known, means, others, later, message, steps) {
         Ok(more) => Ok(n + more),
         Err((k, cause)) => Err((k + 1, cause)),
     }
@@ -242,7 +251,15 @@ pub(crate) fn read_lacking<K: Keys>(
 {
     let mut trial = state.for_trial();
     let mut remote_after = *known;
-    match read_tokens(&mut trial, &mut remote_after, means, psks, placed, message) {
+    match read_tokens(
+        &mut trial,
+        &mut remote_after,
+        means,
+        psks,
+        placed,
+        message,
+        &mut NoSteps,
+    ) {
         Ok(_) => None,
         Err((k, cause)) => lacked(means.role, &remote_after, placed, k, cause),
     }
@@ -279,6 +296,7 @@ pub(crate) fn read_before<K: Keys>(
         psks,
         &placed[..k],
         message,
+        &mut NoSteps,
     ) {
         Ok(_) => Ok(remote_after.s),
         Err((token, cause)) => Err(Stop {
@@ -312,7 +330,7 @@ pub(crate) fn read_message<K: Keys>(
         state.new known.old known.new psks.now (tokens_of placed.now) message.old message.new result }
     ensures unchanged { OnErr result (message.new ≡ message.old) }
 {
-    let from = match read_tokens(state, known, means, psks, placed, message) {
+    let from = match read_tokens(state, known, means, psks, placed, message, &mut NoSteps) {
         Ok(from) => from,
         Err(stop) => return Err(stop),
     };

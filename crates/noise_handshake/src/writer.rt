@@ -1,6 +1,6 @@
 //! Writing the tokens of a message.
 
-ghost use Rattle.std.specs.Prelude.{◌≡◌, ◌≤◌, ◌<◌, ◌+◌, ◌-◌, ◌^◌, length, take, drop, count_by, IsTrue, MatchResult, IfSome, IfOk, is_some, None};
+ghost use Rattle.std.specs.Prelude.{◌≡◌, ◌≤◌, ◌<◌, ◌+◌, ◌-◌, ◌^◌, ℕ, length, take, drop, count_by, IsTrue, MatchResult, IfSome, IfOk, is_some, None};
 ghost use Rattle.std.specs.List.{list_all};
 ghost use Rattle.noise_state.specs.Cipher.{next_nonce};
 ghost use Rattle.noise_state.specs.Standing.{StateMatches, keyed, nonce_now};
@@ -14,10 +14,12 @@ ghost use Rattle.noise_handshake.specs.inner.Means.{writer_of};
 ghost use Rattle.noise_handshake.specs.inner.Speaking.{has_own, WriterWants};
 ghost use Rattle.noise_handshake.specs.inner.Writing.{GivesOrNone, WritesMessage, WritesToken, WritesTokens};
 ghost use Rattle.noise_names.specs.declared.token.Token.{Token};
-ghost use Rattle.noise_handshake.specs.inner.Layout.{tokens_of};
+ghost use Rattle.noise_handshake.specs.inner.Layout.{tokens_of, ArePlaced};
+ghost use Rattle.noise_handshake.specs.inner.Stepping.{TellsWritten};
 ghost use Rattle.noise_names.specs.Tokens.{is_psk};
 
 use crate::layout::PlacedToken;
+use crate::steps::{NoSteps, Steps};
 use crate::tokens::{Means, asked_at, dh_result_at, mix_ephemeral, psks_after};
 use crate::{Keys, Own, Remote};
 use noise_names::Token;
@@ -119,14 +121,16 @@ fn write_token<K: Keys>(
     }
 }
 
-// Writes tokens to the front of a buffer, and returns in how many bytes, or which is the first DH without a result.
-fn write_tokens<K: Keys>(
+// Writes tokens to the front of a buffer, tells of each, and returns in how many bytes, or which is the first DH
+// without a result.
+pub(crate) fn write_tokens<K: Keys, S: Steps>(
     state: &mut SymmetricState,
     known: &Remote,
     means: &Means<K>,
     psks: &[[u8; 32]],
     placed: &[PlacedToken],
     out: &mut [u8],
+    steps: &mut S,
 ) -> Result<usize, usize>
     requires psks { count_by is_psk (tokens_of placed.now) ≤ length psks.now }
     requires own { IsTrue (list_all (has_own (K.pairs means.now.keys).public) (tokens_of placed.now)) }
@@ -144,6 +148,9 @@ fn write_tokens<K: Keys>(
     ensures written { (r : History) → StateMatches state.old r
         → WritesTokens (writer_of K.pairs means.now) r state.new known.now psks.now
         (tokens_of placed.now) out.new result }
+    ensures told { (r : History) (place : ℕ) → StateMatches state.old r
+        → ArePlaced means.now.has_psks (keyed state.old) place placed.now → TellsWritten S.after
+        (writer_of K.pairs means.now) r known.now psks.now (tokens_of placed.now) place result steps.old steps.new }
 {
     let Some((first, later)) = placed.split_first() else {
         return Ok(0);
@@ -151,8 +158,10 @@ fn write_tokens<K: Keys>(
     let Some(n) = write_token(state, known, means, psks, first.token, out) else {
         return Err(0);
     };
+    let from = first.place as usize;
+    steps.step(first.token, from, from + n, state);
     let others = psks_after(psks, first.token);
-    match write_tokens(state, known, means, others, later, &mut out[n..]) {
+    match write_tokens(state, known, means, others, later, &mut out[n..], steps) {
         Ok(more) => Ok(n + more),
         Err(k) => Err(k + 1),
     }
@@ -254,7 +263,7 @@ pub(crate) fn write_message<K: Keys>(
         → WritesMessage (writer_of K.pairs means.now) r state.new known.now psks.now
         (tokens_of placed.now) payload.now out.new result }
 {
-    let from = match write_tokens(state, known, means, psks, placed, out) {
+    let from = match write_tokens(state, known, means, psks, placed, out, &mut NoSteps) {
         Ok(from) => from,
         Err(k) => return Err(k),
     };

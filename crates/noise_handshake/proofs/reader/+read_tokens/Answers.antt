@@ -1,9 +1,27 @@
-use Rattle.std.proofs.Common.{◌≡◌, ap, ℕ, ◌+◌, List, ◌∷◌, ◌++◌, drop, sym, subst, drop-drop}
+use Rattle.std.proofs.Common.{◌≡◌, ap, ℕ, ◌+◌, List, ◌∷◌, ◌++◌, ◌≤◌, [], length, drop, ◌∙◌, refl, arith, sym, subst, drop-drop}
 use Rattle.std.specs.Prelude.{Bool, is_some}
-use Rattle.noise_handshake.proofs.Common.{reader_of, Token, StateMatches, keyed, cipher_key, PlacedToken, token_bytes, after_token, after_tokens, Reader, BeginsAs, cause_of, tokens_of, Fails, Keying}
-use Rattle.noise_handshake.proofs.Layouts.{later-placed, rest-first}
-use Rattle.noise_handshake.proofs.Steps.{stopped, led, learned-on, stopped-later}
+use Rattle.noise_handshake.proofs.Common.{nil_from_length, reader_of, Token, StateMatches, keyed, cipher_key, PlacedToken, token_bytes, after_token, after_tokens, Reader, BeginsAs, remote_after, cause_of, tokens_of, Fails, Keying}
+use Rattle.noise_handshake.proofs.Apart.{leads-none}
+use Rattle.noise_handshake.proofs.Layouts.{first-placed, later-placed, rest-first}
+use Rattle.noise_handshake.proofs.Reading.{stopped, led, learned-on, stopped-later}
+use Rattle.noise_handshake.proofs.Told.{all-read, before-read, told-one, width-read}
 use Rattle.noise_handshake.proofs.reader.+read_tokens.Goals as goal
+
+pub returns-in_default-clause-read : goal.returns-in_default-clause-read
+returns-in_default-clause-read g t c r place s within are =
+    let v : Reader = reader_of g.K.Keys.pairs c.args.means.now in
+    let m : List ℕ = c.args.message.now in
+    let known = c.args.known.now in
+    let none : c.args.placed.now ≡ [] = nil_from_length c.args.placed.now c.in_default.ensures.cases in
+    let here : place + 0 ≡ place = omega arith in
+    subst (λ (us : List Token). (x : List (List ℕ)) × BeginsAs v known c.args.psks.now r us x (drop place m) (drop (place + 0) m)
+    × StateMatches c.args.state.now (after_tokens v.has_psks r us x) × (known ≡ remote_after known us x)) (sym (ap tokens_of none)) (
+      [],
+      subst (λ (k : ℕ). BeginsAs v known c.args.psks.now r [] [] (drop place m) (drop k m)) (sym here)
+          (leads-none v known c.args.psks.now r (drop place m)),
+      s,
+      refl,
+    )
 
 pub returns-in-Err-clause-read : goal.returns-in-Err-clause-read
 returns-in-Err-clause-read g t c r place s within are =
@@ -74,3 +92,57 @@ returns-in-Err-read_tokens-clause-read g t c r place s within are =
     (tokens_of c.args.placed.now) later token d.0
     rest (drop (place + first.width) m) n split d.1 spelled d.4 c.psks_after-others.ensures.value u.3
     c.in-Err-read_tokens.k c.in-Err-read_tokens.cause c.read_tokens.new.known c.in-Err-read_tokens.ensures.stop i
+
+pub returns-in-Ok-read_tokens-clause-told : goal.returns-in-Ok-read_tokens-clause-told
+returns-in-Ok-read_tokens-clause-told g t c r place s within are =
+    let v : Reader = reader_of g.K.Keys.pairs c.args.means.now in
+    let has_psks : Bool = c.args.means.now.has_psks in
+    let key : Bool = keyed c.args.state.now in
+    let first : PlacedToken = c.in-Some.first.now in
+    let token : Token = first.token in
+    let later : List Token = tokens_of c.in-Some.later.now in
+    let split = c.in-Some.ensures.cases.0 in
+    let m : List ℕ = c.args.message.now in
+    let n : ℕ = c.in-Ok.n in
+    let from : ℕ = place + first.width in
+    let here = rest-first has_psks key place c.args.placed.now first c.in-Some.later.now split are m c.bytes_from-rest.result.now c.bytes_from-rest.ensures.value in
+    let u = later-placed has_psks key place c.args.placed.now first c.in-Some.later.now split are m c.bytes_from-rest.result.now c.bytes_from-rest.ensures.value
+    within n (keyed c.read_token.new.state) c.in-Ok.ensures.width c.in-Ok.ensures.range (ap (λ (k : Keying). k.keyed) c.in-Ok.ensures.keying) in
+    let d = c.in-Ok.ensures.read r s in
+    let piece : List ℕ = token_bytes r token d.0 in
+    let range : n ≤ length (drop place m) = subst (λ (z : List ℕ). n ≤ length z) here c.in-Ok.ensures.range in
+    let spelled : drop place m ≡ piece ++ drop n (drop place m) = subst (λ (z : List ℕ). z ≡ piece ++ drop n z) here d.2 in
+    let wide : length piece ≡ n = width-read piece (drop place m) n range spelled in
+    let told = told-one g.S.Steps.after has_psks r token d.0 place first.place n c.read_token.new.state c.args.steps.now c.step.new.self
+    c.step.ensures (first-placed has_psks key place c.args.placed.now first c.in-Some.later.now split are).0 wide d.3 in
+    all-read g.S.Steps.after v c.args.known.now c.read_token.new.known c.args.psks.now c.psks_after-others.result.now r (tokens_of c.args.placed.now) later token d.0
+    (drop place m) (drop from m) place from c.args.steps.now c.step.new.self c.read_tokens.new.steps (ap tokens_of split) d.1
+    (spelled ∙ ap (λ (z : List ℕ). piece ++ z) (sym u.3)) d.4 c.psks_after-others.ensures.value (ap (λ (k : ℕ). place + k) (sym u.0 ∙ sym wide)) told
+    (c.in-Ok-read_tokens.ensures.told (after_token has_psks r token d.0) from d.3 u.1 u.2)
+
+pub returns-in-Err-read_tokens-clause-told : goal.returns-in-Err-read_tokens-clause-told
+returns-in-Err-read_tokens-clause-told g t c r place s within are =
+    let v : Reader = reader_of g.K.Keys.pairs c.args.means.now in
+    let has_psks : Bool = c.args.means.now.has_psks in
+    let key : Bool = keyed c.args.state.now in
+    let first : PlacedToken = c.in-Some.first.now in
+    let token : Token = first.token in
+    let later : List Token = tokens_of c.in-Some.later.now in
+    let split = c.in-Some.ensures.cases.0 in
+    let m : List ℕ = c.args.message.now in
+    let n : ℕ = c.in-Ok.n in
+    let from : ℕ = place + first.width in
+    let here = rest-first has_psks key place c.args.placed.now first c.in-Some.later.now split are m c.bytes_from-rest.result.now c.bytes_from-rest.ensures.value in
+    let u = later-placed has_psks key place c.args.placed.now first c.in-Some.later.now split are m c.bytes_from-rest.result.now c.bytes_from-rest.ensures.value
+    within n (keyed c.read_token.new.state) c.in-Ok.ensures.width c.in-Ok.ensures.range (ap (λ (k : Keying). k.keyed) c.in-Ok.ensures.keying) in
+    let d = c.in-Ok.ensures.read r s in
+    let piece : List ℕ = token_bytes r token d.0 in
+    let range : n ≤ length (drop place m) = subst (λ (z : List ℕ). n ≤ length z) here c.in-Ok.ensures.range in
+    let spelled : drop place m ≡ piece ++ drop n (drop place m) = subst (λ (z : List ℕ). z ≡ piece ++ drop n z) here d.2 in
+    let wide : length piece ≡ n = width-read piece (drop place m) n range spelled in
+    let told = told-one g.S.Steps.after has_psks r token d.0 place first.place n c.read_token.new.state c.args.steps.now c.step.new.self
+    c.step.ensures (first-placed has_psks key place c.args.placed.now first c.in-Some.later.now split are).0 wide d.3 in
+    before-read g.S.Steps.after v c.args.known.now c.read_token.new.known c.args.psks.now c.psks_after-others.result.now r (tokens_of c.args.placed.now) later token d.0
+    (drop place m) (drop from m) place from c.args.steps.now c.step.new.self c.read_tokens.new.steps (ap tokens_of split) d.1
+    (spelled ∙ ap (λ (z : List ℕ). piece ++ z) (sym u.3)) d.4 c.psks_after-others.ensures.value (ap (λ (k : ℕ). place + k) (sym u.0 ∙ sym wide)) told
+    c.in-Err-read_tokens.k (c.in-Err-read_tokens.ensures.told (after_token has_psks r token d.0) from d.3 u.1 u.2)

@@ -7,7 +7,7 @@ use Rattle.noise_handshake.proofs.Counting.{nonces-most}
 use Rattle.noise_handshake.proofs.Tags.{sealed_len-tag}
 use Rattle.noise_handshake.proofs.Layouts.{length-tokens_of}
 use Rattle.noise_handshake.proofs.Apart.{reads-whole, knows-last}
-use Rattle.noise_handshake.proofs.Steps.{written-at, rest-at}
+use Rattle.noise_handshake.proofs.Reading.{written-at, rest-at}
 use Rattle.noise_handshake.proofs.reader.read_message.Goals as goal
 
 pub unreachable-requires : goal.unreachable-requires

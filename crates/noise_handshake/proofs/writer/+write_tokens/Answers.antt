@@ -1,7 +1,9 @@
-use Rattle.std.proofs.Common.{rules, ◌≡◌, ap, ℕ, ◌+◌, ◌-◌, ◌≤◌, List, ◌∷◌, length, take, drop, ◌∙◌, arith, length-take, length-drop}
+use Rattle.std.proofs.Common.{rules, ◌≡◌, ap, sym, subst, ℕ, ◌+◌, ◌-◌, ◌≤◌, List, ◌∷◌, length, take, drop, ◌∙◌, arith, length-take, length-drop}
 use Rattle.std.specs.Prelude.{Bool}
-use Rattle.noise_handshake.proofs.Common.{writer_of, StateMatches, keyed, Token, History, after_token, Writer, tokens_of}
+use Rattle.noise_handshake.proofs.Common.{writer_of, StateMatches, keyed, Token, History, PlacedToken, ArePlaced, token_bytes, after_token, Writer, tokens_of}
 use Rattle.noise_handshake.proofs.Giving.{widths, given-on, front-on, after-on, lacks-on}
+use Rattle.noise_handshake.proofs.Layouts.{first-placed}
+use Rattle.noise_handshake.proofs.Told.{before-written, told-one, width-written}
 use Rattle.noise_handshake.proofs.Written.{joined, rest-after}
 use Rattle.noise_handshake.proofs.writer.+write_tokens.Goals as goal
 
@@ -44,3 +46,27 @@ returns-in-Err-clause-written g t c r s =
     let next : History = after_token c.args.means.now.has_psks r token a.0 in
     lacks-on w c.args.known.now c.args.psks.now c.psks_after-others.result.now r (tokens_of c.args.placed.now) (tokens_of c.in-Some.later.now) token a.0
     (ap tokens_of c.in-Some.ensures.cases.0) a.1 c.psks_after-others.ensures.value c.in-Err.k (c.in-Err.ensures.written next a.3)
+
+pub returns-in-Err-clause-told : goal.returns-in-Err-clause-told
+returns-in-Err-clause-told g t c r place s are =
+    let w : Writer = writer_of g.K.Keys.pairs c.args.means.now in
+    let has_psks : Bool = c.args.means.now.has_psks in
+    let key : Bool = keyed c.args.state.now in
+    let first : PlacedToken = c.in-Some.first.now in
+    let token : Token = first.token in
+    let later : List Token = tokens_of c.in-Some.later.now in
+    let split = c.in-Some.ensures.cases.0 in
+    let n : ℕ = c.in-Some-write_token.n in
+    let p = first-placed has_psks key place c.args.placed.now first c.in-Some.later.now split are in
+    let a = c.in-Some-write_token.ensures.written r s in
+    let piece : List ℕ = token_bytes r token a.0 in
+    let next : History = after_token has_psks r token a.0 in
+    let range : n ≤ length c.write_token.new.out = search rules in
+    let wide : length piece ≡ n = width-written piece c.write_token.new.out n range a.2 in
+    let told = told-one g.S.Steps.after has_psks r token a.0 place first.place n c.write_token.new.state c.args.steps.now c.step.new.self
+    c.step.ensures p.0 wide a.3 in
+    let same : n ≡ first.width = c.in-Some-write_token.ensures.width ∙ sym p.1 in
+    let are2 = subst (λ (b : Bool). ArePlaced has_psks b (place + first.width) c.in-Some.later.now) (sym c.in-Some-write_token.ensures.keyed) p.2 in
+    before-written g.S.Steps.after w c.args.known.now c.args.psks.now c.psks_after-others.result.now r (tokens_of c.args.placed.now) later token a.0
+    place (place + first.width) c.args.steps.now c.step.new.self c.write_tokens.new.steps (ap tokens_of split) a.1 c.psks_after-others.ensures.value
+    (ap (λ (k : ℕ). place + k) (sym same ∙ sym wide)) told c.in-Err.k (c.in-Err.ensures.told next (place + first.width) a.3 are2)

@@ -1,9 +1,11 @@
-use Rattle.std.proofs.Common.{rules, ℕ, ◌+◌, ◌≤◌, length, take, refl, ap, sym, subst, true, ◌∙◌, arith, length-take}
-use Rattle.noise_handshake.proofs.Common.{Some, HandshakeValue, ValueMatches, held_in}
+use Rattle.std.proofs.Common.{rules, ℕ, ◌+◌, ◌<◌, ◌≤◌, List, length, take, refl, ap, sym, subst, true, ◌∙◌, arith, length-take}
+use Rattle.noise_handshake.proofs.Common.{Some, Token, SymmetricState, StateMatches, keyed, nonce_now, keyed_after_tokens, nonce_after_message, PlacedToken, tokens_of, Advances, after_own, after_payload, HandshakeValue, ValueMatches, held_in}
+use Rattle.noise_handshake.proofs.Advancing.{unended-write}
+use Rattle.noise_handshake.proofs.Followed.{gone-advances, gone-to, leaves-wrote}
 use Rattle.noise_handshake.proofs.Layouts.{length-tokens_of}
-use Rattle.noise_handshake.proofs.Next.{writes-next, writes-ours, writes-unended, writes-long, writes-wide, writes-room, writes-most, psks-next, nonces-next, own-ours, used-next, key-next, unchanged-wrote, advances-next, trial-next, speaking-next, after-wrote, short-next}
+use Rattle.noise_handshake.proofs.Next.{writes-next, writes-ours, writes-long, writes-wide, writes-room, writes-most, psks-next, nonces-next, own-ours, tokens-next, trial-next, speaking-next, short-next}
 use Rattle.noise_handshake.proofs.Standing.{ends}
-use Rattle.noise_handshake.proofs.Wrote.{written, lacking}
+use Rattle.noise_handshake.proofs.Wrote.{for-view, written, lacking}
 use Rattle.noise_handshake.proofs.handshake.Handshake.write_due.Goals as goal
 
 pub write_message-requires-clause-psks : goal.write_message-requires-clause-psks
@@ -33,36 +35,35 @@ write_message-requires-clause-most g c =
     writes-most g.K.Keys.pairs c.self.inside c.self.invariant c.args.self.now c.self.view_is
     (length c.args.payload.now) c.requires.due c.deref-2.result.now c.deref-2.ensures.0 c.for_trial-state.result c.for_trial-state.ensures
 
-pub overflow_add-self : goal.overflow_add-self
-overflow_add-self g c =
-    let less = writes-next g.K.Keys.pairs c.self.inside c.self.invariant c.args.self.now c.self.view_is
-    (length c.args.payload.now) c.requires.due in
-    omega (
-      arith,
-      used-next g.K.Keys.pairs c.self.inside c.self.invariant less c.deref-2.result.now c.deref-2.ensures.0 c.args.self.now c.self.view_is c.requires.psks
-          (omega (arith, c.deref.ensures.1, ap length c.deref.ensures.0)),
-    )
-
 pub overflow_cast-result : goal.overflow_cast-result
 overflow_cast-result g c = omega (arith, length-tokens_of c.deref-2.result.now, c.deref-2.ensures.1, c.in-Err.ensures.width)
 
-pub lay_next-self-inside-requires-clause-key : goal.lay_next-self-inside-requires-clause-key
-lay_next-self-inside-requires-clause-key g c =
-    let less = writes-next g.K.Keys.pairs c.self.inside c.self.invariant c.args.self.now c.self.view_is
-    (length c.args.payload.now) c.requires.due in
-    c.has_key.ensures ∙ key-next g.K.Keys.pairs c.self.inside c.self.invariant less c.deref-2.result.now c.deref-2.ensures.0
-    c.for_trial-state.result c.write_message.new.state c.for_trial-state.ensures c.in-Ok.ensures.keyed c.pattern-plan.result.now c.pattern-plan.ensures.value
+pub go_on-requires-clause-more : goal.go_on-requires-clause-more
+go_on-requires-clause-more g c =
+    let P = g.K.Keys.pairs in
+    let a = c.self.inside in
+    let less = writes-next P a c.self.invariant c.args.self.now c.self.view_is (length c.args.payload.now) c.requires.due in
+    subst (λ (z : HandshakeValue g.row.K.Denot). z.passed < length z.pattern.messages) c.self.view_is less
 
-pub invariant_of-self : goal.invariant_of-self
-invariant_of-self g c =
-    let less = writes-next g.K.Keys.pairs c.self.inside c.self.invariant c.args.self.now c.self.view_is
-    (length c.args.payload.now) c.requires.due in
-    unchanged-wrote g.K.Keys.pairs c.self.inside c.self.invariant less c.deref-2.result.now c.deref-2.ensures.0
-    c.for_trial-state.result c.write_message.new.state c.for_trial-state.ensures c.in-Ok.ensures.keyed c.in-Ok.ensures.counted
-    (omega (arith, c.deref-2.ensures.1)) c.pattern-plan.result.now c.pattern-plan.ensures.value c.lay_next-self-inside.result c.lay_next-self-inside.ensures.laid
-    c.args.self.now c.self.view_is c.requires.psks
-    (writes-ours g.K.Keys.pairs c.self.inside c.self.invariant c.args.self.now c.self.view_is
-    (length c.args.payload.now) c.requires.due)
+pub go_on-requires-clause-leaves : goal.go_on-requires-clause-leaves
+go_on-requires-clause-leaves g c =
+    let P = g.K.Keys.pairs in
+    let a = c.self.inside in
+    let less = writes-next P a c.self.invariant c.args.self.now c.self.view_is (length c.args.payload.now) c.requires.due in
+    let ds : List PlacedToken = c.deref-2.result.now in
+    let us : List Token = tokens_of ds in
+    leaves-wrote P a c.self.invariant less c.args.self.now c.self.view_is us (tokens-next P a c.self.invariant less ds c.deref-2.ensures.0)
+    (omega (arith, length-tokens_of ds, c.deref-2.ensures.1))
+    (writes-ours P a c.self.invariant c.args.self.now c.self.view_is (length c.args.payload.now) c.requires.due) c.write_message.new.state
+    (c.in-Ok.ensures.keyed ∙ ap (λ (z : SymmetricState). keyed_after_tokens a.means.has_psks (keyed z) us) c.for_trial-state.ensures)
+    (c.in-Ok.ensures.counted ∙ ap (λ (z : SymmetricState). nonce_after_message a.means.has_psks (keyed z) (nonce_now z) us) c.for_trial-state.ensures)
+
+pub returns-in-Ok-clause-state : goal.returns-in-Ok-clause-state
+returns-in-Ok-clause-state g c =
+    let h = c.args.self.now in
+    subst (λ (z : HandshakeValue g.row.K.Denot). Advances h z) (sym c.go_on.ensures.value)
+    (gone-advances g.K.Keys.pairs h c.write_message.new.state c.self.inside.remote c.requires.psks
+    (unended-write h (length c.args.payload.now) c.requires.due))
 
 pub returns-in-Ok-clause-len : goal.returns-in-Ok-clause-len
 returns-in-Ok-clause-len g c =
@@ -87,12 +88,13 @@ returns-in-Ok-clause-writes g c v s =
     (length c.args.payload.now) c.requires.due c.deref-2.result.now c.deref-2.ensures.0 c.for_trial-state.result c.for_trial-state.ensures in
     let fits : length (take c.in-Ok.len c.write_message.new.out) ≤ 65535 =
     omega (arith, c.in-Ok.ensures.width, most, length-take c.in-Ok.len c.write_message.new.out) in
-    let q = c.in-Ok.ensures.written v.history trial in (
+    let q = c.in-Ok.ensures.written v.history trial in
+    let left = for-view v a.means.role a.means.has_psks (P a.means.keys).public (P a.means.keys).agree _ a.remote _ l
+    (λ w z s us. StateMatches c.write_message.new.state (after_payload w.has_psks v.history us q.0 c.args.payload.now)) q.3 in (
       q.0,
       written v a.means.role a.means.has_psks (P a.means.keys).public (P a.means.keys).agree _ a.remote _ l c.args.payload.now q.0 (take c.in-Ok.len c.write_message.new.out) fits q.1 q.2,
-      after-wrote g.K.Keys.pairs c.self.inside c.self.invariant less c.deref-2.result.now c.deref-2.ensures.0 c.args.self.now c.self.view_is v s
-          (length c.args.payload.now) c.requires.due q.0 c.args.payload.now c.write_message.new.state
-          c.lay_next-self-inside.result q.3,
+      subst (λ (z : HandshakeValue g.row.K.Denot). ValueMatches P z (after_own v q.0 c.args.payload.now)) (sym c.go_on.ensures.value)
+          (gone-to P c.args.self.now c.write_message.new.state a.remote v s q.0 c.args.payload.now v.remote left l.known_is),
     )
 
 pub returns-in-Err-clause-writes : goal.returns-in-Err-clause-writes
@@ -113,12 +115,3 @@ returns-in-Err-clause-writes g c v s =
       ),
       ends P (held_in a) v s0 true refl,
     )
-
-pub returns-in-Ok-clause-state : goal.returns-in-Ok-clause-state
-returns-in-Ok-clause-state g c =
-    advances-next g.K.Keys.pairs c.self.inside c.self.invariant
-    (writes-next g.K.Keys.pairs c.self.inside c.self.invariant c.args.self.now c.self.view_is
-    (length c.args.payload.now) c.requires.due) c.args.self.now c.self.view_is c.requires.psks
-    (writes-unended g.K.Keys.pairs c.self.inside c.self.invariant c.args.self.now c.self.view_is
-    (length c.args.payload.now) c.requires.due)
-    c.self.inside.remote c.write_message.new.state c.lay_next-self-inside.result

@@ -1,0 +1,153 @@
+use Rattle.std.proofs.Common.{◌≡◌, ◌+◌, ◌-◌, ◌<◌, ◌≤◌, ◌^◌, ℕ, Bool, List, length, take, ap, ◌∙◌, arith, length-take}
+use Rattle.noise_handshake.proofs.Common.{after_ciphertext, reader_of, count_by, is_psk, Some, Token, SymmetricState, StateMatches, keyed, nonce_now, Reader, BeginsAs, remote_after, ArePlaced, PlacedToken, tokens_of, tokens_at, Keying, keying_of}
+use Rattle.noise_handshake.specs.declared.following.Front.{Front}
+use Rattle.noise_handshake.specs.inner.Following.{Fronts}
+use Rattle.noise_handshake.specs.inner.Keying.{keying_after_tokens}
+use Rattle.noise_handshake.proofs.Counting.{nonces-most}
+use Rattle.noise_handshake.proofs.Followed.{count-now, front-read, front-unread, leaves-read, read-mixed, whole-due}
+use Rattle.noise_handshake.proofs.Fronts.{tokens-take, placed-take}
+use Rattle.noise_handshake.proofs.Later.{count-take}
+use Rattle.noise_handshake.proofs.Layouts.{length-tokens_of}
+use Rattle.noise_handshake.proofs.LateParties.{supplied-not, value-of}
+use Rattle.noise_handshake.proofs.Next.{reads-next, reads-theirs, places-next, psks-before, nonces-next, trial-next, listening-next}
+use Rattle.noise_handshake.proofs.Standing.{for-view}
+use Rattle.noise_handshake.proofs.handshake.Handshake.read_front.Goals as goal
+
+pub returns-in-Some-clause-front : goal.returns-in-Some-clause-front
+returns-in-Some-clause-front g c v xs rest s within begins = absurd (supplied-not c.args.self.now c.requires.more s.supplied _ c.in-Some.ensures.lacks)
+
+pub returns-then-count-len-clause-front : goal.returns-then-count-len-clause-front
+returns-then-count-len-clause-front g c v xs rest s within begins =
+    let P = g.K.Keys.pairs in
+    let a = c.self.inside in
+    let less = reads-next P a c.self.invariant c.args.self.now c.self.view_is c.requires.due in
+    let n = count-now P a c.self.invariant less c.args.self.now c.self.view_is v (value-of P c.args.self.now v s) in
+    absurd (omega (arith, c.if-count-len.true, c.len.ensures.value, n, within))
+
+pub read_tokens-requires-clause-placed : goal.read_tokens-requires-clause-placed
+read_tokens-requires-clause-placed g c =
+    let P = g.K.Keys.pairs in
+    let a = c.self.inside in
+    let less = reads-next P a c.self.invariant c.args.self.now c.self.view_is c.requires.due in
+    let ds : List PlacedToken = c.deref-2.result.now in
+    let d = c.deref-2.ensures.0 in
+    let count : ℕ = c.args.count in
+    let cut : tokens_of (take count ds) ≡ take count (tokens_of ds) = tokens-take ds count in
+    let placed : ArePlaced a.means.has_psks (keyed c.for_trial-state.result) 0 (take count ds) =
+    placed-take a.means.has_psks (keyed c.for_trial-state.result) 0 ds count
+    (places-next P a c.self.invariant less ds d c.for_trial-state.result c.for_trial-state.ensures) in
+    (0, omega arith, placed)
+
+pub read_tokens-requires-clause-psks : goal.read_tokens-requires-clause-psks
+read_tokens-requires-clause-psks g c =
+    let P = g.K.Keys.pairs in
+    let a = c.self.inside in
+    let less = reads-next P a c.self.invariant c.args.self.now c.self.view_is c.requires.due in
+    let ds : List PlacedToken = c.deref-2.result.now in
+    let d = c.deref-2.ensures.0 in
+    let count : ℕ = c.args.count in
+    let cut : tokens_of (take count ds) ≡ take count (tokens_of ds) = tokens-take ds count in
+    let h = c.args.self.now in
+    let has : count_by is_psk (take count (tokens_at h.pattern.messages h.passed)) ≤ length h.psks =
+    omega (arith, count-take (tokens_at h.pattern.messages h.passed) count, c.in_default.ensures.lacks) in
+    omega (
+      arith,
+      psks-before P a c.self.invariant less ds d h c.self.view_is count has c.deref.result.now c.deref.ensures.0,
+      ap (count_by is_psk) cut,
+    )
+
+pub read_tokens-requires-clause-nonces : goal.read_tokens-requires-clause-nonces
+read_tokens-requires-clause-nonces g c =
+    let P = g.K.Keys.pairs in
+    let a = c.self.inside in
+    let less = reads-next P a c.self.invariant c.args.self.now c.self.view_is c.requires.due in
+    let ds : List PlacedToken = c.deref-2.result.now in
+    let d = c.deref-2.ensures.0 in
+    let count : ℕ = c.args.count in
+    let cut : tokens_of (take count ds) ≡ take count (tokens_of ds) = tokens-take ds count in
+    let bound : nonce_now c.for_trial-state.result + length (tokens_of ds) < 2 ^ 64 - 1 =
+    nonces-next P a c.self.invariant less ds d c.for_trial-state.result c.for_trial-state.ensures (omega (arith, c.deref-2.ensures.1)) in
+    omega (arith, bound, ap length cut, length-take count (tokens_of ds))
+
+pub returns-in-Ok-clause-nonces : goal.returns-in-Ok-clause-nonces
+returns-in-Ok-clause-nonces g c =
+    let P = g.K.Keys.pairs in
+    let a = c.self.inside in
+    let less = reads-next P a c.self.invariant c.args.self.now c.self.view_is c.requires.due in
+    let ds : List PlacedToken = c.deref-2.result.now in
+    let d = c.deref-2.ensures.0 in
+    let count : ℕ = c.args.count in
+    let cut : tokens_of (take count ds) ≡ take count (tokens_of ds) = tokens-take ds count in
+    let bound : nonce_now c.for_trial-state.result + length (tokens_of ds) < 2 ^ 64 - 1 =
+    nonces-next P a c.self.invariant less ds d c.for_trial-state.result c.for_trial-state.ensures (omega (arith, c.deref-2.ensures.1)) in
+    let most = nonces-most a.means.has_psks (keyed c.for_trial-state.result) (nonce_now c.for_trial-state.result) (tokens_of (take count ds)) in
+    omega (arith, bound, most, ap (λ (k : Keying). k.nonce) c.in-Ok.ensures.keying, ap length cut, length-take count (tokens_of ds))
+
+pub returns-in-Ok-clause-leaves : goal.returns-in-Ok-clause-leaves
+returns-in-Ok-clause-leaves g c all =
+    let P = g.K.Keys.pairs in
+    let a = c.self.inside in
+    let less = reads-next P a c.self.invariant c.args.self.now c.self.view_is c.requires.due in
+    let ds : List PlacedToken = c.deref-2.result.now in
+    let d = c.deref-2.ensures.0 in
+    let count : ℕ = c.args.count in
+    let cut : tokens_of (take count ds) ≡ take count (tokens_of ds) = tokens-take ds count in
+    let b : Bool = a.means.has_psks in
+    let f : Front = record { from = c.in-Ok.from; state = c.read_tokens.new.state; remote = c.read_tokens.new.known } in
+    let us : List Token = tokens_of (take count ds) in
+    let e = whole-due P a c.self.invariant less c.args.self.now c.self.view_is ds d count all in
+    let short : length us ≤ 10 = omega (arith, ap length cut, length-take count (tokens_of ds), length-tokens_of ds, c.deref-2.ensures.1) in
+    λ bytes. leaves-read P a c.self.invariant less c.args.self.now c.self.view_is us e short
+    (reads-theirs P a c.self.invariant c.args.self.now c.self.view_is c.requires.due) (after_ciphertext f.state bytes) f.remote
+    (read-mixed P a c.self.invariant less c.args.self.now c.self.view_is us e short f bytes
+    (c.in-Ok.ensures.keying ∙ ap (λ (z : SymmetricState). keying_after_tokens b (keying_of z a.remote) us) c.for_trial-state.ensures))
+
+pub returns-in-Ok-clause-front : goal.returns-in-Ok-clause-front
+returns-in-Ok-clause-front g c v xs rest s within begins =
+    let P = g.K.Keys.pairs in
+    let a = c.self.inside in
+    let less = reads-next P a c.self.invariant c.args.self.now c.self.view_is c.requires.due in
+    let ds : List PlacedToken = c.deref-2.result.now in
+    let d = c.deref-2.ensures.0 in
+    let count : ℕ = c.args.count in
+    let cut : tokens_of (take count ds) ≡ take count (tokens_of ds) = tokens-take ds count in
+    let placed : ArePlaced a.means.has_psks (keyed c.for_trial-state.result) 0 (take count ds) =
+    placed-take a.means.has_psks (keyed c.for_trial-state.result) 0 ds count
+    (places-next P a c.self.invariant less ds d c.for_trial-state.result c.for_trial-state.ensures) in
+    let t = value-of P c.args.self.now v s in
+    let trial : StateMatches c.for_trial-state.result v.history =
+    trial-next P a c.self.invariant less ds d c.args.self.now c.self.view_is v t c.for_trial-state.result c.for_trial-state.ensures in
+    let l = listening-next P a c.self.invariant less ds d c.args.self.now c.self.view_is v t c.deref.result.now c.deref.ensures.0 c.requires.due in
+    let w : Reader = reader_of P a.means in
+    let m : List ℕ = c.args.message.now in
+    let f : Front = record { from = c.in-Ok.from; state = c.read_tokens.new.state; remote = c.read_tokens.new.known } in
+    for-view v a.means.role a.means.has_psks (P a.means.keys).agree _ a.remote _ l
+    (λ w z s us. (ys : List (List ℕ)) (q : List ℕ) → BeginsAs w z s v.history (take count us) ys m q
+    → Fronts g.S.Steps.after (Some f) w.has_psks v.history (take count us) ys (remote_after z (take count us) ys) c.args.steps.now c.read_tokens.new.steps)
+    (front-read g.S.Steps.after v.history (tokens_of (take count ds)) (take count (tokens_of ds)) cut c.args.steps.now c.read_tokens.new.steps
+    w a.remote c.read_tokens.new.known _ m c.read_tokens.new.state c.in-Ok.from c.in-Ok.ensures.within
+    (c.in-Ok.ensures.read v.history 0 trial (omega arith) placed) (c.in-Ok.ensures.told v.history 0 trial (omega arith) placed)) xs rest begins
+
+pub returns-in-Err-clause-front : goal.returns-in-Err-clause-front
+returns-in-Err-clause-front g c v xs rest s within begins =
+    let P = g.K.Keys.pairs in
+    let a = c.self.inside in
+    let less = reads-next P a c.self.invariant c.args.self.now c.self.view_is c.requires.due in
+    let ds : List PlacedToken = c.deref-2.result.now in
+    let d = c.deref-2.ensures.0 in
+    let count : ℕ = c.args.count in
+    let cut : tokens_of (take count ds) ≡ take count (tokens_of ds) = tokens-take ds count in
+    let placed : ArePlaced a.means.has_psks (keyed c.for_trial-state.result) 0 (take count ds) =
+    placed-take a.means.has_psks (keyed c.for_trial-state.result) 0 ds count
+    (places-next P a c.self.invariant less ds d c.for_trial-state.result c.for_trial-state.ensures) in
+    let t = value-of P c.args.self.now v s in
+    let trial : StateMatches c.for_trial-state.result v.history =
+    trial-next P a c.self.invariant less ds d c.args.self.now c.self.view_is v t c.for_trial-state.result c.for_trial-state.ensures in
+    let l = listening-next P a c.self.invariant less ds d c.args.self.now c.self.view_is v t c.deref.result.now c.deref.ensures.0 c.requires.due in
+    let w : Reader = reader_of P a.means in
+    let m : List ℕ = c.args.message.now in
+    absurd (for-view v a.means.role a.means.has_psks (P a.means.keys).agree _ a.remote _ l
+    (λ w z s us. (ys : List (List ℕ)) (q : List ℕ) → BeginsAs w z s v.history (take count us) ys m q → ⊥)
+    (front-unread g.S.Steps.after v.history (tokens_of (take count ds)) (take count (tokens_of ds)) cut c.args.steps.now c.read_tokens.new.steps
+    w a.remote c.read_tokens.new.known _ m c.read_tokens.new.state _ c.in-Err.ensures.stop
+    (c.in-Err.ensures.read v.history 0 trial (omega arith) placed)) xs rest begins)

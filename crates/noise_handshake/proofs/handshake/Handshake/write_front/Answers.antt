@@ -1,0 +1,163 @@
+use Rattle.std.proofs.Common.{◌≡◌, ◌+◌, ◌-◌, ◌<◌, ◌≤◌, ◌^◌, ℕ, Bool, List, length, take, ap, sym, subst, ◌∙◌, arith, length-take}
+use Rattle.noise_handshake.proofs.Common.{after_ciphertext, writer_of, count_by, is_psk, IsTrue, list_all, Some, Token, SymmetricState, StateMatches, keyed, nonce_now, Writer, Given, keyed_after_tokens, nonce_after_tokens, has_own, ArePlaced, PlacedToken, tokens_of, tokens_at}
+use Rattle.noise_handshake.specs.inner.Following.{Fronts}
+use Rattle.noise_handshake.proofs.Counting.{nonces-most}
+use Rattle.noise_handshake.proofs.Followed.{count-now, front_of, front-written, front-unwritten, leaves-wrote, whole-due, widths-most, wrote-mixed}
+use Rattle.noise_handshake.proofs.Fronts.{all-take, tokens-take, placed-take}
+use Rattle.noise_handshake.proofs.Later.{count-take}
+use Rattle.noise_handshake.proofs.Layouts.{length-tokens_of}
+use Rattle.noise_handshake.proofs.LateParties.{supplied-not, value-of}
+use Rattle.noise_handshake.proofs.Next.{speaks-next, speaks-ours, places-next, psks-before, nonces-next, own-ours, trial-next, due-next}
+use Rattle.noise_handshake.proofs.Wrote.{for-view}
+use Rattle.noise_handshake.proofs.handshake.Handshake.write_front.Goals as goal
+
+pub returns-in-Some-clause-front : goal.returns-in-Some-clause-front
+returns-in-Some-clause-front g c v xs s within given = absurd (supplied-not c.args.self.now c.requires.more s.supplied _ c.in-Some.ensures.lacks)
+
+pub returns-then-count-len-clause-front : goal.returns-then-count-len-clause-front
+returns-then-count-len-clause-front g c v xs s within given =
+    let P = g.K.Keys.pairs in
+    let a = c.self.inside in
+    let less = speaks-next P a c.self.invariant c.args.self.now c.self.view_is c.requires.due in
+    let n = count-now P a c.self.invariant less c.args.self.now c.self.view_is v (value-of P c.args.self.now v s) in
+    absurd (omega (arith, c.if-count-len.true, c.len.ensures.value, n, within))
+
+pub write_tokens-requires-clause-psks : goal.write_tokens-requires-clause-psks
+write_tokens-requires-clause-psks g c =
+    let P = g.K.Keys.pairs in
+    let a = c.self.inside in
+    let less = speaks-next P a c.self.invariant c.args.self.now c.self.view_is c.requires.due in
+    let ds : List PlacedToken = c.deref-2.result.now in
+    let d = c.deref-2.ensures.0 in
+    let count : ℕ = c.args.count in
+    let cut : tokens_of (take count ds) ≡ take count (tokens_of ds) = tokens-take ds count in
+    let h = c.args.self.now in
+    let has : count_by is_psk (take count (tokens_at h.pattern.messages h.passed)) ≤ length h.psks =
+    omega (arith, count-take (tokens_at h.pattern.messages h.passed) count, c.in_default.ensures.lacks) in
+    omega (
+      arith,
+      psks-before P a c.self.invariant less ds d h c.self.view_is count has c.deref.result.now c.deref.ensures.0,
+      ap (count_by is_psk) cut,
+    )
+
+pub write_tokens-requires-clause-nonces : goal.write_tokens-requires-clause-nonces
+write_tokens-requires-clause-nonces g c =
+    let P = g.K.Keys.pairs in
+    let a = c.self.inside in
+    let less = speaks-next P a c.self.invariant c.args.self.now c.self.view_is c.requires.due in
+    let ds : List PlacedToken = c.deref-2.result.now in
+    let d = c.deref-2.ensures.0 in
+    let count : ℕ = c.args.count in
+    let cut : tokens_of (take count ds) ≡ take count (tokens_of ds) = tokens-take ds count in
+    let bound : nonce_now c.for_trial-state.result + length (tokens_of ds) < 2 ^ 64 - 1 =
+    nonces-next P a c.self.invariant less ds d c.for_trial-state.result c.for_trial-state.ensures (omega (arith, c.deref-2.ensures.1)) in
+    omega (arith, bound, ap length cut, length-take count (tokens_of ds))
+
+pub write_tokens-requires-clause-own : goal.write_tokens-requires-clause-own
+write_tokens-requires-clause-own g c =
+    let P = g.K.Keys.pairs in
+    let a = c.self.inside in
+    let less = speaks-next P a c.self.invariant c.args.self.now c.self.view_is c.requires.due in
+    let ds : List PlacedToken = c.deref-2.result.now in
+    let d = c.deref-2.ensures.0 in
+    let count : ℕ = c.args.count in
+    let cut : tokens_of (take count ds) ≡ take count (tokens_of ds) = tokens-take ds count in
+    let turn = speaks-ours P a c.self.invariant c.args.self.now c.self.view_is c.requires.due in
+    subst (λ (us : List Token). IsTrue (list_all (has_own (P a.means.keys).public) us)) (sym cut)
+    (all-take (has_own (P a.means.keys).public) (tokens_of ds) count (own-ours P a c.self.invariant less ds d turn))
+
+pub write_tokens-requires-clause-room : goal.write_tokens-requires-clause-room
+write_tokens-requires-clause-room g c =
+    let P = g.K.Keys.pairs in
+    let a = c.self.inside in
+    let less = speaks-next P a c.self.invariant c.args.self.now c.self.view_is c.requires.due in
+    let ds : List PlacedToken = c.deref-2.result.now in
+    let d = c.deref-2.ensures.0 in
+    let count : ℕ = c.args.count in
+    let cut : tokens_of (take count ds) ≡ take count (tokens_of ds) = tokens-take ds count in
+    let most = widths-most a.means.has_psks (keyed c.for_trial-state.result) (tokens_of (take count ds)) in
+    omega (arith, most, ap length cut, length-take count (tokens_of ds), length-tokens_of ds, c.deref-2.ensures.1)
+
+pub returns-in-Ok-clause-nonces : goal.returns-in-Ok-clause-nonces
+returns-in-Ok-clause-nonces g c =
+    let P = g.K.Keys.pairs in
+    let a = c.self.inside in
+    let less = speaks-next P a c.self.invariant c.args.self.now c.self.view_is c.requires.due in
+    let ds : List PlacedToken = c.deref-2.result.now in
+    let d = c.deref-2.ensures.0 in
+    let count : ℕ = c.args.count in
+    let cut : tokens_of (take count ds) ≡ take count (tokens_of ds) = tokens-take ds count in
+    let bound : nonce_now c.for_trial-state.result + length (tokens_of ds) < 2 ^ 64 - 1 =
+    nonces-next P a c.self.invariant less ds d c.for_trial-state.result c.for_trial-state.ensures (omega (arith, c.deref-2.ensures.1)) in
+    let most = nonces-most a.means.has_psks (keyed c.for_trial-state.result) (nonce_now c.for_trial-state.result) (tokens_of (take count ds)) in
+    omega (arith, bound, most, c.in-Ok.ensures.counted, ap length cut, length-take count (tokens_of ds))
+
+pub returns-in-Ok-clause-leaves : goal.returns-in-Ok-clause-leaves
+returns-in-Ok-clause-leaves g c all =
+    let P = g.K.Keys.pairs in
+    let a = c.self.inside in
+    let less = speaks-next P a c.self.invariant c.args.self.now c.self.view_is c.requires.due in
+    let ds : List PlacedToken = c.deref-2.result.now in
+    let d = c.deref-2.ensures.0 in
+    let count : ℕ = c.args.count in
+    let cut : tokens_of (take count ds) ≡ take count (tokens_of ds) = tokens-take ds count in
+    let b : Bool = a.means.has_psks in
+    let state : SymmetricState = c.write_tokens.new.state in
+    let us : List Token = tokens_of (take count ds) in
+    let e = whole-due P a c.self.invariant less c.args.self.now c.self.view_is ds d count all in
+    let short : length us ≤ 10 = omega (arith, ap length cut, length-take count (tokens_of ds), length-tokens_of ds, c.deref-2.ensures.1) in
+    let key = c.in-Ok.ensures.keyed ∙ ap (λ (z : SymmetricState). keyed_after_tokens b (keyed z) us) c.for_trial-state.ensures in
+    λ bytes. leaves-wrote P a c.self.invariant less c.args.self.now c.self.view_is us e short
+    (speaks-ours P a c.self.invariant c.args.self.now c.self.view_is c.requires.due) (after_ciphertext state bytes) key
+    (wrote-mixed P a c.self.invariant less c.args.self.now c.self.view_is us e short state bytes key
+    (c.in-Ok.ensures.counted ∙ ap (λ (z : SymmetricState). nonce_after_tokens b (keyed z) (nonce_now z) us) c.for_trial-state.ensures))
+
+pub returns-in-Ok-clause-front : goal.returns-in-Ok-clause-front
+returns-in-Ok-clause-front g c v xs s within given =
+    let P = g.K.Keys.pairs in
+    let a = c.self.inside in
+    let less = speaks-next P a c.self.invariant c.args.self.now c.self.view_is c.requires.due in
+    let ds : List PlacedToken = c.deref-2.result.now in
+    let d = c.deref-2.ensures.0 in
+    let count : ℕ = c.args.count in
+    let cut : tokens_of (take count ds) ≡ take count (tokens_of ds) = tokens-take ds count in
+    let placed : ArePlaced a.means.has_psks (keyed c.for_trial-state.result) 0 (take count ds) =
+    placed-take a.means.has_psks (keyed c.for_trial-state.result) 0 ds count
+    (places-next P a c.self.invariant less ds d c.for_trial-state.result c.for_trial-state.ensures) in
+    let t = value-of P c.args.self.now v s in
+    let trial : StateMatches c.for_trial-state.result v.history =
+    trial-next P a c.self.invariant less ds d c.args.self.now c.self.view_is v t c.for_trial-state.result c.for_trial-state.ensures in
+    let l = due-next P a c.self.invariant less ds d c.args.self.now c.self.view_is v t c.deref.result.now c.deref.ensures.0 c.requires.due in
+    let w : Writer = writer_of P a.means in
+    let most = widths-most a.means.has_psks (keyed c.for_trial-state.result) (tokens_of (take count ds)) in
+    let room : c.in-Ok.from ≤ length c.write_tokens.new.out =
+    omega (arith, c.in-Ok.ensures.width, most, ap length cut, length-take count (tokens_of ds), length-tokens_of ds, c.deref-2.ensures.1) in
+    for-view v a.means.role a.means.has_psks (P a.means.keys).public (P a.means.keys).agree _ a.remote _ l
+    (λ w z s us. (ys : List (List ℕ)) → Given w z s (take count us) ys → Fronts g.S.Steps.after
+    (Some (front_of c.in-Ok.from c.write_tokens.new.state a.remote)) w.has_psks v.history (take count us) ys z
+    c.args.steps.now c.write_tokens.new.steps)
+    (front-written g.S.Steps.after v.history (tokens_of (take count ds)) (take count (tokens_of ds)) cut c.args.steps.now c.write_tokens.new.steps
+    w a.remote _ c.write_tokens.new.out c.write_tokens.new.state c.in-Ok.from room
+    (c.in-Ok.ensures.written v.history trial) (c.in-Ok.ensures.told v.history 0 trial placed)) xs given
+
+pub returns-in-Err-clause-front : goal.returns-in-Err-clause-front
+returns-in-Err-clause-front g c v xs s within given =
+    let P = g.K.Keys.pairs in
+    let a = c.self.inside in
+    let less = speaks-next P a c.self.invariant c.args.self.now c.self.view_is c.requires.due in
+    let ds : List PlacedToken = c.deref-2.result.now in
+    let d = c.deref-2.ensures.0 in
+    let count : ℕ = c.args.count in
+    let cut : tokens_of (take count ds) ≡ take count (tokens_of ds) = tokens-take ds count in
+    let placed : ArePlaced a.means.has_psks (keyed c.for_trial-state.result) 0 (take count ds) =
+    placed-take a.means.has_psks (keyed c.for_trial-state.result) 0 ds count
+    (places-next P a c.self.invariant less ds d c.for_trial-state.result c.for_trial-state.ensures) in
+    let t = value-of P c.args.self.now v s in
+    let trial : StateMatches c.for_trial-state.result v.history =
+    trial-next P a c.self.invariant less ds d c.args.self.now c.self.view_is v t c.for_trial-state.result c.for_trial-state.ensures in
+    let l = due-next P a c.self.invariant less ds d c.args.self.now c.self.view_is v t c.deref.result.now c.deref.ensures.0 c.requires.due in
+    let w : Writer = writer_of P a.means in
+    absurd (for-view v a.means.role a.means.has_psks (P a.means.keys).public (P a.means.keys).agree _ a.remote _ l
+    (λ w z s us. (ys : List (List ℕ)) → Given w z s (take count us) ys → ⊥)
+    (front-unwritten g.S.Steps.after v.history (tokens_of (take count ds)) (take count (tokens_of ds)) cut c.args.steps.now c.write_tokens.new.steps
+    w a.remote _ c.write_tokens.new.out c.write_tokens.new.state _ (c.in-Err.ensures.written v.history trial)) xs given)
