@@ -111,7 +111,11 @@ impl<A: Keys, B: Keys> Duel<A, B> {
     {
         let mut report = Report::new(alloc);
         for (role, payload, cuts) in lines {
-            self.say(alloc, *role, payload.as_slice(), cuts, &mut report)?;
+            let written = self.write(alloc, *role, payload.as_slice(), &mut report)?;
+            let Some(number) = written else {
+                continue;
+            };
+            self.deliver(alloc, role.other(), number, cuts, &mut report)?;
         }
         ends_match();
         messages_come_through();
@@ -155,7 +159,10 @@ impl<A: Keys, B: Keys> Duel<A, B> {
                 Ok(())
             }
             Event::Say(role, payload, cuts) => {
-                self.say(alloc, *role, payload.as_slice(), cuts, report)
+                match self.write(alloc, *role, payload.as_slice(), report)? {
+                    Some(number) => self.deliver(alloc, role.other(), number, cuts, report),
+                    None => Ok(()),
+                }
             }
             Event::Deliver(role, number, cuts) => self.deliver(alloc, *role, *number, cuts, report),
             Event::Raw(role, bytes) => self.hand_over(alloc, *role, bytes.as_slice(), report),
@@ -186,24 +193,6 @@ impl<A: Keys, B: Keys> Duel<A, B> {
                 report.entries.push((role, Entry::WriteFault(fault)))?;
                 Ok(None)
             }
-        }
-    }
-
-    // This role writes a payload, and its frame comes to the other role at once.
-    fn say(
-        &mut self,
-        alloc: Global,
-        role: Role,
-        payload: &[u8],
-        cuts: &Cuts,
-        report: &mut Report,
-    ) -> Result<(), AllocError>
-        ensures { Applies A.pairs B.pairs
-            (Say role payload.now) self.old self.new report.old report.new result }
-    {
-        match self.write(alloc, role, payload, report)? {
-            Some(number) => self.deliver(alloc, role.other(), number, cuts, report),
-            None => Ok(()),
         }
     }
 
