@@ -9,8 +9,7 @@ use Rattle.noise_session.specs.HalfCalls.{IsCounted}
 use Rattle.noise_session.specs.TransportValue.{TransportState}
 use Rattle.noise_session.specs.Frames.{frame, frame_length, IsPartial}
 use Rattle.noise_channel.specs.Framing.{Begins}
-use Rattle.noise_channel.specs.Streams.{incoming, outgoing}
-use Rattle.noise_channel.specs.Writing.{Asked, ChannelWrites, StreamSenderState}
+use Rattle.noise_channel.specs.Streams.{incoming}
 use Rattle.noise_channel.specs.Writing.Asked.{ToWrite, ToEnd}
 use Rattle.noise_channel.specs.Writing.StreamSenderState.{Speaks}
 use Rattle.noise_channel.specs.Writing.Put.{Wrote}
