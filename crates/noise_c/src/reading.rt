@@ -157,11 +157,11 @@ pub fn read_after_finish(
     ensures responder { (p : Plan) (a b : Start) (ps qs : List HandshakeMessage) (v w : Party) (handed_in : DhResults)
         → HaveFinished p a b ps qs v w → KeepsParty handshake.old p (with_dh_results w handed_in) → IfOk result
         (λ whole. HandsOut (transport_of v interval) came.old out.old.items out.new.items whole
-        ⊎ ForgedOrTwice p ps qs v.history w.history) }
+        ⊎ ForgedOrTwice p a b ps qs) }
     ensures initiator { (p : Plan) (a b : Start) (ps qs : List HandshakeMessage) (v w : Party) (handed_in : DhResults)
         → HaveFinished p a b ps qs v w → KeepsParty handshake.old p (with_dh_results v handed_in) → IfOk result
         (λ whole. HandsOut (transport_of w interval) came.old out.old.items out.new.items whole
-        ⊎ ForgedOrTwice p ps qs v.history w.history) }
+        ⊎ ForgedOrTwice p a b ps qs) }
     ensures all { Finishes handshake.old OK → (p : Plan) (u : Party) (v : TransportState) → KeepsParty handshake.old p u
         → outgoing v ≡ incoming (transport_of u interval) → IfOk result
         (λ whole. HandsOutAll v came.old out.old.items out.new.items whole) }

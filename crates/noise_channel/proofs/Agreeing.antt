@@ -16,7 +16,7 @@ use Rattle.noise_channel.specs.Runs.{StreamReceiverRun, PrefixOrForged}
 use Rattle.noise_channel.specs.Agreement.{EndAlike, IsWholeOrForged}
 use Rattle.noise_channel.specs.Finished.{FinishedIsOne, ForgedOrTwice, HaveFinished}
 use Rattle.noise_duel.specs.Agreement.{KeysReport}
-use Rattle.noise_duel.specs.HashedTexts.{ClashAt}
+use Rattle.noise_duel.specs.Histories.{PartiesClash}
 use Rattle.noise_duel.specs.Messages.{HandshakeMessage, Exchanged, Start, begun_as}
 use Rattle.noise_duel.specs.Messages.Exchanged.{none, wrote, took}
 
@@ -56,7 +56,7 @@ module _
 
   pub channel-agrees : KeysReport → (p : Plan) (a b : Start) (ps qs : List HandshakeMessage) (v w : Party) (interval : ℕ) → EndAlike p a b ps qs v w
       → (IsWholeOrForged (transport_of v interval) (transport_of w interval) × IsWholeOrForged (transport_of w interval) (transport_of v interval))
-      ⊎ ((i : ℕ) × ClashAt v.history w.history i)
+      ⊎ PartiesClash p a b ps qs
   channel-agrees report p a b ps qs v w interval h =
       elim (report p a b ps qs v w h.initiator h.responder h.wrote_and_took h.took_and_wrote h.passed h.hashes h.psks h.keys) [
         | inl one ↦ inl (one-agrees p a b ps qs v w interval h.wrote_and_took h.took_and_wrote one.1)
@@ -65,7 +65,7 @@ module _
 
   pub finished-agree : FinishedIsOne → (p : Plan) (a b : Start) (ps qs : List HandshakeMessage) (v w : Party) (interval : ℕ) → HaveFinished p a b ps qs v w
       → (IsWholeOrForged (transport_of v interval) (transport_of w interval) × IsWholeOrForged (transport_of w interval) (transport_of v interval))
-      ⊎ ForgedOrTwice p ps qs v.history w.history
+      ⊎ ForgedOrTwice p a b ps qs
   finished-agree finished p a b ps qs v w interval h =
       elim (finished p a b ps qs v w h) [
         | inl one ↦ inl (one-agrees p a b ps qs v w interval h.wrote_and_took h.took_and_wrote one.1)

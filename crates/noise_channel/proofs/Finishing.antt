@@ -1,5 +1,5 @@
 -- Two parties that have finished have one history, or a message was forged or a text opens twice.
-use Rattle.std.proofs.Common.{◌≡◌, ◌⊎◌, inl, inr, ℕ, ◌≤◌, List, [], ◌∷◌, ◌++◌, length, Option, Some, None, true, refl, sym, ◌∙◌, ap, subst, arith}
+use Rattle.std.proofs.Common.{◌≡◌, ◌⊎◌, inl, inr, ℕ, ◌≤◌, List, [], ◌∷◌, ◌++◌, length, Option, Some, None, true, refl, sym, ◌∙◌, ap, arith}
 use Rattle.std.specs.Prelude.{is_some}
 use Rattle.sha2.specs.Sha256.{sha256}
 use Rattle.noise_names.specs.declared.token.Role.TheVariants.{Initiator, Responder}
@@ -10,9 +10,10 @@ use Rattle.noise_state.specs.History.{History, Ciphertext, and_then, cipher_key,
 use Rattle.noise_handshake.specs.Party.{Party}
 use Rattle.noise_handshake.specs.Setup.{public_keys}
 use Rattle.noise_duel.specs.Agreement.{KeysReport}
+use Rattle.noise_duel.specs.Histories.{ExchangedHasHistory, after_all, history_of}
 use Rattle.noise_duel.specs.Messages.{HandshakeMessage, Start, begun_as}
 use Rattle.noise_channel.specs.Finished.{FinishedIsOne, ForgedOrTwice, HaveFinished, LastSealed}
-use Rattle.noise_channel.proofs.Lasting.{AcceptedCarries, AreSpelled, KeyedAlike, LastTwo, WrittenCarries, after_all, has-spelled, last-two, start-alike}
+use Rattle.noise_channel.proofs.Lasting.{AcceptedCarries, AreSpelled, KeyedAlike, LastTwo, WrittenCarries, has-spelled, last-two, start-alike}
 
 some-of : (o : Option (List ℕ)) → is_some o ≡ true → (k : List ℕ) × (o ≡ Some k)
 some-of (Some k) e = (k, refl)
@@ -39,23 +40,24 @@ last-of p n r s (m ∷ ms) [] e some f g h = absurd (omega (arith, e))
 
 -- the parties' last messages are the same bytes
 module _ (report : KeysReport) (p : Plan) (a b : Start) (ps qs : List HandshakeMessage) (v w : Party) (h : HaveFinished p a b ps qs v w)
-    (l : LastTwo ps qs v.history w.history) (same : l.left.message ≡ l.right.message) where
+    (there : v.history ≡ history_of p Initiator a ps) (back : w.history ≡ history_of p Responder b qs)
+    (l : LastTwo ps qs (history_of p Initiator a ps) (history_of p Responder b qs)) (same : l.left.message ≡ l.right.message) where
   one-text : ciphertext l.left_before l.left.payload ≡ ciphertext l.right_before l.right.payload
   one-text =
       let parts = split-apart l.left_front l.right_front (ciphertext l.left_before l.left.payload) (ciphertext l.right_before l.right.payload) l.long
       (sym l.left_is ∙ same ∙ l.right_is) in parts.1
 
   left-keyed : is_some (cipher_key l.left_before) ≡ true
-  left-keyed = sym (ap (λ (r : History). is_some (cipher_key r)) l.left_after) ∙ h.keyed
+  left-keyed = sym (ap (λ (r : History). is_some (cipher_key r)) (there ∙ l.left_after)) ∙ h.keyed
 
   one-hash : hash l.left_before ≡ hash l.right_before → hash v.history ≡ hash w.history
   one-hash e =
-      ap hash l.left_after
+      ap hash (there ∙ l.left_after)
       ∙ ap (λ (x : List ℕ). sha256 (x ++ ciphertext l.left_before l.left.payload)) e
       ∙ ap (λ (c : List ℕ). sha256 (hash l.right_before ++ c)) one-text
-      ∙ sym (ap hash l.right_after)
+      ∙ sym (ap hash (back ∙ l.right_after))
 
-  pub same-message : ((ps ≡ qs) × (v.history ≡ w.history)) ⊎ ForgedOrTwice p ps qs v.history w.history
+  pub same-message : ((ps ≡ qs) × (v.history ≡ w.history)) ⊎ ForgedOrTwice p a b ps qs
   unfolding last-sealed
   same-message = elim (same-or (hash l.left_before) (hash l.right_before)) [
     | inl e ↦
@@ -67,15 +69,15 @@ module _ (report : KeysReport) (p : Plan) (a b : Start) (ps qs : List HandshakeM
         let text : List ℕ = ciphertext l.left_before l.left.payload in
         inr (inr (inl (record {
           text = text;
-          left = last-sealed v.history l.left_before text l.left.payload refl l.left_after left-keyed;
-          right = last-sealed w.history l.right_before text l.right.payload one-text
+          left = last-sealed (history_of p Initiator a ps) l.left_before text l.left.payload refl l.left_after left-keyed;
+          right = last-sealed (history_of p Responder b qs) l.right_before text l.right.payload one-text
               (l.right_after ∙ ap (λ (c : List ℕ). and_then l.right_before (Ciphertext c)) (sym one-text)) (sym l.keyed ∙ left-keyed);
           differ = differ;
         })))
   ]
 
-pub finished-is-one : WrittenCarries → AcceptedCarries → KeysReport → FinishedIsOne
-finished-is-one written accepted report p a b ps qs v w h =
+pub finished-is-one : WrittenCarries → AcceptedCarries → ExchangedHasHistory → KeysReport → FinishedIsOne
+finished-is-one written accepted follows report p a b ps qs v w h =
     let left = has-spelled written accepted (begun_as p Initiator a) v ps h.wrote_and_took in
     let right = has-spelled written accepted (begun_as p Responder b) w qs h.took_and_wrote in
     let many : length ps ≡ length p.messages = omega (arith, left.count, h.passed) in
@@ -85,14 +87,14 @@ finished-is-one written accepted report p a b ps qs v w h =
     let name : List ℕ = name_bytes (record { base = p.base; places = p.places }) in
     let alike : KeyedAlike r0 s0 =
     start-alike name a.prologue b.prologue p (public_keys a.own) a.remote b.remote (public_keys b.own) in
-    let found : LastTwo ps qs (after_all p 0 r0 ps) (after_all p 0 s0 qs) =
-    last-of p 0 r0 s0 ps qs (many ∙ sym too) (omega (arith, many, h.some)) left.spelled right.spelled alike in
-    go (subst (λ (r : History). LastTwo ps qs r w.history) (sym left.history) (subst (λ (s : History). LastTwo ps qs (after_all p 0 r0 ps) s) (sym right.history) found)) many
+    go (follows p Initiator a ps v h.wrote_and_took) (follows p Responder b qs w h.took_and_wrote)
+    (last-of p 0 r0 s0 ps qs (many ∙ sym too) (omega (arith, many, h.some)) left.spelled right.spelled alike) many
   where
-    go : LastTwo ps qs v.history w.history → length ps ≡ length p.messages
-        → ((ps ≡ qs) × (v.history ≡ w.history)) ⊎ ForgedOrTwice p ps qs v.history w.history
-    go l many = elim (same-or l.left.message l.right.message) [
-      | inl same ↦ same-message report p a b ps qs v w h l same
+    go : v.history ≡ history_of p Initiator a ps → w.history ≡ history_of p Responder b qs
+        → LastTwo ps qs (history_of p Initiator a ps) (history_of p Responder b qs) → length ps ≡ length p.messages
+        → ((ps ≡ qs) × (v.history ≡ w.history)) ⊎ ForgedOrTwice p a b ps qs
+    go there back l many = elim (same-or l.left.message l.right.message) [
+      | inl same ↦ same-message report p a b ps qs v w h there back l same
       | inr differ ↦
           inr (inl (
             l.place,

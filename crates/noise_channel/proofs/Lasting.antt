@@ -14,6 +14,7 @@ use Rattle.noise_handshake.specs.Message.{with_ephemeral, after_token, after_tok
 use Rattle.noise_handshake.specs.Party.{Party, Accepts, tokens_at, tokens_now, start, with_premessage}
 use Rattle.noise_handshake.specs.Writing.{Writes}
 use Rattle.noise_handshake.specs.Matching.{after_message, after_own}
+use Rattle.noise_duel.specs.Histories.{after_all}
 use Rattle.noise_duel.specs.Messages.{HandshakeMessage, Exchanged, messages_of}
 use Rattle.noise_duel.specs.Messages.Exchanged.{none, wrote, took}
 
@@ -83,10 +84,6 @@ front-alike psks r s (t ∷ ts) (x ∷ xs) [] f g h = absurd g
 
 -- ---- the messages without the party
 
-abbrev pub after_all : Plan → ℕ → History → List HandshakeMessage → History
-after_all p n r [] = r
-after_all p n r (m ∷ ms) = after_all p (n + 1) (after_payload (has_psk p) r (tokens_at p.messages n) m.carried m.payload) ms
-
 abbrev pub AreSpelled : Plan → ℕ → History → List HandshakeMessage → Type 0
 AreSpelled p n r [] = Unit {0}
 AreSpelled p n r (m ∷ ms) =
@@ -94,7 +91,6 @@ AreSpelled p n r (m ∷ ms) =
     × AreSpelled p (n + 1) (after_payload (has_psk p) r (tokens_at p.messages n) m.carried m.payload) ms
 
 pub record HasSpelled (v w : Party) (ps : List HandshakeMessage) : Type 0 where
-  pub history : w.history ≡ after_all v.pattern v.passed v.history ps
   pub spelled : AreSpelled v.pattern v.passed v.history ps
   pub count : w.passed ≡ v.passed + length ps
 
@@ -105,18 +101,16 @@ abbrev pub AcceptedCarries : Type 0
 AcceptedCarries = (v : Party) (payload message : List ℕ) (xs : List (List ℕ)) → Accepts v message xs payload → Carry (tokens_now v) xs
 
 pub has-spelled : WrittenCarries → AcceptedCarries → (v w : Party) (ps : List HandshakeMessage) → Exchanged v ps w → HasSpelled v w ps
-has-spelled written accepted v w [] (none _) = record { history = refl; spelled = tt; count = omega arith }
+has-spelled written accepted v w [] (none _) = record { spelled = tt; count = omega arith }
 has-spelled written accepted v w (p ∷ ps) (wrote _ _ _ _ here more) =
     let rest = has-spelled written accepted (after_own v p.carried p.payload) w ps more in
     record {
-      history = rest.history;
       spelled = ((written v p.payload p.message p.carried here, here.spelled), rest.spelled);
       count = omega (arith, rest.count);
     }
 has-spelled written accepted v w (p ∷ ps) (took _ _ _ _ here more) =
     let rest = has-spelled written accepted (after_message v p.carried p.payload) w ps more in
     record {
-      history = rest.history;
       spelled = ((accepted v p.payload p.message p.carried here, here.reads.spelled), rest.spelled);
       count = omega (arith, rest.count);
     }

@@ -6,7 +6,7 @@ use Rattle.noise_aead.specs.Sealing.{sealed, nonce_of}
 use Rattle.noise_state.specs.History.{History, Ciphertext, and_then, cipher_key, hash, nonce}
 use Rattle.noise_handshake.specs.Party.{Party}
 use Rattle.noise_duel.specs.Agreement.{IsSetUp, KeysAgree}
-use Rattle.noise_duel.specs.HashedTexts.{ClashAt}
+use Rattle.noise_duel.specs.Histories.{PartiesClash, history_of}
 use Rattle.noise_duel.specs.Messages.{HandshakeMessage, Exchanged, Start, begun_as, messages_of}
 
 -- Two parties of one pattern, each made without a fault, with equal psks and keys that agree, have finished: each has
@@ -49,14 +49,14 @@ pub record OpensTwice (r s : History) : Type 0 where
   pub right : LastSealed s text
   pub differ : hash left.before ≢ hash right.before
 
--- what stands in place of one history: at the last place a message was forged, or its last text opens twice, or two
--- hashed texts clash
-abbrev pub ForgedOrTwice : Plan → List HandshakeMessage → List HandshakeMessage → History → History → Type 0
-ForgedOrTwice p ps qs r s =
+-- what stands in place of one history, of two parties that began so and exchanged these messages: at the last place a
+-- message was forged, or its last text opens twice, or two hashed texts clash
+abbrev pub ForgedOrTwice : Plan → Start → Start → List HandshakeMessage → List HandshakeMessage → Type 0
+ForgedOrTwice p a b ps qs =
     ((place : ℕ) × (place + 1 ≡ length p.messages) × IsForgedMessage ps qs place)
-    ⊎ OpensTwice r s ⊎ ((i : ℕ) × ClashAt r s i)
+    ⊎ OpensTwice (history_of p Initiator a ps) (history_of p Responder b qs) ⊎ PartiesClash p a b ps qs
 
 -- Two parties that have finished have all of the conversation in common, what travelled encrypted too, and one history.
 abbrev pub FinishedIsOne : Type 0
 FinishedIsOne = (p : Plan) (a b : Start) (ps qs : List HandshakeMessage) (v w : Party) → HaveFinished p a b ps qs v w
-    → ((ps ≡ qs) × (v.history ≡ w.history)) ⊎ ForgedOrTwice p ps qs v.history w.history
+    → ((ps ≡ qs) × (v.history ≡ w.history)) ⊎ ForgedOrTwice p a b ps qs

@@ -58,11 +58,11 @@ pub fn read_after<K: Keys>(
     ensures responder { (p : Plan) (a b : Start) (ps qs : List HandshakeMessage) (v w : Party)
         → HaveFinished p a b ps qs v w → Matches K.pairs handshake w → IfOk result
         (λ whole. HandsOut (transport_of v interval) came.old out.old.items out.new.items whole
-        ⊎ ForgedOrTwice p ps qs v.history w.history) }
+        ⊎ ForgedOrTwice p a b ps qs) }
     ensures initiator { (p : Plan) (a b : Start) (ps qs : List HandshakeMessage) (v w : Party)
         → HaveFinished p a b ps qs v w → Matches K.pairs handshake v → IfOk result
         (λ whole. HandsOut (transport_of w interval) came.old out.old.items out.new.items whole
-        ⊎ ForgedOrTwice p ps qs v.history w.history) }
+        ⊎ ForgedOrTwice p a b ps qs) }
 {
     finished_agree();
     match streams(handshake, interval) {

@@ -2,7 +2,7 @@
 use Rattle.std.proofs.Common.{rules, ◌≡◌, ◌≢◌, ◌≤◌, ◌+◌, ℕ, zero, suc, List, ◌∷◌, refl, arith, inl, inr, []}
 use Rattle.std.specs.Prelude.{Bool, true, false, Some, if◌then◌else◌}
 use Rattle.std.proofs.lemmas.Slice.Eq.{bytes_eq-Decides}
-use Rattle.noise_duel.proofs.Common.{not, bytes_eq, sha256, hash_texts, TextsClashAt, HashesReport, and_parts, same_Some}
+use Rattle.noise_duel.proofs.Common.{Initiator, Responder, History, history_of, not, bytes_eq, sha256, hash_texts, TextsClashAt, HashesReport, and_parts, same_Some}
 use Rattle.noise_duel.specs.Clash.{clash, first_clash, clash_position, FoundIsClash, ClashFound, ClashReported}
 
 not-both : (b : Bool) → not b ≡ true → b ≡ true → ⊥
@@ -70,5 +70,9 @@ pub clash-reported : HashesReport → ClashReported
 clash-reported report_step p a b i j events notes d run one differ =
     elim (report_step p a b i j events notes d run one) [
       | inl same ↦ absurd (differ same)
-      | inr c ↦ (let w = clash-found _ _ c.0 c.1 in (w.0, w.1, clash-matches _ _ w.0 w.1))
+      | inr c ↦
+          let r : History = history_of p Initiator a d.initiator.passed in
+          let s : History = history_of p Responder b d.responder.passed in
+          let w = clash-found r s c.0 c.1 in
+          (w.0, w.1, clash-matches r s w.0 w.1)
     ]

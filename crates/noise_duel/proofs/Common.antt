@@ -48,6 +48,7 @@ pub use Rattle.noise_state.specs.History.{Ciphertext, History, MixHash, MixKey, 
 pub use Rattle.noise_duel.specs.Agreement.{HashReports, IsSetUp, KeysAgree, KeysReport, KnowEachOther, Knows, PsksReport, VisiblyEqual, VisiblyEqualIsOne}
 pub use Rattle.noise_duel.specs.Below.{LawsBelow}
 pub use Rattle.noise_duel.specs.HashedTexts.{ClashAt, TextsClashAt, hash_texts, hash_texts_of, hashed, hashed_of}
+pub use Rattle.noise_duel.specs.Histories.{ExchangedHasHistory, PartiesClash, after_all, history_of}
 pub use Rattle.noise_duel.specs.Conversation.{ComeThrough, HaveParts, InTurn, IsPart, KeyMaterial, MessagesComeThrough, MessagesLeave, MessagesRun, after_conversation, carried_by, conversation, end_after, frames_by, history_in, in_turn, messages_by, notes_of_messages, payloads_in, public_keys_in, say_events, sides_at_start, start_in, transport_messages_of}
 pub use Rattle.noise_duel.specs.DatagramNotes.{DatagramNote, Rejected, SealFault, Sealed}
 pub use Rattle.noise_duel.specs.DatagramReports.{DatagramDuelMatches, DatagramDuelValue, DatagramReports, datagram_note_of, datagram_notes_of}

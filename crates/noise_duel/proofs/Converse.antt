@@ -1,8 +1,8 @@
 -- Conversations that are the same as far as they can be seen, with the same psks and DH results, are one.
 use Rattle.std.proofs.Common.{rules, ◌≡◌, ℕ, ◌+◌, List, ◌∷◌, ◌++◌, length, drop, count_by, refl, ap, sym, subst, ◌∙◌, append_assoc, []}
 use Rattle.std.specs.Prelude.{Bool, if◌then◌else◌}
-use Rattle.noise_duel.proofs.Common.{is_some, Initiator, Responder, Token, E, S, Psk, is_psk, Plan, has_psk, pre_of, name_bytes, History, MixHash, and_then, cipher_key, ciphertext, length-ciphertext, ciphertext-same, token_bytes, after_token, before_payload, after_tokens, after_payload, Carry, Carries, Party, psks_after, tokens_at, with_premessage, after_own, after_message, public_keys, LawsBelow, HandshakeMessage, Exchanged, begun_as, dh_results, dh_results_from, messages_of, none, wrote, took, VisiblyEqualIsOne, heads, tails, split-apart, cons-same}
-use Rattle.noise_duel.proofs.HashedMessages.{after_all, AreMessages, passes-messages}
+use Rattle.noise_duel.proofs.Common.{after_all, is_some, Initiator, Responder, Token, E, S, Psk, is_psk, Plan, has_psk, pre_of, name_bytes, History, MixHash, and_then, cipher_key, ciphertext, length-ciphertext, ciphertext-same, token_bytes, after_token, before_payload, after_tokens, after_payload, Carry, Carries, Party, psks_after, tokens_at, with_premessage, after_own, after_message, public_keys, LawsBelow, HandshakeMessage, Exchanged, begun_as, dh_results, dh_results_from, messages_of, none, wrote, took, VisiblyEqualIsOne, heads, tails, split-apart, cons-same}
+use Rattle.noise_duel.proofs.HashedMessages.{AreMessages, passes-messages}
 use Rattle.noise_duel.proofs.Forward.{PskAt, PsksFit, UsePsks, passes-psks, message-same, pre-same}
 
 -- each message carries keys of 32 bytes

@@ -1,9 +1,9 @@
 -- With the same psks and DH results the same bytes are the same conversation, from the first message on.
 use Rattle.std.proofs.Common.{rules, ◌≡◌, ℕ, ◌+◌, List, ◌∷◌, ◌++◌, drop, count_by, refl, ap, sym, subst, ◌∙◌, inl, inr, []}
 use Rattle.std.specs.Prelude.{Bool}
-use Rattle.noise_duel.proofs.Common.{unwrap_or, Initiator, Responder, Token, E, S, Psk, is_psk, Plan, has_psk, pre_of, name_bytes, History, MixHash, and_then, ciphertext, ciphertext-same, Remote, token_bytes, after_token, after_tokens, after_payload, with_ephemeral, Party, Reader, Fit, Fits, known_after, psks_after, first_psk, tokens_at, with_premessage, start, Writer, Given, Gives, after_own, after_message, public_keys, hashed, HandshakeMessage, Exchanged, begun_as, dh_results, dh_results_from, pre_keys, none, wrote, took, PsksReport, heads, tails, cons-same}
+use Rattle.noise_duel.proofs.Common.{after_all, unwrap_or, Initiator, Responder, Token, E, S, Psk, is_psk, Plan, has_psk, pre_of, name_bytes, History, MixHash, and_then, ciphertext, ciphertext-same, Remote, token_bytes, after_token, after_tokens, after_payload, with_ephemeral, Party, Reader, Fit, Fits, known_after, psks_after, first_psk, tokens_at, with_premessage, start, Writer, Given, Gives, after_own, after_message, public_keys, hashed, HandshakeMessage, Exchanged, begun_as, dh_results, dh_results_from, pre_keys, none, wrote, took, PsksReport, heads, tails, cons-same}
 use Rattle.noise_duel.proofs.HashedTexts.{Alike, pre-back}
-use Rattle.noise_duel.proofs.HashedMessages.{after_all, AreMessages, AllAlike, passes-messages}
+use Rattle.noise_duel.proofs.HashedMessages.{AreMessages, AllAlike, passes-messages}
 use Rattle.noise_duel.proofs.HashReports.{SameBytes, bytes-or}
 
 -- ---- psks

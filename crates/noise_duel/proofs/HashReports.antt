@@ -1,10 +1,10 @@
 -- Equal hashes: all that can be seen of the conversation is the same, or two hashed texts clash.
 use Rattle.std.proofs.Common.{rules, ◌≡◌, ℕ, ◌+◌, List, ◌∷◌, length, refl, ap, sym, ◌∙◌, arith, inl, inr, ◌⊎◌, []}
 use Rattle.std.specs.Prelude.{Bool, true, false}
-use Rattle.noise_duel.proofs.Common.{is_some, unwrap_or, Role, Initiator, Responder, Token, E, S, Plan, has_psk, pre_of, name_bytes, History, MixHash, and_then, cipher_key, hash, Remote, after_token, after_tokens, after_payload, with_ephemeral, keyed_after, Party, tokens_at, with_premessage, start, public_keys, hashed, ClashAt, HandshakeMessage, Exchanged, Start, begun_as, keys_before, clear_keys_from, pre_keys, VisiblyEqual, HashReports, heads}
+use Rattle.noise_duel.proofs.Common.{after_all, is_some, unwrap_or, Role, Initiator, Responder, Token, E, S, Plan, has_psk, pre_of, name_bytes, History, MixHash, and_then, cipher_key, hash, Remote, after_token, after_tokens, after_payload, with_ephemeral, keyed_after, Party, tokens_at, with_premessage, start, public_keys, hashed, PartiesClash, HandshakeMessage, Exchanged, Start, begun_as, keys_before, clear_keys_from, pre_keys, VisiblyEqual, HashReports, heads}
 use Rattle.noise_duel.proofs.Histories.{histories-alike}
 use Rattle.noise_duel.proofs.HashedTexts.{pre-many, pre-back, token-keyed}
-use Rattle.noise_duel.proofs.HashedMessages.{after_all, AllAlike, Reports, passes-messages, all-many, all-back, messages-same, keys-same}
+use Rattle.noise_duel.proofs.HashedMessages.{AllAlike, Reports, passes-messages, all-many, all-back, messages-same, keys-same}
 
 -- ---- the name stays
 
@@ -103,12 +103,12 @@ module _ (p : Plan) (a b : Start) (ps qs : List HandshakeMessage) (v w : Party)
       let h = all-back p 0 r0 s0 ps qs same-count reports-left.lines reports-right.lines e in
       record { start = h.0; lines = h.1 }
 
-  pub bytes-or : hash v.history ≡ hash w.history → SameBytes ⊎ ((i : ℕ) × ClashAt v.history w.history i)
+  pub bytes-or : hash v.history ≡ hash w.history → SameBytes ⊎ PartiesClash p a b ps qs
   bytes-or e =
       let same : hash (after_all p 0 r0 ps) ≡ hash (after_all p 0 s0 qs) = sym (ap hash reports-left.history) ∙ e ∙ ap hash reports-right.history in
       elim (histories-alike (after_all p 0 r0 ps) (after_all p 0 s0 qs) named many same) [
         | inl h ↦ inl (back h)
-        | inr c ↦ inr (rw (reports-left.history, reports-right.history) c)
+        | inr c ↦ inr c
       ]
 
   pub visibly_equal : SameBytes → VisiblyEqual p a b ps qs

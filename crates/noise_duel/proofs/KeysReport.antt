@@ -1,8 +1,8 @@
 -- Keys that agree and equal psks: one conversation and one history, or two hashed texts clash.
 use Rattle.std.proofs.Common.{◌≡◌, ℕ, List, ◌∷◌, length, ap, sym, subst, ◌∙◌, inl, inr, []}
 use Rattle.std.specs.Prelude.{true, Option, Some}
-use Rattle.noise_duel.proofs.Common.{is_some, unwrap_or, Role, Initiator, Responder, Token, E, S, other, Plan, pre_of, name_bytes, History, Ephemeral, Static, Remote, Own, public_keys, has_before, has_token, token_of, LawsBelow, Start, begun_as, pre_keys, IsSetUp, KeysReport, Knows, heads, tails}
-use Rattle.noise_duel.proofs.HashedMessages.{after_all, AreMessages, AllAlike, passes-messages}
+use Rattle.noise_duel.proofs.Common.{after_all, is_some, unwrap_or, Role, Initiator, Responder, Token, E, S, other, Plan, pre_of, name_bytes, History, Ephemeral, Static, Remote, Own, public_keys, has_before, has_token, token_of, LawsBelow, Start, begun_as, pre_keys, IsSetUp, KeysReport, Knows, heads, tails}
+use Rattle.noise_duel.proofs.HashedMessages.{AreMessages, AllAlike, passes-messages}
 use Rattle.noise_duel.proofs.HashReports.{SameBytes, bytes-or, starts-back}
 use Rattle.noise_duel.proofs.Forward.{UsePsks, passes-psks, starts-same}
 use Rattle.noise_duel.proofs.Agreeing.{all-agree, passes-uses}

@@ -1,6 +1,6 @@
 -- The laws of conversations, at the ends of a run.
 use Rattle.std.proofs.Common.{rules, ◌≡◌, ℕ, List, ◌∷◌, length, refl, ap, sym, subst, ◌∙◌, inl, inr, ◌⊎◌, []}
-use Rattle.noise_duel.proofs.Common.{Role, Initiator, Responder, other, Plan, History, hash, Party, after_own, after_message, ClashAt, HandshakeMessage, Exchanged, Start, begun_as, none, wrote, took, Sides, TransportMessage, Event, Note, Run, sides_at_start, ComesOfMessages, AreTransportMessages, VisiblyEqual, HaveOneHash, HaveClash, SharePsks, HaveOneHistory, PayloadsAgree, HashesReport, PsksMakeOne, PayloadsCome, VisiblyEqualGivesOne, EndState, LawsBelow}
+use Rattle.noise_duel.proofs.Common.{Role, Initiator, Responder, other, Plan, History, hash, Party, after_own, after_message, HandshakeMessage, Exchanged, Start, begun_as, none, wrote, took, Sides, TransportMessage, Event, Note, Run, sides_at_start, ComesOfMessages, AreTransportMessages, VisiblyEqual, HaveOneHash, HaveClash, SharePsks, HaveOneHistory, PayloadsAgree, HashesReport, PsksMakeOne, PayloadsCome, VisiblyEqualGivesOne, EndState, LawsBelow}
 use Rattle.noise_duel.proofs.Invariant.{ends-stand}
 use Rattle.noise_duel.proofs.HashReports.{hash-reports}
 use Rattle.noise_duel.proofs.Forward.{psks-report}
@@ -43,23 +43,15 @@ module _ (laws : LawsBelow) (p : Plan) (a b : Start) (i j : ℕ) (events : List 
   same-hash : hash left.last.history ≡ hash right.last.history
   same-hash = search rules
 
-  clash_there : (k : ℕ) → ClashAt left.last.history right.last.history k → HaveClash d
-  clash_there k c = (
-    k,
-    subst (λ (r : History). ClashAt r d.responder.state.party.history k) (sym left-history)
-        (subst (λ (s : History). ClashAt left.last.history s k) (sym right-history) c),
-  )
+  pub hashes : VisiblyEqual p a b d.initiator.passed d.responder.passed ⊎ HaveClash p a b d
+  hashes = hash-reports p a b d.initiator.passed d.responder.passed left.last right.last left.passes right.passes same-count same-hash
 
-  pub hashes : VisiblyEqual p a b d.initiator.passed d.responder.passed ⊎ HaveClash d
-  hashes = elim (hash-reports p a b d.initiator.passed d.responder.passed left.last right.last left.passes right.passes same-count same-hash)
-      [ inl h ↦ inl h | inr c ↦ inr (clash_there c.0 c.1) ]
-
-  ones : ((d.initiator.passed ≡ d.responder.passed) × (left.last.history ≡ right.last.history)) ⊎ ((k : ℕ) × ClashAt left.last.history right.last.history k)
-      → HaveOneHistory d ⊎ HaveClash d
+  ones : ((d.initiator.passed ≡ d.responder.passed) × (left.last.history ≡ right.last.history)) ⊎ HaveClash p a b d
+      → HaveOneHistory d ⊎ HaveClash p a b d
   ones (inl h) = inl (record { passed = h.0; history = left-history ∙ h.1 ∙ sym right-history })
-  ones (inr c) = inr (clash_there c.0 c.1)
+  ones (inr c) = inr c
 
-  pub makes-one : SharePsks p a b d → HaveOneHistory d ⊎ HaveClash d
+  pub makes-one : SharePsks p a b d → HaveOneHistory d ⊎ HaveClash p a b d
   makes-one (inl s) = ones
       (psks-report p a b d.initiator.passed d.responder.passed left.last right.last left.passes right.passes same-count same-hash s.psks s.dh_results)
   makes-one (inr s) = ones

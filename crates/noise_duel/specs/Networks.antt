@@ -4,7 +4,7 @@ use Rattle.noise_names.specs.declared.token.Role.{Role}
 use Rattle.noise_names.specs.declared.token.Role.TheVariants.{Initiator, Responder}
 use Rattle.noise_names.specs.Plan.{Plan}
 use Rattle.noise_session.specs.Ends.{session_hash}
-use Rattle.noise_duel.specs.HashedTexts.{ClashAt}
+use Rattle.noise_duel.specs.Histories.{PartiesClash}
 use Rattle.noise_duel.specs.Messages.{Start, dh_results_from, HaveSameKeysBefore, messages_of}
 use Rattle.noise_duel.specs.Sides.{Sides}
 use Rattle.noise_events.specs.Events.{Event}
@@ -20,9 +20,9 @@ pub record HaveOneHash (d : Sides) : Type 0 where
   pub initiator : session_hash d.initiator.state ≡ Some hash
   pub responder : session_hash d.responder.state ≡ Some hash
 
--- at some position the two histories clash
-abbrev pub HaveClash : Sides → Type 0
-HaveClash d = (i : ℕ) × ClashAt d.initiator.state.party.history d.responder.state.party.history i
+-- at some position two texts that the ends hashed clash
+abbrev pub HaveClash : Plan → Start → Start → Sides → Type 0
+HaveClash p a b d = PartiesClash p a b d.initiator.passed d.responder.passed
 
 -- the psks are the same, and so is the DH result that each end used at each DH token
 pub record UsedSamePsks (p : Plan) (a b : Start) (d : Sides) : Type 0 where
@@ -44,7 +44,7 @@ SharePsks p a b d = UsedSamePsks p a b d ⊎ HaveSamePsks p a b
 abbrev pub HashesReport : Type 0
 HashesReport = (p : Plan) (a b : Start) (i j : ℕ) (events : List Event) (notes : List (Role × Note)) (d : Sides)
     → Run (sides_at_start p a b i j) events notes d → HaveOneHash d
-    → VisiblyEqual p a b d.initiator.passed d.responder.passed ⊎ HaveClash d
+    → VisiblyEqual p a b d.initiator.passed d.responder.passed ⊎ HaveClash p a b d
 
 -- all of the conversation, what travelled encrypted too, and one history: one hash, one chaining key, the same
 -- transport keys
@@ -65,7 +65,7 @@ VisiblyEqualGivesOne = (p : Plan) (a b : Start) (i j : ℕ) (events : List Event
 abbrev pub PsksMakeOne : Type 0
 PsksMakeOne = (p : Plan) (a b : Start) (i j : ℕ) (events : List Event) (notes : List (Role × Note)) (d : Sides)
     → Run (sides_at_start p a b i j) events notes d → HaveOneHash d
-    → SharePsks p a b d → HaveOneHistory d ⊎ HaveClash d
+    → SharePsks p a b d → HaveOneHistory d ⊎ HaveClash p a b d
 
 -- in each direction the accepted payloads are the first of the written ones, in order, or a forged message was accepted
 pub record PayloadsAgree (interval : ℕ) (d : Sides) : Type 0 where
@@ -79,4 +79,4 @@ pub record PayloadsAgree (interval : ℕ) (d : Sides) : Type 0 where
 abbrev pub PayloadsCome : Type 0
 PayloadsCome = (p : Plan) (a b : Start) (interval : ℕ) (events : List Event) (notes : List (Role × Note)) (d : Sides)
     → Run (sides_at_start p a b interval interval) events notes d → HaveOneHash d
-    → SharePsks p a b d → PayloadsAgree interval d ⊎ HaveClash d
+    → SharePsks p a b d → PayloadsAgree interval d ⊎ HaveClash p a b d

@@ -35,7 +35,7 @@ pub record EndsAgree (p : Plan) (a b : Start) (i j : ℕ) (last : Sides) : Type 
   pub initiator_frames : FramesAreOwn last.initiator
   pub responder_frames : FramesAreOwn last.responder
   -- with equal hashes: the conversation is the same as far as it can be seen, or two hashed texts clash
-  pub seen : HaveOneHash last → VisiblyEqual p a b last.initiator.passed last.responder.passed ⊎ HaveClash last
+  pub seen : HaveOneHash last → VisiblyEqual p a b last.initiator.passed last.responder.passed ⊎ HaveClash p a b last
   -- Conversely: where it is the same as far as it can be seen, with the same psks and DH results, there is one history,
   -- and so one hash.
   pub back : a.prologue ≡ b.prologue → HaveSameKeysBefore p a b
@@ -43,10 +43,10 @@ pub record EndsAgree (p : Plan) (a b : Start) (i j : ℕ) (last : Sides) : Type 
       → UsedSamePsks p a b last → HaveOneHistory last
   -- With equal hashes and the same psks: all of the conversation is the same, what travelled encrypted too, or two
   -- hashed texts clash.
-  pub one : HaveOneHash last → SharePsks p a b last → HaveOneHistory last ⊎ HaveClash last
+  pub one : HaveOneHash last → SharePsks p a b last → HaveOneHistory last ⊎ HaveClash p a b last
   -- And with equal intervals: each end's accepted payloads are the first of those that the other wrote, in order, up to
   -- a forged message.
-  pub payloads : i ≡ j → HaveOneHash last → SharePsks p a b last → PayloadsAgree i last ⊎ HaveClash last
+  pub payloads : i ≡ j → HaveOneHash last → SharePsks p a b last → PayloadsAgree i last ⊎ HaveClash p a b last
 
 -- a party's static key, where its pre-message or one of the first so many messages has it
 abbrev pub static_shown : KeyMaterial → Plan → Role → ℕ → Option (List ℕ)

@@ -3,6 +3,7 @@
 ghost use Rattle.noise_duel.specs.Agreement.{HashReports, PsksReport, KeysReport, KnowEachOther, VisiblyEqualIsOne};
 ghost use Rattle.noise_duel.specs.Below.{LawsBelow};
 ghost use Rattle.noise_duel.specs.Clash.{FoundIsClash, ClashFound, ClashReported};
+ghost use Rattle.noise_duel.specs.Histories.{ExchangedHasHistory};
 ghost use Rattle.noise_duel.specs.Invariant.{EndsComeOfMessages};
 ghost use Rattle.noise_duel.specs.DatagramAgreement.{DatagramRunsAgree, RunsMakeOneBeginning};
 ghost use Rattle.noise_duel.specs.DatagramRuns.{DatagramRunOnce};
@@ -36,6 +37,12 @@ fn laws_below()
     starts_are_counterparts();
     due_is_written();
 }
+
+/// The history of a party follows from its pattern, its role, what it started from, and the messages that it wrote and
+/// accepted: it mixed the prologue, the pre-messages, and then those messages (Noise 5.3).
+pub fn history_follows()
+    ensures { ExchangedHasHistory }
+{}
 
 /// Two parties of one pattern with one hash had the same conversation as far as it can be seen, and all of it in common
 /// with the same psks and DH results; or two texts that they hashed collide (Noise 11.2).

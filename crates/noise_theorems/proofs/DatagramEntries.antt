@@ -3,13 +3,15 @@ use Rattle.std.proofs.Common.{rules, ◌≡◌, ◌≢◌, ◌≤◌, ◌<◌, �
 use Rattle.std.specs.Int.{w64, to_be_bytes}
 use Rattle.std.proofs.lemmas.Bool.Decides.{eqb_tells}
 use Rattle.std.proofs.lemmas.Nat.{from_be_bytes-to_be_bytes_8}
-use Rattle.noise_theorems.proofs.Common.{Bool, true, false, ◌==◌, false≢true, or_left, or_right, ne_eqb, eq-eqb, Role, Initiator, Responder, other, History, ForgedMessage, Sides, TransportMessage, ClashFound, FoundIsClash, HaveOneHistory, HaveClash, same_Some, get-front, get-last}
+use Rattle.noise_theorems.proofs.Common.{Bool, true, false, ◌==◌, false≢true, or_left, or_right, ne_eqb, eq-eqb, Role, Initiator, Responder, other, Plan, Start, History, ForgedMessage, Sides, TransportMessage, ClashFound, FoundIsClash, HaveOneHistory, HaveClash, same_Some, get-front, get-last}
 use Rattle.noise_session.specs.Transport.{transport_message, last_nonce}
 use Rattle.noise_session.specs.Windows.{is_accepted}
 use Rattle.noise_session.specs.Datagrams.{DatagramState, Opens, accepting, datagram, nonce_named, unsealed}
 use Rattle.noise_session.specs.Datagrams.Opens.{opened}
 use Rattle.noise_events.specs.DatagramEvents.{DatagramEvent, Seal, Open, Raw}
 use Rattle.noise_session.specs.DatagramFaults.{fault-free}
+use Rattle.noise_duel.specs.Clash.{HistoriesClash}
+use Rattle.noise_duel.specs.Histories.{history_of}
 use Rattle.noise_duel.specs.DatagramAgreement.{AreAtNonces, AreCounted, ArriveOnce, DatagramRunsAgree}
 use Rattle.noise_duel.specs.DatagramNotes.{DatagramNote, Sealed, Payload, Rejected, Missing}
 use Rattle.noise_duel.specs.DatagramRuns.{DatagramHappens, DatagramRun, PartyOpens, PartySeals}
@@ -19,7 +21,6 @@ use Rattle.noise_duel.specs.DatagramRuns.PartyOpens.{opens, rejects}
 use Rattle.noise_duel.specs.DatagramRuns.PartySeals.{seals, seals_nothing}
 use Rattle.noise_duel.specs.DatagramSides.{DatagramSide, DatagramSides, NonceMessage, at_nonce, sealed_datagrams, datagram_sides, new_party, of_nonce, opening, party, with_party, sealing, datagram_bytes}
 use Rattle.noise_theorems.specs.Datagrams.{nonce_of_event, SealedAt, OpenedAt, IsReportedOfDatagrams, DatagramsAreReported, ForgedDatagram, EntriesArrive, DatagramEntriesAgree, DatagramKeysCome}
-use Rattle.noise_theorems.specs.Clash.{HistoriesClash}
 
 -- ---- lists
 
@@ -510,8 +511,11 @@ module _ (agree : DatagramRunsAgree) where
 -- ---- with equal hashes
 
 -- what follows of one history, or the position of a clash
-pub or-clash : {A : Type 0} → FoundIsClash → ClashFound → (d : Sides) → (HaveOneHistory d → A) → HaveOneHistory d ⊎ HaveClash d → A ⊎ HistoriesClash d
-or-clash matches first d one (inl same) = inl (one same)
-or-clash matches first d one (inr (i, c)) =
-    let at = first d.initiator.state.party.history d.responder.state.party.history i c in
-    inr (at.0, at.1, matches d.initiator.state.party.history d.responder.state.party.history at.0 at.1)
+pub or-clash : {A : Type 0} → FoundIsClash → ClashFound → (p : Plan) (a b : Start) (d : Sides) → (HaveOneHistory d → A)
+    → HaveOneHistory d ⊎ HaveClash p a b d → A ⊎ HistoriesClash p a b d
+or-clash matches first p a b d one (inl same) = inl (one same)
+or-clash matches first p a b d one (inr (i, c)) =
+    let r : History = history_of p Initiator a d.initiator.passed in
+    let s : History = history_of p Responder b d.responder.passed in
+    let at = first r s i c in
+    inr (at.0, at.1, matches r s at.0 at.1)

@@ -44,7 +44,7 @@ module _ {K : Type 0} (pairs : K → KeyPairs) where
     -- the psks are the same, and the keys' DH results are alike
     pub psks : SharePsks p s.initiator s.responder reports.last
     pub agreed : (hash : List ℕ) → hash_in duel.initiator.phase ≡ Some hash → hash_in duel.responder.phase ≡ Some hash
-        → HaveAgreed p interval events duel report reports.last ⊎ HaveClash reports.last
+        → HaveAgreed p interval events duel report reports.last ⊎ HaveClash p s.initiator s.responder reports.last
 
   -- What `run_events` returns: the setup has no fault and all this holds; else the fault, or lack of memory.
   abbrev pub RunsOverNetwork : Plan → BothStarts → ℕ → List Event

@@ -5,20 +5,13 @@ use Rattle.noise_keys.specs.declared.keys.Own.{Own}
 use Rattle.noise_session.specs.Ends.{hash_in}
 use Rattle.noise_events.specs.Events.{Event}
 use Rattle.noise_duel.specs.declared.report.Report.{Report}
-use Rattle.noise_duel.specs.Clash.{clash_position}
-use Rattle.noise_duel.specs.HashedTexts.{ClashAt}
+use Rattle.noise_duel.specs.Clash.{HistoriesClash}
 use Rattle.noise_duel.specs.Conversation.{sides_at_start}
 use Rattle.noise_duel.specs.DuelValue.{DuelValue, DuelMatches}
 use Rattle.noise_duel.specs.Messages.{Start}
 use Rattle.noise_duel.specs.Reports.{Reports}
 use Rattle.noise_duel.specs.Sides.{Sides}
 use Rattle.noise_keys.specs.Keys.{KeyPairs}
-
--- The texts that the two ends hashed clash: `clash_position` names the first position at which they differ with one
--- digest.
-abbrev pub HistoriesClash : Sides → Type 0
-HistoriesClash d = (k : ℕ) × (clash_position d.initiator.state.party.history d.responder.state.party.history ≡ Some k)
-    × ClashAt d.initiator.state.party.history d.responder.state.party.history k
 
 module _ {A B : Type 0} (pairs_a : A → KeyPairs)
     (pairs_b : B → KeyPairs) where
@@ -28,7 +21,7 @@ module _ {A B : Type 0} (pairs_a : A → KeyPairs)
       (report : Report) : Type 0 where
     pub reports : Reports pairs_a pairs_b (sides_at_start p a b i j) events duel report
     pub clash : (hash : List ℕ) → hash_in duel.initiator.phase ≡ Some hash → hash_in duel.responder.phase ≡ Some hash
-        → HistoriesClash reports.last
+        → HistoriesClash p a b reports.last
 
   -- Of two new ends of one pattern, with different prologues, it is so at the end of the run of these events.
   abbrev pub ClashesInRun : {E : Type 0} → List Event → DuelValue A B → Result (DuelValue A B × Report) E → Type 0

@@ -26,7 +26,7 @@ use Rattle.noise_duel.specs.Networks.{HaveOneHistory, SharePsks}
 use Rattle.noise_duel.specs.Notes.{Note}
 use Rattle.noise_duel.specs.Runs.{Run}
 use Rattle.noise_duel.specs.Sides.{Sides, TransportMessage}
-use Rattle.noise_theorems.specs.Clash.{HistoriesClash}
+use Rattle.noise_duel.specs.Clash.{HistoriesClash}
 use Rattle.noise_keys.specs.Keys.{KeyPairs}
 
 -- the nonce of the datagram that comes in an event: the datagram's number, or the nonce that the bytes name (Noise
@@ -157,4 +157,4 @@ module _ {A B : Type 0} (pairs_a : A → KeyPairs)
       → SharePsks p a b d
       → hash_in duel.initiator.phase ≡ Some hash → hash_in duel.responder.phase ≡ Some hash
       → IfOk result (λ r. DatagramsOverNetwork (datagrams_of d.initiator.state.party window)
-      (datagrams_of d.responder.state.party window) events r.0 r.1 ⊎ HistoriesClash d)
+      (datagrams_of d.responder.state.party window) events r.0 r.1 ⊎ HistoriesClash p a b d)

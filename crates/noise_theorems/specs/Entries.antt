@@ -74,7 +74,7 @@ pub record EntriesAgree (p : Plan) (interval : ℕ) (events : List Event) (notes
 abbrev pub EntriesCome : Type 0
 EntriesCome = (p : Plan) (a b : Start) (interval : ℕ) (events : List Event) (notes : List (Role × Note)) (d : Sides)
     → Run (sides_at_start p a b interval interval) events notes d → HaveOneHash d → SharePsks p a b d
-    → EntriesAgree p interval events notes d.initiator.frames d.responder.frames d ⊎ HaveClash d
+    → EntriesAgree p interval events notes d.initiator.frames d.responder.frames d ⊎ HaveClash p a b d
 
 -- Where a role received as many payloads as the other wrote, it opens the next message by the key that the other writes
 -- it by, if both are open.
@@ -93,4 +93,4 @@ module _ {A B : Type 0} (pairs_a : A → KeyPairs)
       (duel : DuelValue A B)
       → Run (sides_at_start p a b interval interval) events notes d
       → DuelMatches pairs_a pairs_b duel d
-      → HaveOneHash d → SharePsks p a b d → KeysMeet events notes duel ⊎ HaveClash d
+      → HaveOneHash d → SharePsks p a b d → KeysMeet events notes duel ⊎ HaveClash p a b d

@@ -4,11 +4,13 @@
 ghost use Rattle.std.specs.Prelude.{◌≡◌, ◌⊎◌, IfSome, Some, true};
 ghost use Rattle.noise_events.specs.DatagramEvents.{datagram_events_of};
 ghost use Rattle.noise_events.specs.declared.window.Window.TheVariants.{W64};
+ghost use Rattle.noise_names.specs.Plan.{Plan};
 ghost use Rattle.noise_session.specs.Datagrams.{datagrams_of};
 ghost use Rattle.noise_session.specs.EndDatagrams.{is_datagram_ready};
 ghost use Rattle.noise_session.specs.Ends.{hash_in};
+ghost use Rattle.noise_duel.specs.Clash.{HistoriesClash};
+ghost use Rattle.noise_duel.specs.Messages.{Start};
 ghost use Rattle.noise_duel.specs.Sides.{Sides};
-ghost use Rattle.noise_theorems.specs.Clash.{HistoriesClash};
 ghost use Rattle.noise_theorems.specs.Datagrams.{DatagramsOverNetwork};
 
 use super::conversations::{both_keys, pattern};
@@ -26,9 +28,9 @@ fn over_datagrams(
     events: &[Event],
     datagrams: &[DatagramEvent],
 ) -> Option<(DatagramDuel, DatagramReport)>
-    ensures { IfSome result (λ r. (d : Sides)
+    ensures { IfSome result (λ r. (p : Plan) × (a : Start) × (b : Start) × (d : Sides)
         × (DatagramsOverNetwork (datagrams_of d.initiator.state.party W64) (datagrams_of d.responder.state.party W64)
-        (datagram_events_of datagrams.now) r.0 r.1 ⊎ HistoriesClash d)) }
+        (datagram_events_of datagrams.now) r.0 r.1 ⊎ HistoriesClash p a b d)) }
 {
     let initiator = both_keys(0x11, 0x22);
     let responder = both_keys(0x33, 0x44);

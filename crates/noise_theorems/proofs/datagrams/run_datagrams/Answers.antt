@@ -37,6 +37,6 @@ returns g c =
       reports = λ v w matches. c.in_ok-made.ensures.reports (datagrams_of v.party c.args.window) (datagrams_of w.party c.args.window) (c.go_over-parties.ensures.matches v w matches);
       agrees = ended_party;
       hashes = λ p a b i j opening notes d hash run matches psks e f.
-          or-clash c.clash_reported.ensures.matches c.clash_reported.ensures.found d (ended_party p a b i j opening notes d run matches)
+          or-clash c.clash_reported.ensures.matches c.clash_reported.ensures.found p a b d (ended_party p a b i j opening notes d run matches)
           (c.ends_agree.ensures.one p a b i j opening notes d run (c.hash_is_reported.ensures c.args.duel d hash matches e f) psks);
     }

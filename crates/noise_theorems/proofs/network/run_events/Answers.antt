@@ -28,7 +28,7 @@ returns g c =
           psks = inr psks;
           agreed = λ hash e f.
               let one = hashes hash reported.0.matches e f in
-              all-agreed g.K.Keys.pairs p i (events_of c.args.events.now) c.in_ok-made.made.0 c.in_ok-made.made.1 last
+              all-agreed g.K.Keys.pairs p a b i (events_of c.args.events.now) c.in_ok-made.made.0 c.in_ok-made.made.1 last
               (reported.1.one one (inr psks)) (reported.1.payloads refl one (inr psks))
               (rw (reported.0.frames.initiator, reported.0.frames.responder)
               (c.entries_agree.ensures p a b i (events_of c.args.events.now) notes last reported.0.run one (inr psks)))
