@@ -1,9 +1,7 @@
 -- All that two ends agree on, of its parts.
 use Rattle.std.proofs.Common.{◌⊎◌, inl, inr, ℕ, List}
-use Rattle.std.specs.Prelude.{Option}
 use Rattle.noise_names.specs.Lists.{bytes_of}
 use Rattle.noise_names.specs.Plan.{Plan}
-use Rattle.noise_keys.specs.declared.keys.Own.{Own}
 use Rattle.noise_events.specs.Events.{Event}
 use Rattle.noise_duel.specs.declared.report.Report.{Report}
 use Rattle.noise_duel.specs.DuelValue.{DuelValue}

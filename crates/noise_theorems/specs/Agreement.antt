@@ -1,8 +1,7 @@
 -- What two ends of equal setup agree on over any network.
-use Rattle.std.specs.Prelude.{◌≡◌, ◌⊎◌, ℕ, List, Option, Some, None, Result, Ok, Err}
+use Rattle.std.specs.Prelude.{◌≡◌, ◌⊎◌, ℕ, List, Some, None, Result, Ok, Err}
 use Rattle.noise_names.specs.declared.token.Role.TheVariants.{Initiator, Responder}
 use Rattle.noise_names.specs.Plan.{Plan}
-use Rattle.noise_keys.specs.declared.keys.Own.{Own}
 use Rattle.noise_session.specs.Ends.{hash_in}
 use Rattle.noise_events.specs.Events.{Event}
 use Rattle.noise_duel.specs.declared.report.Report.{Report}

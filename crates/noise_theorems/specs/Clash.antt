@@ -1,7 +1,6 @@
 -- Where the texts clash of two ends with different prologues that report one hash.
-use Rattle.std.specs.Prelude.{◌≡◌, ◌≢◌, ℕ, List, Option, Some, Result, IfOk}
+use Rattle.std.specs.Prelude.{◌≡◌, ◌≢◌, ℕ, List, Some, Result, IfOk}
 use Rattle.noise_names.specs.Plan.{Plan}
-use Rattle.noise_keys.specs.declared.keys.Own.{Own}
 use Rattle.noise_session.specs.Ends.{hash_in}
 use Rattle.noise_events.specs.Events.{Event}
 use Rattle.noise_duel.specs.declared.report.Report.{Report}
@@ -10,7 +9,6 @@ use Rattle.noise_duel.specs.Conversation.{sides_at_start}
 use Rattle.noise_duel.specs.DuelValue.{DuelValue, DuelMatches}
 use Rattle.noise_duel.specs.Messages.{Start}
 use Rattle.noise_duel.specs.Reports.{Reports}
-use Rattle.noise_duel.specs.Sides.{Sides}
 use Rattle.noise_keys.specs.Keys.{KeyPairs}
 
 module _ {A B : Type 0} (pairs_a : A → KeyPairs)

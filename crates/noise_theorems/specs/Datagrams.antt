@@ -5,7 +5,6 @@ use Rattle.noise_names.specs.declared.token.Role.{Role}
 use Rattle.noise_names.specs.declared.token.Role.TheVariants.{Initiator, Responder}
 use Rattle.noise_names.specs.Tokens.{other}
 use Rattle.noise_names.specs.Plan.{Plan}
-use Rattle.noise_keys.specs.declared.keys.Own.{Own}
 use Rattle.noise_state.specs.History.{History}
 use Rattle.noise_session.specs.Transport.{transport_message}
 use Rattle.noise_session.specs.Datagrams.{DatagramState, datagram, datagrams_of, nonce_named}

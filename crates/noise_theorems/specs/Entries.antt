@@ -1,10 +1,9 @@
 -- What two ends with one hash agree on by a report: its payloads, and the keys of the next messages.
-use Rattle.std.specs.Prelude.{◌≡◌, ◌≢◌, ◌⊎◌, ℕ, zero, suc, ◌+◌, List, ◌++◌, length, take, Option, Some, slice_get, if◌then◌else◌}
+use Rattle.std.specs.Prelude.{◌≡◌, ◌≢◌, ◌⊎◌, ℕ, zero, suc, ◌+◌, List, ◌++◌, length, take, Some, slice_get, if◌then◌else◌}
 use Rattle.noise_names.specs.declared.token.Role.{Role}
 use Rattle.noise_names.specs.declared.token.Role.TheVariants.{Initiator, Responder}
 use Rattle.noise_names.specs.Tokens.{other, same_role, turn_from}
 use Rattle.noise_names.specs.Plan.{Plan}
-use Rattle.noise_keys.specs.declared.keys.Own.{Own}
 use Rattle.noise_state.specs.History.{History}
 use Rattle.noise_session.specs.Frames.{frame}
 use Rattle.noise_session.specs.Steps.StepValue.{Payload}
