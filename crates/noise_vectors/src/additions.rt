@@ -28,7 +28,7 @@ pub(crate) fn read_version(
     second: bool,
     allowed: AllowedEvents,
 ) -> Result<Version, VectorFault>
-    requires { allowed ≡ VersionOne → second ≡ false }
+    requires allowed { allowed ≡ VersionOne → second ≡ false }
     ensures text { IfOk result (λ version. lines.old.rest.now ≡ version_text version) }
     ensures which { IfOk result (λ version. is_second version ≡ second) }
     ensures right { IfOk result IsVersion }

@@ -14,8 +14,8 @@ pub fn said_lines(
     alloc: Global,
     events: Vec<Event>,
 ) -> Result<Vec<(Role, Vec<u8>, Cuts)>, AllocError>
-    requires { All (IsAllowed SayOnly) events.items }
-    ensures { IfOk result (λ lines. events.items ≡ map say_of lines.items) }
+    requires allowed { All (IsAllowed SayOnly) events.items }
+    ensures lines { IfOk result (λ lines. events.items ≡ map say_of lines.items) }
 {
     let mut lines = Vec::new(alloc);
     for event in events {
