@@ -36,8 +36,8 @@ impl<'a> Model for SuppliedKeys<'a> {
 
 impl<'a> Keys for SuppliedKeys<'a> {
     ghost pairs = { λ keys. record {
-        public = λ own. key_of own keys.e keys.s;
-        agree = λ own remote. dh_result_in keys.entries own remote;
+      public = λ own. key_of own keys.e keys.s;
+      agree = λ own remote. dh_result_in keys.entries own remote;
     } };
 
     fn public(&self, own: Own) -> Option<[u8; 32]> {
