@@ -1,8 +1,8 @@
 -- What one act more makes of the counts of a party.
-use Rattle.std.proofs.Common.{◌≡◌, ◌∙◌, ◌+◌, ◌<◌, ◌≤◌, ◌++◌, ◌∷◌, ℕ, Bool, false, List, [], ap, subst, sym, take, drop, length, arith, length-append, length-drop, length-take, refl, true}
+use Rattle.std.proofs.Common.{◌≡◌, ◌∙◌, ◌+◌, ◌≤◌, ◌++◌, ◌∷◌, ℕ, Bool, false, List, [], ap, sym, take, drop, length, arith, length-drop, length-take, true}
 use Rattle.std.specs.Prelude.{Option, Some, None, cond, if◌then◌else◌}
 use Rattle.std.specs.List.{filter, filter_map}
-use Rattle.std.proofs.lemmas.List.{append-nil, drop-append-le, drop_all, take-append-le, take_all}
+use Rattle.std.proofs.lemmas.List.{append-nil, drop-append-le, take-append-le}
 use Rattle.std.proofs.lemmas.List.Elements.{filter-append, filter_map-append}
 use Rattle.std.proofs.lemmas.List.Sums.{count_by-le-length, length-filter, sum_by-append}
 use Rattle.noise_names.specs.Tokens.{same_role}

@@ -1,4 +1,4 @@
-use Rattle.std.proofs.Common.{◌≡◌, ◌+◌, ◌<◌, ◌^◌, ◌++◌, ℕ, List, length, take}
+use Rattle.std.proofs.Common.{◌+◌, ◌<◌, ◌^◌, ◌++◌, ℕ, List, length, take}
 use Rattle.noise_names.specs.declared.token.Role.{Role}
 use Rattle.noise_duel.specs.DatagramReports.{datagram_notes_of}
 use Rattle.noise_explain.specs.RunCounts.{CountsRun}

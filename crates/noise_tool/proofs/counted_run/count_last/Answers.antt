@@ -1,10 +1,9 @@
-use Rattle.std.proofs.Common.{rules, ◌≡◌, true, Some, None, Option, codes, ◌∷◌, [], List, subst, sym}
+use Rattle.std.proofs.Common.{rules, ◌≡◌, true, Some, None, Option, codes, ◌∷◌, [], subst, sym}
 use Rattle.noise_tool.proofs.Common.{AreLast, FileDatagrams, datagrams_of_version, state_lines}
 use Rattle.noise_session.specs.EndDatagrams.{is_datagram_ready}
 use Rattle.noise_tool.specs.Running.{datagram_run_lines, ready, unready, without}
 use Rattle.noise_tool.specs.Counting as counting
 use Rattle.noise_tool.specs.Counting.{AreDatagramNotes}
-use Rattle.noise_explain.specs.RunCounts.{CountsRun}
 use Rattle.std.proofs.lemmas.List.{append-nil}
 use Rattle.noise_tool.proofs.RunningLemmas.{both-ready, not-ready, on_ok}
 use Rattle.noise_tool.proofs.counted_run.count_last.Goals as goal

@@ -1,6 +1,4 @@
-use Rattle.std.proofs.Common.{◌≡◌, ◌≤◌, ℕ, refl, rules, arith, ap, subst, List}
-use Rattle.noise_explain.specs.RunCounts.{CountsParty}
-use Rattle.noise_explain.specs.declared.run_counts.Act.{Act}
+use Rattle.std.proofs.Common.{◌≤◌, refl, rules, arith}
 use Rattle.noise_explain.specs.declared.run_counts.Act.TheVariants.{Wrote, Accepted}
 use Rattle.noise_explain.proofs.CountLemmas.{few-later, later-act}
 use Rattle.noise_explain.proofs.run_counts.PartyCounts.after.Goals as goal

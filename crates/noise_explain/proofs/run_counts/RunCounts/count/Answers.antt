@@ -1,7 +1,5 @@
-use Rattle.std.proofs.Common.{◌≡◌, ◌∷◌, ◌++◌, [], List, arith, refl, rules, subst, sym}
+use Rattle.std.proofs.Common.{arith, refl}
 use Rattle.noise_names.specs.declared.token.Role.TheVariants.{Initiator, Responder}
-use Rattle.noise_explain.specs.RunCounts.{CountsParty}
-use Rattle.noise_explain.specs.declared.run_counts.Act.{Act}
 use Rattle.noise_explain.proofs.CountLemmas.{acts-more, acts-same, few-acts}
 use Rattle.noise_explain.proofs.run_counts.RunCounts.count.Goals as goal
 
