@@ -26,8 +26,8 @@ pub(crate) fn role_of(responder: u8) -> Role
 
 // The handshake's parts, of this pattern.
 fn parts_of<'a>(handshake: &'a NoiseHandshake, pattern: ValidPattern) -> Parts<SuppliedKeys<'a>>
-    requires { handshake.now.answer_count ≤ 8 }
-    ensures { held_of result (drop (9 - handshake.now.psk_count) handshake.now.psks)
+    requires answers { handshake.now.answer_count ≤ 8 }
+    ensures value { held_of result (drop (9 - handshake.now.psk_count) handshake.now.psks)
         ≡ handshake_from_c pattern handshake.now }
 {
     Parts {

@@ -55,7 +55,7 @@ fn piece(
     requires last { message ≤ length pattern.now.messages }
     requires place { place ≤ length (tokens_of pattern.now message) }
     requires short { len ≤ 65535 }
-    ensures { result ≡ record {
+    ensures value { result ≡ record {
       token = token;
       encrypted = flag (encrypts && has_key pattern.now (places_to pattern.now message place));
       from = bytes_before pattern.now message place;
@@ -102,7 +102,7 @@ fn token_piece(
     requires first { 1 ≤ message }
     requires last { message ≤ length pattern.now.messages }
     requires place { place ≤ length (tokens_of pattern.now message) }
-    ensures { result ≡ piece_of pattern.now message payload_len place (does token) }
+    ensures value { result ≡ piece_of pattern.now message payload_len place (does token) }
 {
     piece(
         pattern,
@@ -119,7 +119,7 @@ fn piece_at(pattern: &ValidPattern, message: u8, payload_len: u32, place: u8) ->
     requires first { 1 ≤ message }
     requires last { message ≤ length pattern.now.messages }
     requires short { payload_len ≤ 65535 }
-    ensures { result ≡ piece_at pattern.now message payload_len place }
+    ensures value { result ≡ piece_at pattern.now message payload_len place }
 {
     let tokens = tokens_of(pattern, message);
     match tokens.get(usize::from(place)) {
@@ -144,7 +144,7 @@ fn layout_of(pattern: &ValidPattern, message: u8, payload_len: u32) -> NoiseMess
     requires first { 1 ≤ message }
     requires last { message ≤ length pattern.now.messages }
     requires short { overhead_of pattern.now message + payload_len ≤ 65535 }
-    ensures { result ≡ layout_of pattern.now message payload_len }
+    ensures value { result ≡ layout_of pattern.now message payload_len }
 {
     NoiseMessageLayout {
         count: tokens_of(pattern, message).len() as u8 + 1,

@@ -8,6 +8,7 @@ pub mod MixedKeys
 pub mod Parties
 pub mod Positions
 pub mod RulePlaces
+pub mod RunCounts
 pub mod Shown
 pub mod Slips
 pub mod StateParts

@@ -1,5 +1,8 @@
 //! What the parties of a vector file did in its run.
 
+ghost use Rattle.std.specs.Prelude.{◌≡◌, ◌+◌, ◌-◌, ◌<◌, ◌^◌, ◌++◌, ◌∷◌, [], List, ℕ, length};
+ghost use Rattle.noise_explain.specs.RunCounts.{CountsParty, CountsRun};
+
 use noise_names::Role;
 use std::alloc::{AllocError, Global};
 
@@ -57,7 +60,9 @@ pub struct RunCounts {
 
 impl RunCounts {
     /// Before a run whose handshake has so many messages.
-    pub fn new(alloc: Global, messages: usize) -> RunCounts {
+    pub fn new(alloc: Global, messages: usize) -> RunCounts
+        ensures counted { CountsRun messages [] result }
+    {
         RunCounts {
             messages,
             initiator: NONE,
@@ -68,7 +73,10 @@ impl RunCounts {
     }
 
     /// Counts what the party of this role did.
-    pub fn count(&mut self, role: Role, act: Act) {
+    pub fn count(&mut self, role: Role, act: Act)
+        ensures counted { (messages : ℕ) (acts : List (Role × Act)) → length acts < 2 ^ 64 - 1
+            → CountsRun messages acts self.old → CountsRun messages (acts ++ (role, act) ∷ []) self.new }
+    {
         match role {
             Role::Initiator => self.initiator = self.initiator.after(act, self.messages),
             Role::Responder => self.responder = self.responder.after(act, self.messages),
@@ -76,7 +84,10 @@ impl RunCounts {
     }
 
     /// Notes that the party of this role refused a message of the handshake at this token.
-    pub fn refuse(&mut self, role: Role, token: u8, cause: &'static str) -> Result<(), AllocError> {
+    pub fn refuse(&mut self, role: Role, token: u8, cause: &'static str) -> Result<(), AllocError>
+        ensures counted { (messages : ℕ) (acts : List (Role × Act)) → CountsRun messages acts self.old
+            → CountsRun messages acts self.new }
+    {
         let passed = match role {
             Role::Initiator => self.initiator.passed,
             Role::Responder => self.responder.passed,
@@ -92,13 +103,19 @@ impl RunCounts {
     }
 
     /// Notes that both parties went over to datagrams.
-    pub fn go_over(&mut self) {
+    pub fn go_over(&mut self)
+        ensures counted { (messages : ℕ) (acts : List (Role × Act)) → CountsRun messages acts self.old
+            → CountsRun messages acts self.new }
+    {
         self.has_datagrams = true;
         self.end(true, true);
     }
 
     /// Notes for which party the session is open after the run.
-    pub fn end(&mut self, initiator: bool, responder: bool) {
+    pub fn end(&mut self, initiator: bool, responder: bool)
+        ensures counted { (messages : ℕ) (acts : List (Role × Act)) → CountsRun messages acts self.old
+            → CountsRun messages acts self.new }
+    {
         self.initiator.is_open = initiator;
         self.responder.is_open = responder;
     }
@@ -119,26 +136,51 @@ const NONE: PartyCounts = PartyCounts {
 
 impl PartyCounts {
     // After one act more, of a handshake of so many messages.
-    fn after(self, act: Act, messages: usize) -> PartyCounts {
-        let mut counts = self;
-        let is_handshake = self.passed < messages;
-        match act {
-            Act::Wrote if is_handshake => counts.wrote = more(self.wrote),
-            Act::Wrote => counts.sent = more(self.sent),
-            Act::Accepted if is_handshake => counts.accepted = more(self.accepted),
-            Act::Accepted => counts.received = more(self.received),
-            Act::Dropped => counts.dropped = more(self.dropped),
-            Act::Sealed => counts.sealed = more(self.sealed),
-            Act::Opened => counts.opened = more(self.opened),
-            Act::Rejected => counts.rejected = more(self.rejected),
+    fn after(self, act: Act, messages: usize) -> PartyCounts
+        ensures counted { (acts : List Act) → length acts < 2 ^ 64 - 1
+            → CountsParty messages acts self → CountsParty messages (acts ++ act ∷ []) result }
+    {
+        match (act, self.passed < messages) {
+            (Act::Wrote, true) => PartyCounts {
+                passed: more(self.passed),
+                wrote: more(self.wrote),
+                ..self
+            },
+            (Act::Wrote, false) => PartyCounts {
+                sent: more(self.sent),
+                ..self
+            },
+            (Act::Accepted, true) => PartyCounts {
+                passed: more(self.passed),
+                accepted: more(self.accepted),
+                ..self
+            },
+            (Act::Accepted, false) => PartyCounts {
+                received: more(self.received),
+                ..self
+            },
+            (Act::Dropped, _) => PartyCounts {
+                dropped: more(self.dropped),
+                ..self
+            },
+            (Act::Sealed, _) => PartyCounts {
+                sealed: more(self.sealed),
+                ..self
+            },
+            (Act::Opened, _) => PartyCounts {
+                opened: more(self.opened),
+                ..self
+            },
+            (Act::Rejected, _) => PartyCounts {
+                rejected: more(self.rejected),
+                ..self
+            },
         }
-        if is_handshake && (act == Act::Wrote || act == Act::Accepted) {
-            counts.passed = more(self.passed);
-        }
-        counts
     }
 }
 
-fn more(count: usize) -> usize {
+fn more(count: usize) -> usize
+    ensures { count < 2 ^ 64 - 1 → result ≡ count + 1 }
+{
     count.saturating_add(1)
 }

@@ -1,5 +1,6 @@
 pub mod Common
 pub mod ConversionLemmas
+pub mod CountingLemmas
 pub mod ComparingLemmas
 pub mod EndLemmas
 pub mod OneRunLemmas

@@ -1,5 +1,6 @@
 pub mod Comparing
 pub mod Conversion
+pub mod Counting
 pub mod Ends
 pub mod Explaining
 pub mod Filling

@@ -19,7 +19,7 @@ pub returns-clause-whole : goal.returns-clause-whole
 returns-clause-whole c =
     let k = c.args.handshake.now in
     let nine : length k.psks ≡ 9 = search rules in
-    let partial = ap (held_of c.parts_of.result) (last-of k.psks (9 - k.psk_count) nine) ∙ c.parts_of.ensures in (
+    let partial = ap (held_of c.parts_of.result) (last-of k.psks (9 - k.psk_count) nine) ∙ c.parts_of.ensures.value in (
       λ some. subst (λ (z : HandshakeValue Table). IsLateWhole pairs_in z) partial (c.from_parts.ensures.whole.0 some),
       λ w. c.from_parts.ensures.whole.1 (subst (λ (z : HandshakeValue Table). IsLateWhole pairs_in z) (sym partial) w),
     )
@@ -29,7 +29,7 @@ returns-clause-value c =
     let k = c.args.handshake.now in
     let nine : length k.psks ≡ 9 = search rules in
     same-as c.from_parts.result _ (handshake_from_c c.args.pattern k)
-    (ap (held_of c.parts_of.result) (last-of k.psks (9 - k.psk_count) nine) ∙ c.parts_of.ensures) c.from_parts.ensures.value
+    (ap (held_of c.parts_of.result) (last-of k.psks (9 - k.psk_count) nine) ∙ c.parts_of.ensures.value) c.from_parts.ensures.value
 
 pub returns-clause-count : goal.returns-clause-count
 returns-clause-count c =

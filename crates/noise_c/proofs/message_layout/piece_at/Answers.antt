@@ -11,7 +11,7 @@ returns-in-Some c =
     let there : slice_get (tokens_of c.args.pattern.now c.args.message) c.args.place ≡ Some c.in-Some.token.now =
     token-there (tokens_of c.args.pattern.now c.args.message) c.tokens_of-tokens.result.now c.args.place c.from.result c.in-Some.token.now
     c.tokens_of-tokens.ensures.value place c.in-Some.ensures.lookup.3.0 c.in-Some.ensures.lookup.1 in
-    c.token_piece.ensures ∙ at-token c.args.pattern.now c.args.message c.args.payload_len c.args.place c.in-Some.token.now there
+    record { value = c.token_piece.ensures.value ∙ at-token c.args.pattern.now c.args.message c.args.payload_len c.args.place c.in-Some.token.now there }
 
 pub returns-then-from-tokens : goal.returns-then-from-tokens
 returns-then-from-tokens c =
@@ -20,7 +20,7 @@ returns-then-from-tokens c =
     none-past (tokens_of c.args.pattern.now c.args.message) c.tokens_of-tokens.result.now c.args.place c.from.result c.tokens_of-tokens.ensures.value place
     c.in-None.ensures.lookup.3 in
     let last : c.args.place ≡ length (tokens_of c.args.pattern.now c.args.message) = search rules in
-    c.piece.ensures ∙ at-payload c.args.pattern.now c.args.message c.args.payload_len c.args.place absent last
+    record { value = c.piece.ensures.value ∙ at-payload c.args.pattern.now c.args.message c.args.payload_len c.args.place absent last }
 
 pub returns-else-from-tokens : goal.returns-else-from-tokens
 returns-else-from-tokens c =
@@ -29,4 +29,4 @@ returns-else-from-tokens c =
     none-past (tokens_of c.args.pattern.now c.args.message) c.tokens_of-tokens.result.now c.args.place c.from.result c.tokens_of-tokens.ensures.value place
     c.in-None.ensures.lookup.3 in
     let after : c.args.place ≡ length (tokens_of c.args.pattern.now c.args.message) → ⊥ = search rules in
-    at-none c.args.pattern.now c.args.message c.args.payload_len c.args.place absent after
+    record { value = at-none c.args.pattern.now c.args.message c.args.payload_len c.args.place absent after }
