@@ -62,8 +62,8 @@ fn put_last(psks: &mut [[u8; 32]; 9], psk: &[u8; 32])
 
 // Stores this psk after the others.
 fn store_psk(handshake: &mut NoiseHandshake, psk: &[u8; 32])
-    requires { handshake.old.psk_count < 9 }
-    ensures { StoresPsk handshake.old handshake.new psk.now }
+    requires room { handshake.old.psk_count < 9 }
+    ensures stores { StoresPsk handshake.old handshake.new psk.now }
 {
     put_last(&mut handshake.psks, psk);
     handshake.psk_count += 1;
@@ -96,8 +96,8 @@ fn put_zeros_first(psks: &mut [[u8; 32]; 9])
 
 // Takes back the last psk, if there is one.
 fn take_psk_back(handshake: &mut NoiseHandshake)
-    requires { handshake.old.psk_count ≤ 9 }
-    ensures { TakesPskBack handshake.old handshake.new }
+    requires psks { handshake.old.psk_count ≤ 9 }
+    ensures takes { TakesPskBack handshake.old handshake.new }
 {
     if handshake.psk_count > 0 {
         put_zeros_first(&mut handshake.psks);

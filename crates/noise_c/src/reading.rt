@@ -76,7 +76,7 @@ pub fn read_stream_to(
     came: &mut [u8],
     out: &mut Vec<u8>,
 ) -> Result<usize, AllocError>
-    requires { is_stream_receiver stream.old ≡ true }
+    requires known { is_stream_receiver stream.old ≡ true }
     ensures known { is_stream_receiver stream.new ≡ true }
     ensures left { IfOk result (λ left. left ≤ length came.old) }
     ensures rest { IfOk result
@@ -109,7 +109,7 @@ pub fn read_stream_to_end(
     came: &mut [u8],
     out: &mut Vec<u8>,
 ) -> Result<bool, AllocError>
-    requires { is_stream_receiver stream.old ≡ true }
+    requires known { is_stream_receiver stream.old ≡ true }
     ensures unchanged { OnErr result
         ((stream.new ≡ stream.old) × (came.new ≡ came.old) × (out.new.items ≡ out.old.items)) }
     ensures reads { (v : TransportState) (s : StreamReceiverState)
@@ -130,8 +130,8 @@ pub fn read_stream_to_end(
 
 // Whether a reader has met the end, and nothing is left after it.
 fn is_whole(stream: &NoiseStreamReceiver, left: usize) -> bool
-    requires { is_stream_receiver stream.now ≡ true }
-    ensures { (result ≡ true) ↔ (((stream_receiver_from_c stream.now).state ≡ states.Ended) × (left ≡ 0)) }
+    requires known { is_stream_receiver stream.now ≡ true }
+    ensures whole { (result ≡ true) ↔ (((stream_receiver_from_c stream.now).state ≡ states.Ended) × (left ≡ 0)) }
 {
     noise_stream_is_cut(stream, left) == OK
 }

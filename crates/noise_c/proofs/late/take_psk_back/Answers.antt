@@ -4,9 +4,9 @@ use Rattle.noise_c.proofs.late.take_psk_back.Goals as goal
 
 pub returns-then-handshake-gt0 : goal.returns-then-handshake-gt0
 returns-then-handshake-gt0 c =
-    takes-last c.args.handshake.now c.put_zeros_first.new.psks (omega (arith, c.if-handshake-gt0.true)) c.requires c.put_zeros_first.ensures
+    record { takes = takes-last c.args.handshake.now c.put_zeros_first.new.psks (omega (arith, c.if-handshake-gt0.true)) c.requires.psks c.put_zeros_first.ensures }
 
 pub returns-else-handshake-gt0 : goal.returns-else-handshake-gt0
 returns-else-handshake-gt0 c =
     let nine : length c.args.handshake.now.psks ≡ 9 = search rules in
-    takes-none c.args.handshake.now nine (omega (arith, c.if-handshake-gt0.false))
+    record { takes = takes-none c.args.handshake.now nine (omega (arith, c.if-handshake-gt0.false)) }

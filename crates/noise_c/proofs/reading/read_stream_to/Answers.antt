@@ -7,7 +7,7 @@ use Rattle.noise_c.proofs.reading.read_stream_to.Goals as goal
 
 pub frames-init : goal.frames-init
 frames-init c = record {
-  known = c.requires;
+  known = c.requires.known;
   within = omega arith;
   long = refl;
   rest = refl;

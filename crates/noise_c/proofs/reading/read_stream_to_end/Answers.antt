@@ -5,7 +5,7 @@ use Rattle.noise_c.proofs.reading.read_stream_to_end.Goals as goal
 pub returns-clause-reads : goal.returns-clause-reads
 returns-clause-reads c v s matches =
     c.read_is_front.ensures.exactly v s c.args.came.now c.args.out.now.items c.read_stream_to.new.out.items c.in_ok-left.left
-    (stream_receiver_from_c c.read_stream_to.new.stream) _ c.in_ok-left.ensures.left (c.in_ok-left.ensures.reads v s matches) c.is_whole.ensures
+    (stream_receiver_from_c c.read_stream_to.new.stream) _ c.in_ok-left.ensures.left (c.in_ok-left.ensures.reads v s matches) c.is_whole.ensures.whole
 
 pub returns-clause-front : goal.returns-clause-front
 returns-clause-front c v w agrees matches =

@@ -9,7 +9,7 @@ returns-in_err-outcome-clause-fault c =
     rw (p.1, p.2) (inr (inl (inr (inr (c.args.file, c.requires.right, c.requires.text, c.in_err-outcome.ensures.fault)))))
 
 pub convert-requires : goal.convert-requires
-convert-requires c = (c.args.file, c.requires.first, c.requires.text)
+convert-requires c = record { text = (c.args.file, c.requires.first, c.requires.text) }
 
 pub returns-clause-converted : goal.returns-clause-converted
 returns-clause-converted c =

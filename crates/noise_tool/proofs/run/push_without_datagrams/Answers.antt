@@ -8,7 +8,7 @@ pub returns-clause-after : goal.returns-clause-after
 returns-clause-after c = λ d matches.
     after-word d c.push_state_lines.result (bytes_of c.args.lines.now.items) _ _
     (ap bytes_of c.in_ok-push.ensures.items ∙ bytes-push c.args.lines.now.items c.into_bytes.result
-    ∙ ap (λ (t : List ℕ). bytes_of c.args.lines.now.items ++ t ∷ []) (c.into_bytes.ensures.text ∙ c.in_ok-new.ensures))
+    ∙ ap (λ (t : List ℕ). bytes_of c.args.lines.now.items ++ t ∷ []) (c.into_bytes.ensures.text ∙ c.in_ok-new.ensures.text))
     (c.push_state_lines.ensures.lines d matches)
 
 pub returns-clause-printed : goal.returns-clause-printed

@@ -13,8 +13,8 @@ returns c =
     let k = start_call_word c.args.psks c.args.step.now.part in
     let v = c.args.step.now.state in
     let one = words-added _ _ a (r ∷ o ∷ []) n [] c.in_ok-begun_trace.ensures.text c.in_ok-number.ensures in
-    let two = said-added _ _ a (r ∷ o ∷ n ∷ []) _ w c.start_word.ensures.text one c.in_ok-word.ensures in
-    let three = said-added _ _ a (r ∷ o ∷ n ∷ w ∷ []) _ k c.start_call_word.ensures.text two c.in_ok-line.ensures in
+    let two = said-added _ _ a (r ∷ o ∷ n ∷ []) _ w c.start_word.ensures.text one c.in_ok-word.ensures.text in
+    let three = said-added _ _ a (r ∷ o ∷ n ∷ w ∷ []) _ k c.start_call_word.ensures.text two c.in_ok-line.ensures.text in
     let four = words-added _ _ a (r ∷ o ∷ n ∷ w ∷ k ∷ []) none_word (none_word ∷ []) three c.in_ok-add_nothing.ensures in
     IfOk-weaker c.add_state.result _ _ (λ line h.
     words-added _ _ a (r ∷ o ∷ n ∷ w ∷ k ∷ none_word ∷ none_word ∷ []) (hex_of v.hash) (hex_of v.chaining_key ∷ state_key_word v.key ∷ decimal v.nonce ∷ [])

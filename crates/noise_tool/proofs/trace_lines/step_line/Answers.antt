@@ -18,8 +18,8 @@ returns c =
     let v = step.state in
     let one = words-added _ _ a (r ∷ []) m [] c.in_ok-begun_line.ensures.text c.in_ok-number.ensures in
     let two = words-added _ _ a (r ∷ m ∷ []) n [] one c.in_ok-number-2.ensures in
-    let three = said-added _ _ a (r ∷ m ∷ n ∷ []) _ w c.part_word.ensures.text two c.in_ok-word.ensures in
-    let four = said-added _ _ a (r ∷ m ∷ n ∷ w ∷ []) _ k c.call_word.ensures.text three c.in_ok-word-2.ensures in
+    let three = said-added _ _ a (r ∷ m ∷ n ∷ []) _ w c.part_word.ensures.text two c.in_ok-word.ensures.text in
+    let four = said-added _ _ a (r ∷ m ∷ n ∷ w ∷ []) _ k c.call_word.ensures.text three c.in_ok-word-2.ensures.text in
     let five = words-added _ _ a (r ∷ m ∷ n ∷ w ∷ k ∷ []) f [] four c.in_ok-number-3.ensures in
     let six = said-added _ _ a (r ∷ m ∷ n ∷ w ∷ k ∷ f ∷ []) _ b (ap hex_of c.part_bytes.ensures) five c.in_ok-line.ensures in
     IfOk-weaker c.add_state.result _ _ (λ line h.
