@@ -1,10 +1,8 @@
 pub mod Common
-pub mod Due
-pub mod Fronts
+pub mod Followed
 pub mod Joined
-pub mod Keys
-pub mod Later
-pub mod NonceBounds
+pub mod Lengths
 pub mod PreMessages
 pub mod Rekeys
+pub mod StepLists
 pub mod Unopened

@@ -1,7 +1,6 @@
 -- The key schedule beside an end.
 use Rattle.std.specs.Prelude.{◌≡◌, ◌≢◌, ℕ, List, [], length, Option, Some, None, if◌then◌else◌}
 use Rattle.noise_names.specs.Tokens.{other}
-use Rattle.noise_keys.specs.declared.keys.Own.{Own}
 use Rattle.noise_handshake.specs.Matching.{after_message, after_own}
 use Rattle.noise_trace.specs.Following.{Follows, is_complete}
 use Rattle.noise_session.specs.Ends.{EndState}

@@ -1,4 +1,3 @@
-pub mod Before
 pub mod Directions
 pub mod EndFollowing
 pub mod Following

@@ -3,22 +3,19 @@
 //! message (11.3).
 #![tactic(auto)]
 
-mod before;
 mod direction;
 mod directions;
 mod end_trace;
 mod key_use;
 pub mod laws;
 mod opening;
-mod own;
 mod schedule;
 mod start;
 mod start_step;
 mod step;
-mod tokens;
+mod step_list;
 mod values;
 
-pub use before::BeforeMessage;
 pub use end_trace::EndTrace;
 pub use key_use::KeyUse;
 pub use opening::Opening;

@@ -1,40 +1,29 @@
 //! The key schedule of one party, message after message.
 
-ghost use Rattle.std.specs.Prelude.{◌≡◌, ◌<◌, ℕ, List, length};
+ghost use Rattle.std.specs.Prelude.{◌≡◌, ◌≤◌, [], ℕ, List, length, Some, IsSome};
+ghost use Rattle.noise_state.specs.Cipher.{key_in};
 ghost use Rattle.noise_state.specs.History.{initiator_key, responder_key};
-ghost use Rattle.noise_handshake.specs.Party.{Party, Accepts, Refuses};
+ghost use Rattle.noise_handshake.specs.Party.{Party, Accepts, Refuses, tokens_at};
 ghost use Rattle.noise_handshake.specs.Writing.{LacksDhResult, Writes};
-ghost use Rattle.noise_handshake.specs.Matching.{IsSupplied, Matches, after_message, after_own};
+ghost use Rattle.noise_handshake.specs.Matching.{Matches, after_message, after_own};
 ghost use Rattle.noise_handshake.specs.declared.faults.Cause.{Cause};
 ghost use Rattle.noise_trace.specs.Values.{values_of};
 
-use crate::before::{BeforeMessage, Whole, tokens_at};
-use crate::{StateValues, Step};
+use crate::step_list::StepList;
+use crate::values::values_in;
+use crate::{Part, StateValues, Step};
 use arrayvec::ArrayVec;
-use noise_handshake::{Handshake, Keys};
+use noise_handshake::{Handshake, Keys, Parts};
 use noise_names::{Role, ValidPattern};
-use std::marker::Model;
+use noise_state::{CipherState, SymmetricState};
 
 /// The key schedule of one party, which follows the messages of its handshake as they are written and accepted.
 ///
-/// It has the party's keys and psks, and the cipher key with its nonce: it shows what is mixed, and encrypts nothing.
+/// It has the party's keys and psks, and the cipher key with its nonce: it shows what is mixed, and sends nothing.
 #[derive(Drop)]
 pub struct Following<K: Keys> {
-    pattern: ValidPattern,
-    keys: K,
-    passed: u8,
-    before: BeforeMessage,
-}
-
-impl<K: Keys> Model for Following<K> {
-    ghost use Rattle.noise_trace.specs.Following.{Followed};
-    ghost use Rattle.noise_trace.specs.inner.BeforeMessage.{IsBefore};
-
-    ghost Value = { Followed K };
-
-    ghost view = { λ a. record { pattern = a.pattern; keys = a.keys; passed = a.passed; before = a.before } };
-
-    ghost invariant = { λ a. IsBefore a.pattern a.passed a.before };
+    // None of keys with which there is no such handshake.
+    handshake: Option<Handshake<K>>,
 }
 
 // The pattern once more, which takes no memory.
@@ -44,47 +33,71 @@ fn copy(pattern: &ValidPattern) -> ValidPattern
     pattern.clone().unwrap()
 }
 
+// The key of a cipher state that has one.
+fn key_of(cipher: CipherState) -> [u8; 32]
+    requires { IsSome (key_in cipher) }
+    ensures { key_in cipher ≡ Some result }
+{
+    let (key, _) = cipher.into_parts();
+    key.unwrap()
+}
+
+// An empty list, with room for the steps of each message of a handshake.
+fn list_for<K: Keys>(handshake: &Handshake<K>) -> StepList
+    ensures empty { result.steps.items ≡ [] }
+    ensures few { (i : ℕ) → length (tokens_at handshake.now.pattern.messages i) ≤ 10 }
+{
+    let _pattern = handshake.pattern();
+    StepList::new()
+}
+
 impl<K: Keys> Following<K> {
     ghost use Rattle.noise_trace.specs.Following.{Follows, is_complete};
-    ghost use Rattle.noise_trace.specs.inner.Carried.{IsNextMessage, after_carried};
     ghost use Rattle.noise_trace.specs.Steps.{next_steps, steps_before};
 
-    /// The key schedule of a handshake before its next message, that lacks no psk, with the same keys once more.
+    /// The key schedule of a handshake before its next message, with the same keys once more.
     ///
-    /// Of other keys its steps may end early.
+    /// Of other keys, and of a handshake that lacks psks, it shows something else or nothing.
     pub fn new(handshake: &Handshake<K>, keys: K) -> Following<K>
-        requires supplied { IsSupplied handshake.now }
-        ensures { (v : Party) → Matches K.pairs handshake.now v → (K.pairs keys).public ≡ v.own
+        ensures matches { (v : Party) → Matches K.pairs handshake.now v → (K.pairs keys).public ≡ v.own
             → (K.pairs keys).agree ≡ v.agree → Follows K.pairs result v }
     {
-        Following {
+        let mut progress = handshake.progress();
+        progress.ended = false;
+        let parts = Parts {
             pattern: copy(handshake.pattern()),
+            role: handshake.role(),
             keys,
-            passed: handshake.done(),
-            before: BeforeMessage::of_handshake(handshake),
+            progress,
+        };
+        Following {
+            handshake: Handshake::from_parts(parts, handshake.psks()),
         }
     }
 
     // Follows the next message. One whose tokens don't fit leaves everything as it was, and so does one after the last.
     fn advance(&mut self, message: &[u8]) -> ArrayVec<Step, 11>
-        ensures { (v : Party) (xs : List (List ℕ)) (payload : List ℕ) → Follows K.pairs self.old v
-            → IsNextMessage v xs payload message.now → (result.items ≡ next_steps v xs payload)
-            × Follows K.pairs self.new (after_carried v xs payload) }
+        ensures accepted { (v : Party) (xs : List (List ℕ)) (payload : List ℕ) → Follows K.pairs self.old v
+            → Accepts v message.now xs payload → (result.items ≡ next_steps v xs payload)
+            × Follows K.pairs self.new (after_message v xs payload) }
+        ensures written { (v : Party) (xs : List (List ℕ)) (payload : List ℕ) → Follows K.pairs self.old v
+            → Writes v payload xs message.now → (result.items ≡ next_steps v xs payload)
+            × Follows K.pairs self.new (after_own v xs payload) }
     {
-        let messages = self.pattern.pattern().messages();
-        if self.passed as usize >= messages.len() {
+        let Some(handshake) = &mut self.handshake else {
             return ArrayVec::new();
-        }
-        let Whole { steps, left } = self.before.whole(&self.keys, message);
-        let Some((remote, state)) = left else {
-            return steps;
         };
-        let passed = self.passed + 1;
-        let tokens = tokens_at(messages, passed as usize);
-        let next = self.before.next(tokens, remote, state);
-        self.passed = passed;
-        self.before = next;
-        steps
+        let mut list = list_for(handshake);
+        let Some(from) = handshake.follow(message, &mut list) else {
+            return list.steps;
+        };
+        list.add(Step {
+            part: Part::Payload,
+            from,
+            to: message.len(),
+            state: values_in(handshake.progress().state),
+        });
+        list.steps
     }
 
     /// The steps of a message that the party wrote: one for each of its tokens, and one for the payload. The key
@@ -111,6 +124,22 @@ impl<K: Keys> Following<K> {
         self.advance(message)
     }
 
+    // The steps of the tokens before this one, of a message that stopped at it.
+    fn stopped(&self, message: &[u8], token: u8) -> ArrayVec<Step, 11>
+        ensures refused { (v : Party) (cause : Cause) → Follows K.pairs self.now v
+            → (refused : Refuses v message.now token cause)
+            → result.items ≡ steps_before v token refused.stops.carried }
+        ensures withheld { (v : Party) → Follows K.pairs self.now v → (lacks : LacksDhResult v token)
+            → result.items ≡ steps_before v token lacks.lacks.before }
+    {
+        let Some(handshake) = &self.handshake else {
+            return ArrayVec::new();
+        };
+        let mut list = list_for(handshake);
+        handshake.follow_before(message, token, &mut list);
+        list.steps
+    }
+
     /// The steps of the tokens before this one, counted from 0, of a message that the party refused at it. The payload
     /// counts as the token after the last.
     ///
@@ -120,7 +149,7 @@ impl<K: Keys> Following<K> {
             → (refused : Refuses v message.now token cause)
             → result.items ≡ steps_before v token refused.stops.carried }
     {
-        self.before.refused_steps(&self.keys, message, token)
+        self.stopped(message, token)
     }
 
     /// The steps of the tokens before this one, counted from 0, of a message that the party didn't write for want of
@@ -131,14 +160,19 @@ impl<K: Keys> Following<K> {
         ensures { (v : Party) → Follows K.pairs self.now v → (lacks : LacksDhResult v token)
             → result.items ≡ steps_before v token lacks.lacks.before }
     {
-        self.before.withheld_steps(&self.keys, token)
+        self.stopped(&[], token)
     }
 
     /// Whether all messages have passed.
     pub fn is_complete(&self) -> bool
         ensures { (v : Party) → Follows K.pairs self.now v → result ≡ is_complete v }
     {
-        self.passed as usize == self.pattern.pattern().messages().len()
+        match &self.handshake {
+            Some(handshake) => {
+                handshake.done() as usize == handshake.pattern().pattern().messages().len()
+            }
+            None => false,
+        }
     }
 
     /// The two keys of the transport, if all messages have passed, the initiator's first (Split).
@@ -146,27 +180,40 @@ impl<K: Keys> Following<K> {
         ensures { (v : Party) → Follows K.pairs self.now v
             → result ≡ (initiator_key v.history, responder_key v.history) }
     {
-        self.values().transport_keys()
+        let Some(handshake) = &self.handshake else {
+            return ([0; 32], [0; 32]);
+        };
+        let (initiator, responder) = SymmetricState::from_parts(handshake.progress().state).split();
+        (key_of(initiator), key_of(responder))
     }
 
     /// The hash, the chaining key, the key and the nonce after the messages that have passed.
     pub fn values(&self) -> StateValues
         ensures { (v : Party) → Follows K.pairs self.now v → result ≡ values_of v.history }
     {
-        self.before.values()
+        match &self.handshake {
+            Some(handshake) => values_in(handshake.progress().state),
+            None => StateValues::default(),
+        }
     }
 
     /// How many messages have passed.
     pub fn passed(&self) -> u8
         ensures { (v : Party) → Follows K.pairs self.now v → result ≡ v.passed }
     {
-        self.passed
+        match &self.handshake {
+            Some(handshake) => handshake.done(),
+            None => 0,
+        }
     }
 
     /// The role of the party.
     pub fn role(&self) -> Role
         ensures { (v : Party) → Follows K.pairs self.now v → result ≡ v.role }
     {
-        self.before.role()
+        match &self.handshake {
+            Some(handshake) => handshake.role(),
+            None => Role::Initiator,
+        }
     }
 }

@@ -1,11 +1,10 @@
 //! What a symmetric state holds, as plain values.
 
-ghost use Rattle.std.specs.Prelude.{◌≡◌, ◌≤◌, ◌<◌, ◌+◌, ◌-◌, ◌^◌};
-ghost use Rattle.noise_state.specs.History.{History, Ciphertext, and_then, initiator_key, responder_key};
-ghost use Rattle.noise_state.specs.Standing.{StateMatches, nonce_now};
-ghost use Rattle.noise_trace.specs.Values.{values_of};
+ghost use Rattle.std.specs.Prelude.{◌≡◌};
+ghost use Rattle.noise_state.specs.History.{History};
+ghost use Rattle.noise_state.specs.Standing.{StateMatches, state_of};
+ghost use Rattle.noise_trace.specs.Values.{state_values, values_of};
 
-use noise_kdf::expand2;
 use noise_state::{StateParts, SymmetricState};
 
 /// The values of a symmetric state (Noise, 5.2).
@@ -20,27 +19,16 @@ pub struct StateValues {
     pub nonce: u64,
 }
 
-impl StateValues {
-    /// The keys of the transport where these are the values at the end of a handshake (Split), the initiator's first.
-    /// Each is used from nonce 0 on.
-    pub fn transport_keys(&self) -> ([u8; 32], [u8; 32])
-        ensures initiator { (r : History) → self.now ≡ values_of r → result.0 ≡ initiator_key r }
-        ensures responder { (r : History) → self.now ≡ values_of r → result.1 ≡ responder_key r }
-    {
-        expand2(&self.chaining_key, &[])
-    }
-}
-
-// The values of a state.
-pub(crate) fn values_of(state: &SymmetricState) -> StateValues
-    ensures { (r : History) → StateMatches state.now r → result ≡ values_of r }
+// The values of a state's parts.
+pub(crate) fn values_in(parts: StateParts) -> StateValues
+    ensures { result ≡ state_values (state_of parts) }
 {
     let StateParts {
         chaining_key,
         hash,
         key,
         nonce,
-    } = state.for_trial().into_parts();
+    } = parts;
     StateValues {
         hash,
         chaining_key,
@@ -49,17 +37,10 @@ pub(crate) fn values_of(state: &SymmetricState) -> StateValues
     }
 }
 
-// Mixes a ciphertext into the hash, and counts a nonce where there is a key (EncryptAndHash and DecryptAndHash).
-pub(crate) fn mix_piece(state: &mut SymmetricState, piece: &[u8])
-    requires nonces { nonce_now state.old < 2 ^ 64 - 1 }
-    ensures nonce { nonce_now state.new ≤ nonce_now state.old + 1 }
-    ensures mixed { (r : History) → StateMatches state.old r
-        → StateMatches state.new (and_then r (Ciphertext piece.now)) }
+// The values of a state.
+pub(crate) fn values_of(state: &SymmetricState) -> StateValues
+    ensures value { result ≡ state_values state.now }
+    ensures matches { (r : History) → StateMatches state.now r → result ≡ values_of r }
 {
-    state.mix_hash(piece);
-    let mut parts = state.for_trial().into_parts();
-    if parts.key.is_some() {
-        parts.nonce += 1;
-    }
-    *state = SymmetricState::from_parts(parts);
+    values_in(state.for_trial().into_parts())
 }
