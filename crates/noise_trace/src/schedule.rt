@@ -35,8 +35,8 @@ fn copy(pattern: &ValidPattern) -> ValidPattern
 
 // The key of a cipher state that has one.
 fn key_of(cipher: CipherState) -> [u8; 32]
-    requires { IsSome (key_in cipher) }
-    ensures { key_in cipher ≡ Some result }
+    requires keyed { IsSome (key_in cipher) }
+    ensures value { key_in cipher ≡ Some result }
 {
     let (key, _) = cipher.into_parts();
     key.unwrap()
