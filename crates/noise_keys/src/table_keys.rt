@@ -99,8 +99,8 @@ impl Keys for TableKeys {
     ghost use Rattle.noise_keys.specs.Table.{dh_result_in};
 
     ghost pairs = { λ keys. record {
-        public = λ own. key_of own keys.e keys.s;
-        agree = λ own remote. dh_result_in keys.entries own remote;
+      public = λ own. key_of own keys.e keys.s;
+      agree = λ own remote. dh_result_in keys.entries own remote;
     } };
 
     fn public(&self, own: Own) -> Option<[u8; 32]> {

@@ -20,8 +20,8 @@ impl Keys for XorKeys {
     ghost use Rattle.noise_keys.specs.Keys.{key_of, xor_dh_result};
 
     ghost pairs = { λ keys. record {
-        public = λ own. key_of own keys.e keys.s;
-        agree = λ own remote. xor_dh_result (key_of own keys.e keys.s) remote;
+      public = λ own. key_of own keys.e keys.s;
+      agree = λ own remote. xor_dh_result (key_of own keys.e keys.s) remote;
     } };
 
     fn public(&self, own: Own) -> Option<[u8; 32]> {
