@@ -6,7 +6,7 @@ use Rattle.noise_explain.proofs.explanation.explain_spelled.Goals as goal
 pub returns-in-Ok-clause-explained : goal.returns-in-Ok-clause-explained
 returns-in-Ok-clause-explained c =
     let is_valid : IsValid c.args.pattern = search rules in
-    right-said c.args.name.now c.args.text.now c.args.pattern c.in-Ok.valid c.explain_valid.result c.requires.spelled c.in-Ok.ensures.value is_valid
+    right-said c.args.name.now c.args.text.now c.args.pattern c.in-Ok.valid c.explain_valid.result c.requires c.in-Ok.ensures.value is_valid
     c.explain_valid.ensures.status c.explain_valid.ensures.text
 
 pub returns-in-Ok-clause-bound : goal.returns-in-Ok-clause-bound
