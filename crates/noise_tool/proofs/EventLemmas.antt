@@ -198,6 +198,11 @@ say-fault selection d next role by payload notes more h given old one before bet
           subst (λ (z : Sides). EndsTraced between z) (sym s.next_is) done.1,
         )
 
+-- the number of a frame that was written
+abbrev number_in : Note → ℕ
+number_in (Wrote n) = n
+number_in _ = 0
+
 -- a frame was written, and came to the other role
 pub say-frame : {E : Type 0} (selection : Selection) (d next : Sides) (role by : Role) (payload : List ℕ) (notes more : List (Role × Note))
     (h : Happens d (Say role payload) notes next) (number : ℕ) (frame : List ℕ) (old one new : Traces) (before between after : TracedEnds)
@@ -221,7 +226,10 @@ say-frame {E = E} selection d next role by payload notes more h number frame old
         let heads : Wrote number ≡ Wrote s.number = two.0 in
         let written : (side next role).frames ≡ s.after.frames = search rules in
         let done = on s.after payload (Wrote s.number) s.w traced written heads in
-        let text : frame ≡ s.bytes = search in
+        let text : frame ≡ s.bytes =
+        framed ∙ ap (λ (n : ℕ). frame_numbered (side next role) n) (ap number_in heads)
+        ∙ ap (λ (fs : List (List ℕ)). unwrap_or (slice_get fs s.number) []) written
+        ∙ ap (λ (o : Option (List ℕ)). unwrap_or o []) s.got in
         let came = subst (λ (z : Role). (reader : Side) (heard : List Note) (x : SideReceives (side (with_side d role s.after) z) frame heard reader)
         → more ≡ noted_by z (heard ++ held_note (length reader.state.partial))
         → OnOk r ((new ≡ one ++ came_traces selection z (side (with_side d role s.after) z) reader frame heard x)
