@@ -45,7 +45,12 @@ neither (Some why) u e = absurd (cc e)
 -- what both parties of two values of these keys start from
 abbrev pub xor_starts : Plan → List ℕ → List (List ℕ) → XorKeys → XorKeys → BothStarts
 xor_starts p prologue psks a b =
-    starts (λ keys own. key_of own keys.e keys.s) (λ keys own remote. xor_dh_result (key_of own keys.e keys.s) remote) p prologue psks a b
+    starts
+    (λ keys. record {
+      public = λ own. key_of own keys.e keys.s;
+      agree = λ own remote. xor_dh_result (key_of own keys.e keys.s) remote;
+    })
+    p prologue psks a b
 
 abbrev setup_from : Plan → Role → FileKeys → FileKeys → ℕ → Option SetupFault
 setup_from p role own theirs n = setup_fault p role (public_of own) (shown_before p (other role) (public_of theirs)) n
