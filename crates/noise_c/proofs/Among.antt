@@ -1,6 +1,6 @@
 -- What a party with the first DH results reads, refuses and writes it does with all of them too.
 use Rattle.std.proofs.Common.{◌≡◌, ℕ, zero, suc, ◌+◌, ◌<◌, List, [], ◌∷◌, ◌++◌, length, take, refl, ap, sym, subst, ◌∙◌, arith, append_assoc, take_all}
-use Rattle.noise_c.proofs.Common.{Bool, Option, Some, None, is_some, if◌then◌else◌, Token, E, S, Role, History, cipher_key, ciphertext, Own, Remote, Cause, Agreement, Reader, Fits, Fit, known_after, psks_after, BeginsAs, CanBegin, Reads, Stops, Accepts, Refuses, dh_result_of, cause_at, Party, tokens_now, Writer, Gives, Given, Writes, has_psk, DhResults, AreAmong, ActsAsAll, with_dh_results}
+use Rattle.noise_c.proofs.Common.{Bool, Option, Some, None, is_some, if◌then◌else◌, Token, E, S, Role, SymmetricState, ciphertext, Own, Remote, Cause, Agreement, Reader, Fits, Fit, known_after, psks_after, BeginsAs, CanBegin, Reads, Stops, Accepts, Refuses, dh_result_of, cause_at, Party, tokens_now, Writer, Gives, Given, Writes, has_psk, DhResults, AreAmong, ActsAsAll, with_dh_results}
 use Rattle.noise_names.specs.declared.token.Token.TheVariants.{Psk}
 use Rattle.noise_state.specs.Ciphertexts.{length-ciphertext, ciphertext-same}
 use Rattle.noise_handshake.specs.Message.{token_bytes, after_token, before_payload, after_tokens}
@@ -41,16 +41,16 @@ module _ (role : Role) (has_psks : Bool) (first all : DhResults) (among : AreAmo
   fit-all known psks (t ∷ ts) (x ∷ xs) f =
       (fits-all known psks t x f.0, fit-all (known_after known t x) (psks_after psks t) ts xs f.1)
 
-  leads-all : (known : Remote) (psks : List (List ℕ)) (r : History) (ts : List Token) (xs : List (List ℕ)) (m rest : List ℕ)
+  leads-all : (known : Remote) (psks : List (List ℕ)) (r : SymmetricState) (ts : List Token) (xs : List (List ℕ)) (m rest : List ℕ)
       → BeginsAs few known psks r ts xs m rest → BeginsAs whole known psks r ts xs m rest
   leads-all known psks r ts xs m rest l = record { fit = fit-all known psks ts xs l.fit; spelled = l.spelled }
 
   -- a token's text under the first DH results is that under all of them, and so is what is after it
-  token-apart : (known : Remote) (psks : List (List ℕ)) (r : History) (t : Token) (x y p q : List ℕ)
+  token-apart : (known : Remote) (psks : List (List ℕ)) (r : SymmetricState) (t : Token) (x y p q : List ℕ)
       → Fits few known psks t x → Fits whole known psks t y → token_bytes r t x ++ p ≡ token_bytes r t y ++ q → (x ≡ y) × (p ≡ q)
   token-apart known psks r E x y p q f g e = split-apart x y p q (f ∙ sym g) e
   token-apart known psks r S x y p q f g e =
-      let n : length (ciphertext r x) ≡ length (ciphertext r y) = length-ciphertext r x ∙ ap (λ (k : ℕ). if is_some (cipher_key r) then k + 16 else k) (f ∙ sym g)
+      let n : length (ciphertext r x) ≡ length (ciphertext r y) = length-ciphertext r x ∙ ap (λ (k : ℕ). if is_some r.cipher.key then k + 16 else k) (f ∙ sym g)
       ∙ sym (length-ciphertext r y) in
       let h = split-apart (ciphertext r x) (ciphertext r y) p q n e in
       (ciphertext-same r x y h.0, h.1)
@@ -58,7 +58,7 @@ module _ (role : Role) (has_psks : Bool) (first all : DhResults) (among : AreAmo
   token-apart known psks r _ x y p q f g e = (some-same _ x y (first-all _ _ x f) g, e)
 
   -- What leads one token further with all DH results leads there with the first ones, where they lead to that token and it is a key.
-  abbrev BeginsBack : Remote → List (List ℕ) → History → List Token → List ℕ → Type 0
+  abbrev BeginsBack : Remote → List (List ℕ) → SymmetricState → List Token → List ℕ → Type 0
   BeginsBack known psks r ts m = (ys : List (List ℕ)) × (rest : List ℕ) × BeginsAs few known psks r ts ys m rest
 
   module _ (t : Token) (is-key : IsKey t) where
@@ -67,13 +67,13 @@ module _ (role : Role) (has_psks : Bool) (first all : DhResults) (among : AreAmo
     fits-back S k known psks x f = f
     fits-back _ k known psks x f = absurd k
 
-    back-one : (known : Remote) (psks : List (List ℕ)) (r : History) (ys : List (List ℕ)) (m rest : List ℕ)
+    back-one : (known : Remote) (psks : List (List ℕ)) (r : SymmetricState) (ys : List (List ℕ)) (m rest : List ℕ)
         → BeginsAs whole known psks r (t ∷ []) ys m rest → BeginsAs few known psks r (t ∷ []) ys m rest
     back-one known psks r [] m rest l = absurd l.fit
     back-one known psks r (y ∷ []) m rest l = record { fit = (fits-back t is-key known psks y l.fit.0, tt); spelled = l.spelled }
     back-one known psks r (y ∷ z ∷ zs) m rest l = absurd l.fit.1
 
-    back-more : (known : Remote) (psks : List (List ℕ)) (r : History) (before : List Token) (xs ys : List (List ℕ)) (m p q : List ℕ)
+    back-more : (known : Remote) (psks : List (List ℕ)) (r : SymmetricState) (before : List Token) (xs ys : List (List ℕ)) (m p q : List ℕ)
         → BeginsAs few known psks r before xs m p → BeginsAs whole known psks r (before ++ t ∷ []) ys m q
         → BeginsBack known psks r (before ++ t ∷ []) m
     back-more known psks r [] xs ys m p q a b = (ys, q, back-one known psks r ys m q b)
@@ -101,7 +101,7 @@ module _ (role : Role) (has_psks : Bool) (first all : DhResults) (among : AreAmo
         )
 
   -- all the texts are determined, and what is left
-  front-apart : (known : Remote) (psks : List (List ℕ)) (r : History) (ts : List Token) (xs ys : List (List ℕ)) (p q : List ℕ)
+  front-apart : (known : Remote) (psks : List (List ℕ)) (r : SymmetricState) (ts : List Token) (xs ys : List (List ℕ)) (p q : List ℕ)
       → Fit few known psks ts xs → Fit whole known psks ts ys → before_payload has_psks r ts xs ++ p ≡ before_payload has_psks r ts ys ++ q → (xs ≡ ys) × (p ≡ q)
   front-apart known psks r [] [] [] p q f g e = (refl, e)
   front-apart known psks r [] [] (y ∷ ys) p q f g e = absurd g
@@ -121,12 +121,12 @@ module _ (role : Role) (has_psks : Bool) (first all : DhResults) (among : AreAmo
 
   -- ---- reading
 
-  pub reads-all : (known : Remote) (psks : List (List ℕ)) (r : History) (ts : List Token) (m : List ℕ) (xs : List (List ℕ)) (payload : List ℕ)
+  pub reads-all : (known : Remote) (psks : List (List ℕ)) (r : SymmetricState) (ts : List Token) (m : List ℕ) (xs : List (List ℕ)) (payload : List ℕ)
       → Reads few known psks r ts m xs payload → Reads whole known psks r ts m xs payload
   reads-all known psks r ts m xs payload a = record { fit = fit-all known psks ts xs a.fit; spelled = a.spelled }
 
   -- the payload that all DH results read is one that the first ones read, where they lead to it
-  reads-back : (known : Remote) (psks : List (List ℕ)) (r : History) (ts : List Token) (m : List ℕ) (xs ys : List (List ℕ)) (rest payload : List ℕ)
+  reads-back : (known : Remote) (psks : List (List ℕ)) (r : SymmetricState) (ts : List Token) (m : List ℕ) (xs ys : List (List ℕ)) (rest payload : List ℕ)
       → BeginsAs few known psks r ts xs m rest → Reads whole known psks r ts m ys payload → Reads few known psks r ts m ys payload
   reads-back known psks r ts m xs ys rest payload a b =
       let h = front-apart known psks r ts xs ys rest (ciphertext (after_tokens has_psks r ts ys) payload) a.fit b.fit (sym a.spelled ∙ b.spelled) in
@@ -142,7 +142,7 @@ module _ (role : Role) (has_psks : Bool) (first all : DhResults) (among : AreAmo
   key-there keyed (u ∷ ts) (suc k) rest cause h mendable why =
       let i = key-there keyed ts k rest cause (omega (arith, h)) mendable why in (i.0, i.1, ap (λ (us : List Token). u ∷ us) i.2)
 
-  pub stops-all : (known : Remote) (psks : List (List ℕ)) (r : History) (ts : List Token) (m : List ℕ) (k : ℕ) (cause : Cause)
+  pub stops-all : (known : Remote) (psks : List (List ℕ)) (r : SymmetricState) (ts : List Token) (m : List ℕ) (k : ℕ) (cause : Cause)
       → (cause ≡ Agreement → ⊥) → Stops few known psks r ts m k cause → Stops whole known psks r ts m k cause
   stops-all known psks r ts m k cause mendable s = record {
     within = s.within;
@@ -150,7 +150,7 @@ module _ (role : Role) (has_psks : Bool) (first all : DhResults) (among : AreAmo
     rest = s.rest;
     leads = leads-all known psks r (take k ts) s.carried m s.rest s.leads;
     further = λ (h : k < length ts) (reaches : CanBegin whole known psks r (take (suc k) ts) m).
-        let i = key-there (is_some (cipher_key (after_tokens has_psks r (take k ts) s.carried))) ts k s.rest cause h mendable s.why in
+        let i = key-there (is_some ((after_tokens has_psks r (take k ts) s.carried).cipher.key)) ts k s.rest cause h mendable s.why in
         let b = back-more i.0 i.1 known psks r (take k ts) s.carried reaches.carried m s.rest reaches.rest s.leads
         (subst (λ (us : List Token). BeginsAs whole known psks r us reaches.carried m reaches.rest) i.2 reaches.leads) in
         s.further h (subst (λ (us : List Token). CanBegin few known psks r us m) (sym i.2) (record { carried = b.0; rest = b.1; leads = b.2 }));
@@ -190,11 +190,11 @@ act-as-all v first all among = record {
   accepts = λ (message payload : List ℕ) (xs : List (List ℕ)) (a : Accepts (with_dh_results v first) message xs payload). record {
     listens = record { going = a.listens.going; more = a.listens.more; turn = a.listens.turn };
     fits = a.fits;
-    reads = reads-all v.role (has_psk v.pattern) first all among v.remote v.psks v.history (tokens_now v) message xs payload a.reads;
+    reads = reads-all v.role (has_psk v.pattern) first all among v.remote v.psks v.state (tokens_now v) message xs payload a.reads;
   };
   refuses = λ (message : List ℕ) (token : ℕ) (cause : Cause) (mendable : cause ≡ Agreement → ⊥) (a : Refuses (with_dh_results v first) message token cause). record {
     listens = record { going = a.listens.going; more = a.listens.more; turn = a.listens.turn };
-    stops = stops-all v.role (has_psk v.pattern) first all among v.remote v.psks v.history (tokens_now v) message token cause mendable a.stops;
+    stops = stops-all v.role (has_psk v.pattern) first all among v.remote v.psks v.state (tokens_now v) message token cause mendable a.stops;
   };
   writes = λ (payload message : List ℕ) (xs : List (List ℕ)) (a : Writes (with_dh_results v first) payload xs message). record {
     speaks = record { going = a.speaks.going; more = a.speaks.more; turn = a.speaks.turn };

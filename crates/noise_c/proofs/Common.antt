@@ -25,7 +25,9 @@ pub use Rattle.noise_names.specs.declared.token.Role.{Role}
 pub use Rattle.noise_names.specs.declared.token.Token.{Token}
 pub use Rattle.noise_names.specs.declared.token.Token.TheVariants.{E, Ee, Es, S, Se, Ss}
 pub use Rattle.noise_session.specs.Datagrams.{DatagramReceiverMatches, DatagramReceiverValue, DatagramSenderMatches, DatagramSenderValue, DatagramsMatch, Opens, accepting, datagrams_of, nonce_named}
-pub use Rattle.noise_state.specs.History.{History, cipher_key, ciphertext, ciphertext_under}
+pub use Rattle.noise_state.specs.declared.symmetric.SymmetricState.{SymmetricState}
+pub use Rattle.noise_state.specs.Symmetric.{ciphertext}
+pub use Rattle.noise_state.specs.Cipher.{ciphertext_under}
 pub use Rattle.noise_c.specs.Codes.{cause_code, read_code, setup_code, write_code}
 pub use Rattle.noise_c.specs.DatagramStructs.{IsDatagramCode, OpensDatagramInPlace, datagram_receiver_from_c, is_datagram_receiver, window_in}
 pub use Rattle.noise_c.specs.DhResults.{ActsAsAll, AreAmong, AskedIsLacking, AskedToRead, AskedToWrite, DhResults, FirstActAsAll, FourSuffice, FourSufficeToWrite, HasKeys, IsHandedIn, Shows, with_dh_results}

@@ -7,8 +7,7 @@ use Rattle.noise_names.specs.declared.token.Role.TheVariants.{Initiator, Respond
 use Rattle.noise_names.specs.Tokens.{other, same_role}
 use Rattle.noise_names.specs.Plan.{is_one_way}
 use Rattle.noise_events.specs.declared.window.Window.{Window}
-use Rattle.noise_state.specs.History.{History, cipher_key}
-use Rattle.noise_state.specs.Standing.{key_now}
+use Rattle.noise_state.specs.declared.symmetric.SymmetricState.{SymmetricState}
 use Rattle.noise_handshake.specs.Counterparts.{Counterparts}
 use Rattle.noise_session.specs.Datagrams.{DatagramSenderMatches, DatagramReceiverMatches, datagrams_of}
 use Rattle.noise_session.specs.Transport.{split_key}
@@ -58,16 +57,16 @@ module _ (v w : Party) (h : Counterparts v w) where
   role : w.role ≡ other v.role
   role = ap (λ (z : Party). z.role) h.there
 
-  history : w.history ≡ v.history
-  history = ap (λ (z : Party). z.history) h.there
+  history : w.state ≡ v.state
+  history = ap (λ (z : Party). z.state) h.there
 
   plan : w.pattern ≡ v.pattern
   plan = ap (λ (z : Party). z.pattern) h.there
 
   -- the key of what the one writes
-  key-is : split_key w.history (other w.role) ≡ split_key v.history v.role
-  key-is = ap (λ (r : History). split_key r (other w.role)) history
-      ∙ ap (split_key v.history) (ap other role ∙ other-back v.role)
+  key-is : split_key w.state (other w.role) ≡ split_key v.state v.role
+  key-is = ap (λ (r : SymmetricState). split_key r (other w.role)) history
+      ∙ ap (split_key v.state) (ap other role ∙ other-back v.role)
 
   discarded : (is_one_way w.pattern && same_role w.role Initiator) ≡ (is_one_way v.pattern && same_role v.role Responder)
   discarded = ap (λ (q : Plan). is_one_way q && same_role w.role Initiator) plan
@@ -75,9 +74,9 @@ module _ (v w : Party) (h : Counterparts v w) where
 
   pub ciphers-face : CipherFace (sending_cipher v) (receiving_cipher w)
   ciphers-face =
-      ap (λ (b : Bool). begun_cipher RECEIVING_CIPHER b (split_key w.history (other w.role))) discarded
+      ap (λ (b : Bool). begun_cipher RECEIVING_CIPHER b (split_key w.state (other w.role))) discarded
       ∙ ap (begun_cipher RECEIVING_CIPHER (is_one_way v.pattern && same_role v.role Responder)) key-is
-      ∙ begun-as-sender (is_one_way v.pattern && same_role v.role Responder) (split_key v.history v.role)
+      ∙ begun-as-sender (is_one_way v.pattern && same_role v.role Responder) (split_key v.state v.role)
 
   pub datagrams-face : (i j : Window) (s : NoiseDatagramSender) (u : NoiseDatagramReceiver)
       → DatagramSenderMatches (datagram_sender_from_c s) (datagrams_of v i)
@@ -187,7 +186,7 @@ finish-both met p g h t set_up set_up_too keys done done_too =
         some = omega (arith, all, done.some);
         passed = sym here.matches.passed ∙ all;
         passed_too = sym there.matches.passed ∙ done_too.passed p there.pattern;
-        keyed = keyed-as g.last.cipher (cipher_key v.history) done.keyed (ap key_now here.matches.history);
+        keyed = keyed-as g.last.cipher v.state.cipher.key done.keyed (ap (λ (s : SymmetricState). s.cipher.key) here.matches.state);
       };
       handed_in = dh_results_in g.last;
       handed_in_too = dh_results_in h.last;

@@ -6,8 +6,7 @@ use Rattle.noise_c.proofs.Common.{Bool, Option, Some, None, count_by, Plan, Own,
 use Rattle.noise_names.specs.Tokens.{is_psk, other}
 use Rattle.noise_names.specs.Plan.{is_one_way}
 use Rattle.noise_names.specs.declared.token.Role.TheVariants.{Initiator, Responder}
-use Rattle.noise_state.specs.History.{History, hash}
-use Rattle.noise_state.specs.Standing.{hash_now}
+use Rattle.noise_state.specs.declared.symmetric.SymmetricState.{SymmetricState}
 use Rattle.noise_handshake.specs.Party.{Listens}
 use Rattle.noise_handshake.specs.Counterparts.{Counterparts, StartAsCounterparts}
 use Rattle.noise_handshake.specs.declared.faults.ReadFault.TheVariants as read
@@ -293,14 +292,14 @@ module _ (v w : Party) (h : Counterparts v w) (interval : ℕ) where
   faced sender receiver s r =
       let role : w.role ≡ other v.role = ap (λ (z : Party). z.role) h.there in
       let back : other w.role ≡ v.role = sym (ap (λ (z : Party). z.role) h.back) in
-      let history : w.history ≡ v.history = ap (λ (z : Party). z.history) h.there in
+      let history : w.state ≡ v.state = ap (λ (z : Party). z.state) h.there in
       let plan : w.pattern ≡ v.pattern = ap (λ (z : Party). z.pattern) h.there in
       same-half receiver (record sender { role = other sender.role })
       (r.role ∙ role ∙ ap other (sym s.role))
       (r.one_way ∙ ap is_one_way plan ∙ sym s.one_way)
       (r.interval ∙ sym s.interval)
-      (r.key ∙ ap (λ (z : History). Some (transport_key z (other w.role) interval 0)) history
-      ∙ ap (λ (z : Role). Some (transport_key v.history z interval 0)) back ∙ sym s.key)
+      (r.key ∙ ap (λ (z : SymmetricState). Some (transport_key z (other w.role) interval 0)) history
+      ∙ ap (λ (z : Role). Some (transport_key v.state z interval 0)) back ∙ sym s.key)
       (r.nonce ∙ sym s.nonce)
 
 -- ---- two programs
@@ -376,9 +375,9 @@ module _ (laws : Laws) (reading : Reading) (showing : Showing)
         next_back = λ m more e ends next after results new code o.
             let n = both.next_back m more e in
             taken reading p g.secrets left.party g.last left.stands m n.0 n.1 ends next after results new code o;
-        hash = λ e. ap hash_now left.stands.keeps.matches.history
-            ∙ ap (λ (z : Party). hash z.history) (sym (level e).there)
-            ∙ sym (ap hash_now right.stands.keeps.matches.history);
+        hash = λ e. ap (λ (s : SymmetricState). s.hash) left.stands.keeps.matches.state
+            ∙ ap (λ (z : Party). z.state.hash) (sym (level e).there)
+            ∙ sym (ap (λ (s : SymmetricState). s.hash) right.stands.keeps.matches.state);
         halves = λ interval s r x y made made_too.
             let c = done-alike p g h m made.done made_too.done in
             let mine = made.stand p (with_dh_results left.party (dh_results_in g.last)) left.stands.keeps in

@@ -21,7 +21,7 @@ keeps-ended k p v s = record {
     remote = s.matches.remote;
     passed = s.matches.passed;
     ended = refl;
-    history = s.matches.history;
+    state = s.matches.state;
   };
 }
 

@@ -92,7 +92,7 @@ module _ (p : Plan) (v : Party) where
       agree = ap (λ (h : HandshakeValue Table). agreement_in h.keys) (sym handshake);
       remote = c.matches.remote;
       passed = c.matches.passed;
-      history = c.matches.history;
+      state = c.matches.state;
       ended = c.matches.ended;
     });
   }

@@ -97,11 +97,11 @@ pub record Ahead (v : Party) (m : Passed) (ws rs : List Passed) (c : List (List 
   pub none_read : rs ≡ []
   pub last_is : last ≡ after_own v c m.payload
 
-pub ahead : (v last : Party) (c : List (List ℕ)) (m : Passed) (ws rs : List Passed) → Speaks v
+pub ahead : (v : Party) (c : List (List ℕ)) (m : Passed) (last : Party) (ws rs : List Passed) → Speaks v
     → Talk (after_own v c m.payload) ws rs last → IsFront (messages_in rs) [] → Ahead v m ws rs c last
-ahead v last c m ws rs s (silent _) f = record { no_more = refl; none_read = refl; last_is = refl }
-ahead v last c m ws rs s (speaks _ _ d k _ _ writes more) f = absurd (speaks-twice v c m.payload s writes.speaks)
-ahead v last c m ws rs s (hears _ _ d k _ rs1 accepts more) f = absurd (no-front k rs1 f)
+ahead v c m last ws rs s (silent _) f = record { no_more = refl; none_read = refl; last_is = refl }
+ahead v c m last ws rs s (speaks _ _ d k _ _ writes more) f = absurd (speaks-twice v c m.payload s writes.speaks)
+ahead v c m last ws rs s (hears _ _ d k _ rs1 accepts more) f = absurd (no-front k rs1 f)
 
 only : (m k : Passed) (more : List Passed) → m ∷ [] ≡ k ∷ more → m ≡ k
 only m k more e = (cons-parts m k [] more e).0
@@ -165,7 +165,7 @@ module _ (laws : Laws) where
   together v w _ _ _ _ _ _ valid h (silent _) (silent _) f g = level v w h
   together v w _ end _ _ _ _ valid h (silent _) (hears _ _ d k us xs accepts more) f g = absurd (no-front k xs f)
   together v w _ end _ _ _ _ valid h (silent _) (speaks _ _ d k us xs writes more) f g =
-      let a = ahead w end d k us xs writes.speaks more f in
+      let a = ahead w d k end us xs writes.speaks more f in
       let back : Counterparts w v = laws.turned v w h in
       let valid-w : IsValid w.pattern = subst IsValid (sym (ap (λ (z : Party). z.pattern) h.there)) valid in
       let t = turned-back (after_own w d k.payload) v (k ∷ []) [] [] [] (one-there w v d k valid-w back writes) in
@@ -173,7 +173,7 @@ module _ (laws : Laws) where
       (subst (λ (z : List Passed). Together v (after_own w d k.payload) [] [] (k ∷ z) xs) (sym a.no_more)
       (subst (λ (z : List Passed). Together v (after_own w d k.payload) [] [] (k ∷ []) z) (sym a.none_read) t))
   together v w last _ _ _ _ _ valid h (speaks _ _ c m ws rs writes more) (silent _) f g =
-      let a = ahead v last c m ws rs writes.speaks more g in
+      let a = ahead v c m last ws rs writes.speaks more g in
       let t = one-there v w c m valid h writes in
       subst (λ (z : Party). Together z w (m ∷ ws) rs [] []) (sym a.last_is)
       (subst (λ (z : List Passed). Together (after_own v c m.payload) w (m ∷ z) rs [] []) (sym a.no_more)

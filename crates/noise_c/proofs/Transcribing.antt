@@ -8,7 +8,7 @@ use Rattle.noise_names.specs.Tokens.{other, same_role, same_token, turn_from}
 use Rattle.noise_names.specs.Plan.{places_of}
 use Rattle.noise_names.specs.Validity.{is_among}
 use Rattle.noise_handshake.specs.Passed.{passed_places}
-use Rattle.noise_state.specs.History.{History}
+use Rattle.noise_state.specs.declared.symmetric.SymmetricState.{SymmetricState}
 use Rattle.noise_keys.specs.declared.keys.Own.TheVariants.{Ephemeral, Static}
 use Rattle.noise_handshake.specs.Message.{message_bytes}
 use Rattle.noise_handshake.specs.Party.{other_psks}
@@ -84,14 +84,14 @@ theirs-at Responder Initiator x rest e = refl
 theirs-at Initiator Initiator x rest e = cc
 theirs-at Responder Responder x rest e = cc
 
-conversation-same : (m : KeyMaterial) (p q : Plan) (n k : ℕ) (s t : List (List ℕ)) (r u : History) (ps : List (List ℕ))
+conversation-same : (m : KeyMaterial) (p q : Plan) (n k : ℕ) (s t : List (List ℕ)) (r u : SymmetricState) (ps : List (List ℕ))
     → p ≡ q → n ≡ k → s ≡ t → r ≡ u → conversation m p n s r ps ≡ conversation m q k t u ps
 conversation-same m p q n k s t r u ps e f g h = cc
 
 module _ (laws : Laws) (showing : Showing) (m : KeyMaterial) where
   -- the messages from a party's state on
   abbrev from : Party → List (List ℕ) → List Passed
-  from v ps = map (λ (x : HandshakeMessage). record { message = x.message; payload = x.payload }) (conversation m v.pattern v.passed v.psks v.history ps)
+  from v ps = map (λ (x : HandshakeMessage). record { message = x.message; payload = x.payload }) (conversation m v.pattern v.passed v.psks v.state ps)
 
   -- each has the keys of the key material, and the other's
   pub record Both (v w : Party) : Type 0 where
@@ -106,9 +106,9 @@ module _ (laws : Laws) (showing : Showing) (m : KeyMaterial) where
   from-same : (v w : Party) (ps : List (List ℕ)) → Counterparts v w → from v ps ≡ from w ps
   from-same v w ps h =
       ap (map (λ (x : HandshakeMessage). record { message = x.message; payload = x.payload }))
-      (conversation-same m v.pattern w.pattern v.passed w.passed v.psks w.psks v.history w.history ps
+      (conversation-same m v.pattern w.pattern v.passed w.passed v.psks w.psks v.state w.state ps
       (sym (ap (λ (z : Party). z.pattern) h.there)) (sym (ap (λ (z : Party). z.passed) h.there))
-      (sym (ap (λ (z : Party). z.psks) h.there)) (sym (ap (λ (z : Party). z.history) h.there)))
+      (sym (ap (λ (z : Party). z.psks) h.there)) (sym (ap (λ (z : Party). z.state) h.there)))
 
   carried : (v w : Party) (payload message : List ℕ) (c : List (List ℕ)) → Counterparts v w → Shares m v.pattern v.role v.own v.agree w.own
       → Writes v payload c message → c ≡ carried_at m v.pattern v.passed v.psks
@@ -126,7 +126,7 @@ module _ (laws : Laws) (showing : Showing) (m : KeyMaterial) where
   head v w k c ps h shares writes =
       let is = carried v w k.payload k.message c h shares writes in
       let on : List (List ℕ) → List Passed =
-      λ z. record { message = message_bytes (has_psk v.pattern) v.history (tokens_now v) z k.payload; payload = k.payload } ∷ from (after_own v z k.payload) ps in
+      λ z. record { message = message_bytes (has_psk v.pattern) v.state (tokens_now v) z k.payload; payload = k.payload } ∷ from (after_own v z k.payload) ps in
       ap on (sym is) ∙ ap (λ (z : List ℕ). record { message = z; payload = k.payload } ∷ from (after_own v c k.payload) ps) (sym writes.spelled)
 
   -- one message more, of the first
@@ -172,13 +172,13 @@ module _ (laws : Laws) (showing : Showing) (m : KeyMaterial) where
   told v w _ _ _ _ _ _ valid h b (silent _) (silent _) f g = told-none v w
   told v w _ end _ _ _ _ valid h b (silent _) (hears _ _ d k us xs accepts more) f g = absurd (no-front k xs f)
   told v w _ end _ _ _ _ valid h b (silent _) (speaks _ _ d k us xs writes more) f g =
-      let a = ahead w end d k us xs writes.speaks more f in
+      let a = ahead w d k end us xs writes.speaks more f in
       let back : Counterparts w v = laws.turned v w h in
       told-back w v (k ∷ us) [] back
       (subst (λ (z : List Passed). Told w v (k ∷ z) []) (sym a.no_more)
       (told-more w v v k d [] [] back b.right writes refl (told-none (after_own w d k.payload) v)))
   told v w last _ _ _ _ _ valid h b (speaks _ _ c k ws rs writes more) (silent _) f g =
-      let a = ahead v last c k ws rs writes.speaks more g in
+      let a = ahead v c k last ws rs writes.speaks more g in
       subst (λ (z : List Passed). Told v w (k ∷ z) []) (sym a.no_more)
       (told-more v w w k c [] [] h b.left writes refl (told-none (after_own v c k.payload) w))
   told v w last end _ _ _ _ valid h b (speaks _ _ c k ws rs writes more) (speaks _ _ d j us xs other-writes more2) f g =

@@ -38,11 +38,11 @@ begun_cipher mark discarded key =
 -- responder's (7.4)
 abbrev pub sending_cipher : Party → NoiseCipher
 sending_cipher v = begun_cipher SENDING_CIPHER (is_one_way v.pattern && same_role v.role Responder)
-    (split_key v.history v.role)
+    (split_key v.state v.role)
 
 abbrev pub receiving_cipher : Party → NoiseCipher
 receiving_cipher v = begun_cipher RECEIVING_CIPHER (is_one_way v.pattern && same_role v.role Initiator)
-    (split_key v.history (other v.role))
+    (split_key v.state (other v.role))
 
 -- the number of encryption, by the lengths of the associated data, of the text and of what there is room for
 abbrev pub encrypt_code : NoiseCipher → ℕ → ℕ → ℕ → ℕ

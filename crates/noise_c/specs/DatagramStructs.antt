@@ -56,7 +56,7 @@ datagram_sender_seal_code k payload room =
 -- the datagram is the next one that is sealed, of this payload
 abbrev pub SealsDatagram : NoiseDatagramSender → NoiseDatagramSender → List ℕ → List ℕ → Type 0
 SealsDatagram old new payload bytes = (v : DatagramState) → DatagramSenderMatches (datagram_sender_from_c old) v
-    → (bytes ≡ datagram v.history v.role v.sent payload)
+    → (bytes ≡ datagram v.state v.role v.sent payload)
     × DatagramSenderMatches (datagram_sender_from_c new) (record v { sent = v.sent + 1 })
 
 -- A payload of n bytes is sealed into the first bytes of a buffer, or what is wrong is the number.

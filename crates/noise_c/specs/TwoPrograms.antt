@@ -128,7 +128,7 @@ those_by role n (m ∷ ms) =
 abbrev pub transcript_of : Plan → Program → Program → List (List ℕ) → List Passed
 transcript_of p g h payloads =
     map (λ m. record { message = m.message; payload = m.payload })
-    (conversation (material_of (start_by g) (start_by h)) p 0 g.secrets.psks (begun_as p Initiator (start_by g)).history
+    (conversation (material_of (start_by g) (start_by h)) p 0 g.secrets.psks (begun_as p Initiator (start_by g)).state
     payloads)
 
 -- Each half of one party is the counterpart of the other's: it has the same key, nonce and interval, and the other

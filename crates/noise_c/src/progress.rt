@@ -1,7 +1,6 @@
 //! Exports: what a handshake reports of itself.
 
 ghost use Rattle.std.specs.Prelude.{◌≡◌};
-ghost use Rattle.noise_state.specs.History.{hash};
 ghost use Rattle.noise_c.specs.HandshakeStructs.{key_from_c, key_to_c, handshake_from_c, ForPattern, ForParty, IsQuery, IsUsable, ReportsMessageLen, ReportsStage};
 
 use crate::codes::numbers::{NOT_DUE, OK, STRUCT};
@@ -30,7 +29,7 @@ pub extern "C" fn noise_message_len(
 pub extern "C" fn noise_hash(handshake: &NoiseHandshake, out: &mut [u8; 32]) -> u32
     ensures code { IsQuery (IsUsable handshake.now) result (out.new ≡ out.old) }
     ensures value { result ≡ OK → out.new ≡ handshake.now.hash }
-    ensures hash { result ≡ OK → ForParty handshake.now (λ _ v. out.new ≡ hash v.history) }
+    ensures hash { result ≡ OK → ForParty handshake.now (λ _ v. out.new ≡ v.state.hash) }
 {
     if handshake_from_c(handshake).is_none() {
         return STRUCT;

@@ -5,6 +5,7 @@ use Rattle.noise_names.specs.Plan.{Plan, is_one_way}
 use Rattle.noise_names.specs.Tokens.{other}
 use Rattle.noise_handshake.specs.Party.{Party}
 use Rattle.noise_handshake.specs.Matching.{after_message, after_own}
+use Rattle.noise_state.specs.History.{state_of_history}
 use Rattle.noise_session.specs.TransportValue.{TransportState, transport_of}
 use Rattle.noise_session.specs.Transport.{last_nonce}
 use Rattle.noise_channel.specs.Streams.{Direction, incoming, outgoing}
@@ -16,7 +17,7 @@ use Rattle.noise_channel.specs.Runs.{StreamReceiverRun, PrefixOrForged}
 use Rattle.noise_channel.specs.Agreement.{EndAlike, IsWholeOrForged}
 use Rattle.noise_channel.specs.Finished.{FinishedIsOne, ForgedOrTwice, HaveFinished}
 use Rattle.noise_duel.specs.Agreement.{KeysReport}
-use Rattle.noise_duel.specs.Histories.{PartiesClash}
+use Rattle.noise_duel.specs.Histories.{ExchangedHasHistory, PartiesClash, history_of}
 use Rattle.noise_duel.specs.Messages.{HandshakeMessage, Exchanged, Start, begun_as}
 use Rattle.noise_duel.specs.Messages.Exchanged.{none, wrote, took}
 
@@ -31,7 +32,7 @@ passes-role v w ps (wrote _ _ p more writes rest) = passes-role (after_own v p.c
 passes-role v w ps (took _ _ p more accepts rest) = passes-role (after_message v p.carried p.payload) w more rest
 
 module _
-    (directions : (v w : TransportState) → w.role ≡ other v.role → w.history ≡ v.history → w.interval ≡ v.interval → w.one_way ≡ v.one_way
+    (directions : (v w : TransportState) → w.role ≡ other v.role → w.state ≡ v.state → w.interval ≡ v.interval → w.one_way ≡ v.one_way
     → (outgoing v ≡ incoming w) × (outgoing w ≡ incoming v))
     (prefix : (d : Direction) (n : ℕ) (calls : List Call) (u : StreamSenderState) (came left : List ℕ) (out : List (List ℕ)) (t : StreamReceiverState) → n < last_nonce
     → WritesAll d (Speaks n) calls u → StreamReceiverRun d (Listens n) [] came out t left → PrefixOrForged d n (payloads_written calls) (has_ended u) came out t) where
@@ -40,34 +41,37 @@ module _
       prefix (outgoing v) 0 calls u came left out t (omega arith) all
       (subst (λ (d : Direction). StreamReceiverRun d (Listens 0) [] came out t left) (sym same) run)
 
-  pub one-agrees : (p : Plan) (a b : Start) (ps qs : List HandshakeMessage) (v w : Party) (interval : ℕ) → Exchanged (begun_as p Initiator a) ps v
-      → Exchanged (begun_as p Responder b) qs w → v.history ≡ w.history
+  pub one-agrees : ExchangedHasHistory → (p : Plan) (a b : Start) (ps qs : List HandshakeMessage) (v w : Party) (interval : ℕ)
+      → Exchanged (begun_as p Initiator a) ps v → Exchanged (begun_as p Responder b) qs w
+      → history_of p Initiator a ps ≡ history_of p Responder b qs
       → IsWholeOrForged (transport_of v interval) (transport_of w interval) × IsWholeOrForged (transport_of w interval) (transport_of v interval)
-  one-agrees p a b ps qs v w interval there back one =
+  one-agrees follows p a b ps qs v w interval there back one =
       let initiator : v.role ≡ Initiator = passes-role (begun_as p Initiator a) v ps there in
       let responder : w.role ≡ Responder = passes-role (begun_as p Responder b) w qs back in
       let role : w.role ≡ other v.role = responder ∙ ap other (sym initiator) in
       let pattern : w.pattern ≡ v.pattern =
       passes-pattern (begun_as p Responder b) w qs back ∙ sym (passes-pattern (begun_as p Initiator a) v ps there) in
-      let both = directions (transport_of v interval) (transport_of w interval) role (sym one) refl (ap is_one_way pattern) in (
+      let state : w.state ≡ v.state =
+      follows p Responder b qs w back ∙ sym (follows p Initiator a ps v there ∙ ap state_of_history one) in
+      let both = directions (transport_of v interval) (transport_of w interval) role state refl (ap is_one_way pattern) in (
         reads-whole (transport_of v interval) (transport_of w interval) both.0,
         reads-whole (transport_of w interval) (transport_of v interval) both.1,
       )
 
-  pub channel-agrees : KeysReport → (p : Plan) (a b : Start) (ps qs : List HandshakeMessage) (v w : Party) (interval : ℕ) → EndAlike p a b ps qs v w
+  pub channel-agrees : ExchangedHasHistory → KeysReport → (p : Plan) (a b : Start) (ps qs : List HandshakeMessage) (v w : Party) (interval : ℕ) → EndAlike p a b ps qs v w
       → (IsWholeOrForged (transport_of v interval) (transport_of w interval) × IsWholeOrForged (transport_of w interval) (transport_of v interval))
       ⊎ PartiesClash p a b ps qs
-  channel-agrees report p a b ps qs v w interval h =
+  channel-agrees follows report p a b ps qs v w interval h =
       elim (report p a b ps qs v w h.initiator h.responder h.wrote_and_took h.took_and_wrote h.passed h.hashes h.psks h.keys) [
-        | inl one ↦ inl (one-agrees p a b ps qs v w interval h.wrote_and_took h.took_and_wrote one.1)
+        | inl one ↦ inl (one-agrees follows p a b ps qs v w interval h.wrote_and_took h.took_and_wrote one.1)
         | inr clash_there ↦ inr clash_there
       ]
 
-  pub finished-agree : FinishedIsOne → (p : Plan) (a b : Start) (ps qs : List HandshakeMessage) (v w : Party) (interval : ℕ) → HaveFinished p a b ps qs v w
+  pub finished-agree : ExchangedHasHistory → FinishedIsOne → (p : Plan) (a b : Start) (ps qs : List HandshakeMessage) (v w : Party) (interval : ℕ) → HaveFinished p a b ps qs v w
       → (IsWholeOrForged (transport_of v interval) (transport_of w interval) × IsWholeOrForged (transport_of w interval) (transport_of v interval))
       ⊎ ForgedOrTwice p a b ps qs
-  finished-agree finished p a b ps qs v w interval h =
+  finished-agree follows finished p a b ps qs v w interval h =
       elim (finished p a b ps qs v w h) [
-        | inl one ↦ inl (one-agrees p a b ps qs v w interval h.wrote_and_took h.took_and_wrote one.1)
+        | inl one ↦ inl (one-agrees follows p a b ps qs v w interval h.wrote_and_took h.took_and_wrote one.1)
         | inr forged ↦ inr forged
       ]

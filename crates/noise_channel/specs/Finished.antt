@@ -3,7 +3,7 @@ use Rattle.std.specs.Prelude.{◌≡◌, ◌≢◌, ◌⊎◌, ◌≤◌, ◌+�
 use Rattle.noise_names.specs.declared.token.Role.TheVariants.{Initiator, Responder}
 use Rattle.noise_names.specs.Plan.{Plan}
 use Rattle.noise_aead.specs.Sealing.{sealed, nonce_of}
-use Rattle.noise_state.specs.History.{History, Ciphertext, and_then, cipher_key, hash, nonce}
+use Rattle.noise_state.specs.History.{History, Ciphertext, and_then, state_of_history}
 use Rattle.noise_handshake.specs.Party.{Party}
 use Rattle.noise_duel.specs.Agreement.{IsSetUp, KeysAgree}
 use Rattle.noise_duel.specs.Histories.{PartiesClash, history_of}
@@ -22,7 +22,7 @@ pub record HaveFinished (p : Plan) (a b : Start) (ps qs : List HandshakeMessage)
   pub some : 1 ≤ length p.messages
   pub passed : v.passed ≡ length p.messages
   pub passed_too : w.passed ≡ length p.messages
-  pub keyed : is_some (cipher_key v.history) ≡ true
+  pub keyed : is_some v.state.cipher.key ≡ true
 
 -- Of the messages at one place one party wrote the first, and the other accepted the second in place of it, or the
 -- other way round: it is forged.
@@ -38,16 +38,16 @@ pub record LastSealed (r : History) (text : List ℕ) : Type 0 where
   pub before : History
   pub last : r ≡ and_then before (Ciphertext text)
   pub key : List ℕ
-  pub key_is : cipher_key before ≡ Some key
+  pub key_is : (state_of_history before).cipher.key ≡ Some key
   pub payload : List ℕ
-  pub sealed_is : text ≡ sealed key (nonce_of (nonce before)) (hash before) payload
+  pub sealed_is : text ≡ sealed key (nonce_of (state_of_history before).cipher.nonce) (state_of_history before).hash payload
 
 -- One sealed text, the last of two histories, opens in both, under two hashes: each with its key and its nonce.
 pub record OpensTwice (r s : History) : Type 0 where
   pub text : List ℕ
   pub left : LastSealed r text
   pub right : LastSealed s text
-  pub differ : hash left.before ≢ hash right.before
+  pub differ : (state_of_history left.before).hash ≢ (state_of_history right.before).hash
 
 -- what stands in place of one history, of two parties that began so and exchanged these messages: at the last place a
 -- message was forged, or its last text opens twice, or two hashed texts clash
@@ -59,4 +59,4 @@ ForgedOrTwice p a b ps qs =
 -- Two parties that have finished have all of the conversation in common, what travelled encrypted too, and one history.
 abbrev pub FinishedIsOne : Type 0
 FinishedIsOne = (p : Plan) (a b : Start) (ps qs : List HandshakeMessage) (v w : Party) → HaveFinished p a b ps qs v w
-    → ((ps ≡ qs) × (v.history ≡ w.history)) ⊎ ForgedOrTwice p a b ps qs
+    → ((ps ≡ qs) × (history_of p Initiator a ps ≡ history_of p Responder b qs)) ⊎ ForgedOrTwice p a b ps qs

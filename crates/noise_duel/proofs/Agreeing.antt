@@ -1,7 +1,7 @@
 -- Keys that agree give the same DH results, token by token.
 use Rattle.std.proofs.Common.{rules, ◌≡◌, ℕ, ◌+◌, List, ◌∷◌, drop, count_by, refl, ap, sym, subst, ◌∙◌, []}
 use Rattle.std.specs.Prelude.{Bool, true, false, Option, Some}
-use Rattle.noise_duel.proofs.Common.{not, Role, Initiator, Responder, Token, E, S, Ee, Es, Se, Ss, Psk, is_psk, same_role, turn_from, other, Plan, has_psk, History, ciphertext, ciphertext-same, Own, Ephemeral, Static, Remote, token_bytes, after_token, after_tokens, after_payload, Party, Reader, Fit, Fits, reader, known_after, remote_after, psks_after, tokens_at, tokens_now, dh_result_of, own_at, remote_at, Writer, Given, Gives, after_own, after_message, HandshakeMessage, Exchanged, Start, none, wrote, took, KeysAgree, Knows, same_role-other, cons-same}
+use Rattle.noise_duel.proofs.Common.{not, Role, Initiator, Responder, Token, E, S, Ee, Es, Se, Ss, Psk, is_psk, same_role, turn_from, other, Plan, has_psk, SymmetricState, ciphertext, ciphertext-same, Own, Ephemeral, Static, Remote, token_bytes, after_token, after_tokens, after_payload, Party, Reader, Fit, Fits, reader, known_after, remote_after, psks_after, tokens_at, tokens_now, dh_result_of, own_at, remote_at, Writer, Given, Gives, after_own, after_message, HandshakeMessage, Exchanged, Start, none, wrote, took, KeysAgree, Knows, same_role-other, cons-same}
 use Rattle.noise_duel.proofs.HashedTexts.{Alike}
 use Rattle.noise_duel.proofs.HashedMessages.{AreMessages, AllAlike}
 use Rattle.noise_duel.proofs.Forward.{PskAt, PsksFit, UsePsks, message-same}
@@ -107,7 +107,7 @@ module _ (a b : Start) (agrees : KeysAgree a b) where
   dh-same x y _ _ s t f g h i = cc
 
   module _ (has_psks : Bool) where
-    text-same : (mine : Bool) (ka kb : Remote) (psks : List (List ℕ)) (r : History) (t : Token) (x y : List ℕ) → Knows ka b.own → Knows kb a.own
+    text-same : (mine : Bool) (ka kb : Remote) (psks : List (List ℕ)) (r : SymmetricState) (t : Token) (x y : List ℕ) → Knows ka b.own → Knows kb a.own
         → UsesAt mine Initiator a.own a.agree ka t x → UsesAt (not mine) Responder b.own b.agree kb t y → PskAt psks t x → PskAt psks t y
         → token_bytes r t x ≡ token_bytes r t y → x ≡ y
     text-same mine ka kb psks r E x y f g u w m n e = e
@@ -136,7 +136,7 @@ module _ (a b : Start) (agrees : KeysAgree a b) where
     wider true ka kb t ts x y xs ys e h = record { texts = cons-same e h.texts; left = h.left; right = h.right }
     wider false ka kb t ts x y xs ys e h = record { texts = cons-same e h.texts; left = h.left; right = h.right }
 
-    front-agree : (mine : Bool) (ka kb : Remote) (psks : List (List ℕ)) (r : History) (ts : List Token) (xs ys : List (List ℕ)) → Knows ka b.own
+    front-agree : (mine : Bool) (ka kb : Remote) (psks : List (List ℕ)) (r : SymmetricState) (ts : List Token) (xs ys : List (List ℕ)) → Knows ka b.own
         → Knows kb a.own
         → Uses mine Initiator a.own a.agree ka ts xs → Uses (not mine) Responder b.own b.agree kb ts ys → PsksFit psks ts xs → PsksFit psks ts ys
         → Alike has_psks r r ts xs ys → Same mine ka kb ts xs ys
@@ -161,7 +161,7 @@ module _ (a b : Start) (agrees : KeysAgree a b) where
         knows.1 u.1 w.1 m.1 n.1
         (subst (λ (z : List ℕ). Alike has_psks (after_token has_psks r t x) (after_token has_psks r t z) ts xs ys) (sym e) h.1))
 
-  pub all-agree : (p : Plan) (n : ℕ) (ka kb : Remote) (psks : List (List ℕ)) (r : History) (ps qs : List HandshakeMessage) → Knows ka b.own → Knows kb a.own
+  pub all-agree : (p : Plan) (n : ℕ) (ka kb : Remote) (psks : List (List ℕ)) (r : SymmetricState) (ps qs : List HandshakeMessage) → Knows ka b.own → Knows kb a.own
       → UsesAll p Initiator a.own a.agree n ka ps → UsesAll p Responder b.own b.agree n kb qs → UsePsks p n psks ps → UsePsks p n psks qs
       → AreMessages p n r ps → AreMessages p n r qs → AllAlike p n r r ps qs → ps ≡ qs
   all-agree p n ka kb psks r [] [] f g u w m k c d h = refl
@@ -181,6 +181,6 @@ module _ (a b : Start) (agrees : KeysAgree a b) where
       (all-agree p (n + 1) (known_after_all mine ka ts x.carried) (known_after_all (not mine) kb ts y.carried) (drop (count_by is_psk ts) psks)
       (after_payload (has_psk p) r ts x.carried x.payload) xs ys
       here.left here.right u.1 turned.1 m.1 k.1 c.1
-      (subst (λ (s : History). AreMessages p (n + 1) s ys) (sym after) d.1)
-      (subst (λ (s : History). AllAlike p (n + 1) (after_payload (has_psk p) r ts x.carried x.payload) s xs ys) (sym after) h.1))
+      (subst (λ (s : SymmetricState). AreMessages p (n + 1) s ys) (sym after) d.1)
+      (subst (λ (s : SymmetricState). AllAlike p (n + 1) (after_payload (has_psk p) r ts x.carried x.payload) s xs ys) (sym after) h.1))
   all-agree p n ka kb psks r _ _ f g u w m k c d h = absurd h

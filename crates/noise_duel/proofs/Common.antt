@@ -14,7 +14,7 @@ pub use Rattle.noise_handshake.specs.Matching.{after_message, after_own}
 pub use Rattle.noise_handshake.specs.Message.{after_payload, after_token, after_tokens, before_payload, message_bytes, token_bytes, with_ephemeral}
 pub use Rattle.noise_handshake.specs.Party.{Accepts, Fit, Fits, Listens, Party, Reader, Speaks, dh_result_of, first_psk, known_after, other_psks, own_at, psks_after, reader, remote_after, remote_at, start, tokens_at, tokens_now, with_premessage}
 pub use Rattle.noise_handshake.specs.Passed.{passed_places}
-pub use Rattle.noise_handshake.specs.Setup.{has_before, has_token, party_at_start, psks_of, public_keys, token_of}
+pub use Rattle.noise_handshake.specs.Setup.{keys_of, has_before, has_token, party_at_start, psks_of, public_keys, token_of}
 pub use Rattle.noise_handshake.specs.Writing.{Given, Gives, LacksDhResult, Writer, Writes, writer}
 pub use Rattle.noise_handshake.specs.declared.remote.Remote.{Remote}
 pub use Rattle.noise_keys.specs.declared.keys.Own.{Own}
@@ -44,12 +44,15 @@ pub use Rattle.noise_session.specs.Taking.Judges.{accepted, dropped, exhausted}
 pub use Rattle.noise_session.specs.Transport.{last_nonce, rekeys, split_key, transport_message}
 pub use Rattle.noise_session.specs.declared.faults.SendFault.{SendFault}
 pub use Rattle.noise_state.specs.Ciphertexts.{ciphertext-same, length-ciphertext}
-pub use Rattle.noise_state.specs.History.{Ciphertext, History, MixHash, MixKey, MixKeyAndHash, and_then, chaining_key, chaining_key_of, cipher_key, ciphertext, ciphertext_under, hash, hash_of, nonce, rekeyed_times, start_value}
+pub use Rattle.noise_state.specs.declared.symmetric.SymmetricState.{SymmetricState}
+pub use Rattle.noise_state.specs.History.{Ciphertext, History, MixHash, MixKey, MixKeyAndHash, and_then, chaining_key_of, hash_of, state_of_history}
+pub use Rattle.noise_state.specs.Symmetric.{ciphertext, start_value}
+pub use Rattle.noise_state.specs.Cipher.{ciphertext_under, rekeyed_times}
 pub use Rattle.noise_duel.specs.Agreement.{HashReports, IsSetUp, KeysAgree, KeysReport, KnowEachOther, Knows, PsksReport, VisiblyEqual, VisiblyEqualIsOne}
 pub use Rattle.noise_duel.specs.Below.{LawsBelow}
 pub use Rattle.noise_duel.specs.HashedTexts.{ClashAt, TextsClashAt, hash_texts, hash_texts_of, hashed, hashed_of}
-pub use Rattle.noise_duel.specs.Histories.{ExchangedHasHistory, PartiesClash, after_all, history_of}
-pub use Rattle.noise_duel.specs.Conversation.{ComeThrough, HaveParts, InTurn, IsPart, KeyMaterial, MessagesComeThrough, MessagesLeave, MessagesRun, after_conversation, carried_by, conversation, end_after, frames_by, history_in, in_turn, messages_by, notes_of_messages, payloads_in, public_keys_in, say_events, sides_at_start, start_in, transport_messages_of}
+pub use Rattle.noise_duel.specs.Histories.{ExchangedHasHistory, PartiesClash, history_after, history_after_payload, history_after_token, history_after_tokens, history_at_start, history_of, history_with_ephemeral, history_with_premessage}
+pub use Rattle.noise_duel.specs.Conversation.{ComeThrough, HaveParts, InTurn, IsPart, KeyMaterial, MessagesComeThrough, MessagesLeave, MessagesRun, after_conversation, carried_by, conversation, end_after, frames_by, state_after_lines, in_turn, messages_by, notes_of_messages, payloads_in, public_keys_in, say_events, sides_at_start, start_in, transport_messages_of}
 pub use Rattle.noise_duel.specs.DatagramNotes.{DatagramNote, Rejected, SealFault, Sealed}
 pub use Rattle.noise_duel.specs.DatagramReports.{DatagramDuelMatches, DatagramDuelValue, DatagramReports, datagram_note_of, datagram_notes_of}
 pub use Rattle.noise_duel.specs.DatagramRuns.{DatagramHappens, DatagramRun, DatagramRunOnce, PartyOpens, PartySeals}
@@ -60,9 +63,9 @@ pub use Rattle.noise_duel.specs.DatagramSides.{DatagramSide, DatagramSides, Nonc
 pub use Rattle.noise_duel.specs.DuelValue.{DuelMatches, DuelValue, HasFrames, both_sides}
 pub use Rattle.noise_duel.specs.Entries.{note_of, notes_of, step_of, written_note}
 pub use Rattle.noise_duel.specs.Invariant.{AreTransportMessages, ComesOfMessages, EndsComeOfMessages}
-pub use Rattle.noise_duel.specs.Messages.{Exchanged, HandshakeMessage, OneEach, Start, begun_as, clear_keys, clear_keys_from, dh_results, dh_results_from, keys_before, messages_of, pre_keys}
+pub use Rattle.noise_duel.specs.Messages.{Exchanged, HandshakeMessage, HaveSameKeysBefore, OneEach, Start, begun_as, clear_keys, clear_keys_from, dh_results, dh_results_from, keys_before, messages_of, pre_keys}
 pub use Rattle.noise_duel.specs.Messages.Exchanged.{none, took, wrote}
-pub use Rattle.noise_duel.specs.Networks.{HashesReport, HaveOneHash, HaveOneHistory, HaveClash, PayloadsAgree, PayloadsCome, PsksMakeOne, SharePsks, VisiblyEqualGivesOne}
+pub use Rattle.noise_duel.specs.Networks.{HashesReport, HaveOneHash, HaveOneHistory, HaveClash, PayloadsAgree, PayloadsCome, PsksMakeOne, SharePsks, UsedSamePsks, VisiblyEqualGivesOne}
 pub use Rattle.noise_duel.specs.Notes.{Judged, Left, Missing, Note, WriteFault, Wrote, held_note, left_note, noted_by}
 pub use Rattle.noise_duel.specs.OneDatagram.{DatagramHappened, DatagramsHaveComeTo, HasFound, HasOpened, HasSealed, SealedMatch}
 pub use Rattle.noise_duel.specs.OneEvent.{HasComeTo, HasHappened, HasDelivered, RoleWrote}

@@ -1,9 +1,9 @@
 -- Conversations that are the same as far as they can be seen, with the same psks and DH results, are one.
 use Rattle.std.proofs.Common.{rules, ◌≡◌, ℕ, ◌+◌, List, ◌∷◌, ◌++◌, length, drop, count_by, refl, ap, sym, subst, ◌∙◌, append_assoc, []}
 use Rattle.std.specs.Prelude.{Bool, if◌then◌else◌}
-use Rattle.noise_duel.proofs.Common.{after_all, is_some, Initiator, Responder, Token, E, S, Psk, is_psk, Plan, has_psk, pre_of, name_bytes, History, MixHash, and_then, cipher_key, ciphertext, length-ciphertext, ciphertext-same, token_bytes, after_token, before_payload, after_tokens, after_payload, Carry, Carries, Party, psks_after, tokens_at, with_premessage, after_own, after_message, public_keys, LawsBelow, HandshakeMessage, Exchanged, begun_as, dh_results, dh_results_from, messages_of, none, wrote, took, VisiblyEqualIsOne, heads, tails, split-apart, cons-same}
+use Rattle.noise_duel.proofs.Common.{is_some, Initiator, Responder, Token, E, S, Psk, is_psk, Plan, has_psk, name_bytes, SymmetricState, ciphertext, length-ciphertext, ciphertext-same, token_bytes, after_token, before_payload, after_tokens, after_payload, Carry, Carries, Party, psks_after, tokens_at, after_own, after_message, public_keys, LawsBelow, HandshakeMessage, Exchanged, begun_as, dh_results, dh_results_from, messages_of, none, wrote, took, VisiblyEqualIsOne, heads, tails, split-apart, cons-same, History, history_at_start}
 use Rattle.noise_duel.proofs.HashedMessages.{AreMessages, passes-messages}
-use Rattle.noise_duel.proofs.Forward.{PskAt, PsksFit, UsePsks, passes-psks, message-same, pre-same}
+use Rattle.noise_duel.proofs.Forward.{PskAt, PsksFit, UsePsks, passes-psks, message-same, one-history, starts-one, states-one}
 
 -- each message carries keys of 32 bytes
 abbrev pub AllCarry : Plan → ℕ → List HandshakeMessage → Type 0
@@ -15,20 +15,20 @@ passes-carry laws v w [] (none _) = tt
 passes-carry laws v w (p ∷ ps) (wrote _ _ _ _ here more) = search (rules, (passes-carry laws (after_own v p.carried p.payload) w ps more))
 passes-carry laws v w (p ∷ ps) (took _ _ _ _ here more) = search (rules, (passes-carry laws (after_message v p.carried p.payload) w ps more))
 
-token-equal : (r : History) (psks : List (List ℕ)) (t : Token) (ts : List Token) (x y p q : List ℕ) (xs ys others rest : List (List ℕ)) → Carries t x
+token-equal : (r : SymmetricState) (psks : List (List ℕ)) (t : Token) (ts : List Token) (x y p q : List ℕ) (xs ys others rest : List (List ℕ)) → Carries t x
     → Carries t y
     → PskAt psks t x → PskAt psks t y → dh_results (t ∷ ts) (x ∷ xs) ++ others ≡ dh_results (t ∷ ts) (y ∷ ys) ++ rest
     → token_bytes r t x ++ p ≡ token_bytes r t y ++ q → (x ≡ y) × (p ≡ q) × (dh_results ts xs ++ others ≡ dh_results ts ys ++ rest)
 token-equal r psks E ts x y p q xs ys others rest c d f g h e = let z = split-apart x y p q (c ∙ sym d) e in (z.0, z.1, h)
 token-equal r psks S ts x y p q xs ys others rest c d f g h e =
     let n : length (ciphertext r x) ≡ length (ciphertext r y) =
-    length-ciphertext r x ∙ ap (λ (k : ℕ). if is_some (cipher_key r) then k + 16 else k) (c ∙ sym d) ∙ sym (length-ciphertext r y) in
+    length-ciphertext r x ∙ ap (λ (k : ℕ). if is_some r.cipher.key then k + 16 else k) (c ∙ sym d) ∙ sym (length-ciphertext r y) in
     let z = split-apart (ciphertext r x) (ciphertext r y) p q n e in
     (ciphertext-same r x y z.0, z.1, h)
 token-equal r psks Psk ts x y p q xs ys others rest c d f g h e = (f ∙ sym g, e, h)
 token-equal r psks _ ts x y p q xs ys others rest c d f g h e = (heads x y _ _ h, e, tails x y _ _ h)
 
-front-equal : (has_psks : Bool) (r : History) (psks : List (List ℕ)) (ts : List Token) (xs ys : List (List ℕ)) (p q : List ℕ) (others rest : List (List ℕ))
+front-equal : (has_psks : Bool) (r : SymmetricState) (psks : List (List ℕ)) (ts : List Token) (xs ys : List (List ℕ)) (p q : List ℕ) (others rest : List (List ℕ))
     → Carry ts xs → Carry ts ys
     → PsksFit psks ts xs → PsksFit psks ts ys → dh_results ts xs ++ others ≡ dh_results ts ys ++ rest
     → before_payload has_psks r ts xs ++ p ≡ before_payload has_psks r ts ys ++ q → (xs ≡ ys) × (p ≡ q) × (others ≡ rest)
@@ -45,7 +45,7 @@ front-equal has_psks r psks (t ∷ ts) (x ∷ xs) (y ∷ ys) p q others rest c d
     (cons-same here.0 later.0, later.1, later.2)
 front-equal has_psks r psks _ _ _ p q others rest c d f g h e = absurd d
 
-all-equal : (p : Plan) (n : ℕ) (r : History) (psks : List (List ℕ)) (ps qs : List HandshakeMessage) → messages_of ps ≡ messages_of qs → AllCarry p n ps
+all-equal : (p : Plan) (n : ℕ) (r : SymmetricState) (psks : List (List ℕ)) (ps qs : List HandshakeMessage) → messages_of ps ≡ messages_of qs → AllCarry p n ps
     → AllCarry p n qs
     → AreMessages p n r ps → AreMessages p n r qs → UsePsks p n psks ps → UsePsks p n psks qs → dh_results_from p n ps ≡ dh_results_from p n qs → ps ≡ qs
 all-equal p n r psks [] [] a k l b c f g h = refl
@@ -63,26 +63,24 @@ all-equal p n r psks (m ∷ ms) (q ∷ qs) a k l b c f g h =
     cons-same one
     (all-equal p (n + 1) (after_payload (has_psk p) r ts m.carried m.payload) (drop (count_by is_psk ts) psks) ms qs
     (tails m.message q.message (messages_of ms) (messages_of qs) a) k.1 l.1 b.1
-    (subst (λ (s : History). AreMessages p (n + 1) s qs) (sym after) c.1) f.1 g.1 here.2)
+    (subst (λ (s : SymmetricState). AreMessages p (n + 1) s qs) (sym after) c.1) f.1 g.1 here.2)
 all-equal p n r psks _ _ a k l b c f g h = cc
 
 pub visibly-equal-is-one : LawsBelow → VisiblyEqualIsOne
 visibly-equal-is-one laws p a b ps qs v w left right prologue before messages psks computed =
     let name : List ℕ = name_bytes (record { base = p.base; places = p.places }) in
-    let r0 : History = (begun_as p Initiator a).history in
-    let s0 : History = (begun_as p Responder b).history in
-    let r : History = and_then (record { name = name; entries = [] }) (MixHash a.prologue) in
-    let s : History = and_then (record { name = name; entries = [] }) (MixHash b.prologue) in
-    let first : r0 ≡ s0 =
-    pre-same (has_psk p) a.remote (public_keys b.own) (pre_of Responder p) (with_premessage (has_psk p) (public_keys a.own) (pre_of Initiator p) r)
-    (with_premessage (has_psk p) b.remote (pre_of Initiator p) s)
-    (pre-same (has_psk p) (public_keys a.own) b.remote (pre_of Initiator p) r s
-    (ap (λ (z : List ℕ). and_then (record { name = name; entries = [] }) (MixHash z)) prologue) (before Initiator)) (before Responder) in
+    let r0 : SymmetricState = (begun_as p Initiator a).state in
+    let s0 : SymmetricState = (begun_as p Responder b).state in
+    let left0 : History = history_at_start name p a.prologue (public_keys a.own) a.remote in
+    let right0 : History = history_at_start name p b.prologue b.remote (public_keys b.own) in
+    let begun : left0 ≡ right0 =
+    starts-one name p a.prologue b.prologue (public_keys a.own) a.remote b.remote (public_keys b.own) prologue (before Initiator) (before Responder) in
+    let first : r0 ≡ s0 = states-one name p a.prologue b.prologue (public_keys a.own) a.remote b.remote (public_keys b.own) begun in
     let l = passes-messages (begun_as p Initiator a) v ps left in
     let m = passes-messages (begun_as p Responder b) w qs right in
     let one : ps ≡ qs = all-equal p 0 r0 a.psks ps qs messages
     (passes-carry laws (begun_as p Initiator a) v ps left) (passes-carry laws (begun_as p Responder b) w qs right) l.lines
-    (subst (λ (z : History). AreMessages p 0 z qs) (sym first) m.lines)
+    (subst (λ (z : SymmetricState). AreMessages p 0 z qs) (sym first) m.lines)
     (passes-psks (begun_as p Initiator a) v ps left)
     (subst (λ (z : List (List ℕ)). UsePsks p 0 z qs) (sym psks) (passes-psks (begun_as p Responder b) w qs right)) computed in
-    (one, l.history ∙ ap (λ (z : History). after_all p 0 z ps) first ∙ ap (after_all p 0 s0) one ∙ sym m.history)
+    (one, one-history p left0 right0 ps qs begun one)

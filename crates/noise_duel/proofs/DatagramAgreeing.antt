@@ -1,6 +1,6 @@
 -- Two parties of one handshake agree on their datagrams.
 use Rattle.std.proofs.Common.{rules, ◌≡◌, ◌≢◌, ℕ, zero, suc, ◌+◌, List, ◌∷◌, ◌++◌, length, length-append, Option, Some, None, Ok, slice_get, refl, sym, ◌∙◌, ap, subst, arith, inl, inr, ◌⊎◌, eq-eqb, []}
-use Rattle.noise_duel.proofs.Common.{ne_eqb, eqb_tells, Role, Initiator, Responder, History, Party, transport_message, AreOnce, DatagramState, IsSealed, Opens, datagram_fault, nonce_named, DatagramEvent, DatagramNote, DatagramHappens, DatagramRun, PartyOpens, PartySeals, is_sealed, is_delivered, is_missing, is_put_in, opens, rejects, seals, seals_nothing, DatagramSide, DatagramSides, NonceMessage, at_nonce, new_party, nonces_of, of_nonce, TransportMessage, begun_as, same-or, same_Some}
+use Rattle.noise_duel.proofs.Common.{ne_eqb, eqb_tells, Role, Initiator, Responder, SymmetricState, Party, transport_message, AreOnce, DatagramState, IsSealed, Opens, datagram_fault, nonce_named, DatagramEvent, DatagramNote, DatagramHappens, DatagramRun, PartyOpens, PartySeals, is_sealed, is_delivered, is_missing, is_put_in, opens, rejects, seals, seals_nothing, DatagramSide, DatagramSides, NonceMessage, at_nonce, new_party, nonces_of, of_nonce, TransportMessage, begun_as, same-or, same_Some}
 use Rattle.noise_session.specs.Windows.{is_accepted}
 use Rattle.noise_session.specs.Datagrams.Opens.{opened}
 use Rattle.noise_session.specs.DatagramFaults.{fault-free}
@@ -16,7 +16,7 @@ opened-as : (v : DatagramState) (bytes payload : List ℕ) (w : DatagramState) �
 opened-as v bytes payload w (opened _ _ _ none is) = (none, is)
 
 -- ---- one event
-counted-more : (r : History) (writer : Role) (n : ℕ) (ms : List NonceMessage) (m : NonceMessage) → AreCounted r writer n ms → m.nonce ≡ n + length ms
+counted-more : (r : SymmetricState) (writer : Role) (n : ℕ) (ms : List NonceMessage) (m : NonceMessage) → AreCounted r writer n ms → m.nonce ≡ n + length ms
     → m.message.message ≡ transport_message r writer 0 (n + length ms) m.message.payload → AreCounted r writer n (ms ++ m ∷ [])
 counted-more r writer n [] m h is e = search rules
 counted-more r writer n (x ∷ ms) m h is e =
@@ -26,29 +26,29 @@ counted-more r writer n (x ∷ ms) m h is e =
       counted-more r writer (n + 1) ms m h.2 (is ∙ next) (subst (λ (k : ℕ). m.message.message ≡ transport_message r writer 0 k m.message.payload) next e),
     )
 
-record Holds (role : Role) (r : History) (s : DatagramSide) : Type 0 where
+record Holds (role : Role) (r : SymmetricState) (s : DatagramSide) : Type 0 where
   pub comes : ComesOfDatagrams role r s
   pub once : AreOnce (nonces_of s.opened)
 
-record HoldBoth (r : History) (d : DatagramSides) : Type 0 where
+record HoldBoth (r : SymmetricState) (d : DatagramSides) : Type 0 where
   pub initiator : Holds Initiator r d.initiator
   pub responder : Holds Responder r d.responder
 
-holds-sealed : (role : Role) (r : History) (s : DatagramSide) (payload : List ℕ) (next : DatagramSide) (note : DatagramNote) → PartySeals s payload note next
+holds-sealed : (role : Role) (r : SymmetricState) (s : DatagramSide) (payload : List ℕ) (next : DatagramSide) (note : DatagramNote) → PartySeals s payload note next
     → Holds role r s → Holds role r next
 holds-sealed role r s payload next note (seals_nothing _ _ why e) h = h
 holds-sealed role r s payload next note (seals _ _ e) h =
     let c = h.comes in
-    let message = transport_message s.state.history s.state.role 0 s.state.sent payload in
+    let message = transport_message s.state.state s.state.role 0 s.state.sent payload in
     let m : NonceMessage = at_nonce s.state.sent message payload in
     let same : message ≡ transport_message r role 0 (0 + length s.sealed) payload =
-    ap (λ (q : History). transport_message q s.state.role 0 s.state.sent payload) c.history
+    ap (λ (q : SymmetricState). transport_message q s.state.role 0 s.state.sent payload) c.state
     ∙ ap (λ (q : Role). transport_message r q 0 s.state.sent payload) c.role_is
     ∙ ap (λ (k : ℕ). transport_message r role 0 k payload) (c.sending ∙ omega arith) in
     record {
       comes = record {
         role_is = c.role_is;
-        history = c.history;
+        state = c.state;
         sending = let long = length-append s.sealed (m ∷ []) in let before = c.sending in omega (arith, long, before);
         accepted = c.accepted;
         sealed = counted-more r role 0 s.sealed m c.sealed (c.sending ∙ omega arith) same;
@@ -57,7 +57,7 @@ holds-sealed role r s payload next note (seals _ _ e) h =
       once = h.once;
     }
 
-holds-opened : (role : Role) (r : History) (s : DatagramSide) (bytes : List ℕ) (next : DatagramSide) (note : DatagramNote) → PartyOpens s bytes note next
+holds-opened : (role : Role) (r : SymmetricState) (s : DatagramSide) (bytes : List ℕ) (next : DatagramSide) (note : DatagramNote) → PartyOpens s bytes note next
     → Holds role r s → Holds role r next
 holds-opened role r s bytes next note (rejects _ _ why o) h = h
 holds-opened role r s bytes next note (opens _ _ payload o) h =
@@ -67,7 +67,7 @@ holds-opened role r s bytes next note (opens _ _ payload o) h =
     record {
       comes = record {
         role_is = c.role_is;
-        history = c.history;
+        state = c.state;
         sending = c.sending;
         accepted = ap (λ (ns : List ℕ). n ∷ ns) c.accepted;
         sealed = c.sealed;
@@ -76,7 +76,7 @@ holds-opened role r s bytes next note (opens _ _ payload o) h =
       once = (ap (λ (ns : List ℕ). is_accepted ns n) (sym c.accepted) ∙ (fault-free s.state bytes is.0).fresh, h.once);
     }
 
-hold-happened : (r : History) (d next : DatagramSides) (event : DatagramEvent) (note : Role × DatagramNote) → DatagramHappens d event note next
+hold-happened : (r : SymmetricState) (d next : DatagramSides) (event : DatagramEvent) (note : Role × DatagramNote) → DatagramHappens d event note next
     → HoldBoth r d → HoldBoth r next
 hold-happened r d next event note (is_sealed _ Initiator payload reported s p) h =
     record { initiator = holds-sealed Initiator r d.initiator payload s reported p h.initiator; responder = h.responder }
@@ -92,7 +92,7 @@ hold-happened r d next event note (is_put_in _ Initiator bytes reported s p) h =
 hold-happened r d next event note (is_put_in _ Responder bytes reported s p) h =
     record { initiator = h.initiator; responder = holds-opened Responder r d.responder bytes s reported p h.responder }
 
-hold-run : (r : History) (d last : DatagramSides) (events : List DatagramEvent) (notes : List (Role × DatagramNote)) → DatagramRun d events notes last
+hold-run : (r : SymmetricState) (d last : DatagramSides) (events : List DatagramEvent) (notes : List (Role × DatagramNote)) → DatagramRun d events notes last
     → HoldBoth r d → HoldBoth r last
 hold-run r d last events notes (ends _) h = h
 hold-run r d last events notes (begins _ next _ event more note rest now run) h =
@@ -117,7 +117,7 @@ first-of m ms n e = rw (eq-eqb m.nonce n e) refl
 later-of : (m : NonceMessage) (ms : List NonceMessage) (n : ℕ) → m.nonce ≢ n → of_nonce (m ∷ ms) n ≡ of_nonce ms n
 later-of m ms n e = rw (ne_eqb m.nonce n e) refl
 
-module _ (r : History) (writer : Role) where
+module _ (r : SymmetricState) (writer : Role) where
   -- of a writer's messages from nonce n on, that of nonce n + k has the number k
   counted-at : (n k : ℕ) (ms : List NonceMessage) (w : TransportMessage) → AreCounted r writer n ms → of_nonce ms (n + k) ≡ Some w
       → (slice_get ms k ≡ Some (record { nonce = n + k; message = w })) × (w.message ≡ transport_message r writer 0 (n + k) w.payload)
@@ -176,18 +176,18 @@ module _ (r : History) (writer : Role) where
           ]
 
 -- ---- the run
-starts : (role : Role) (v : DatagramState) → v.role ≡ role → v.sent ≡ 0 → v.accepted ≡ [] → (r : History) → v.history ≡ r → Holds role r (new_party v)
+starts : (role : Role) (v : DatagramState) → v.role ≡ role → v.sent ≡ 0 → v.accepted ≡ [] → (r : SymmetricState) → v.state ≡ r → Holds role r (new_party v)
 starts role v is sent none r same = record {
-  comes = record { role_is = is; history = same; sending = sent; accepted = none; sealed = tt; opened = tt };
+  comes = record { role_is = is; state = same; sending = sent; accepted = none; sealed = tt; opened = tt };
   once = tt;
 }
 
 pub datagram-runs-agree : DatagramRunsAgree
 datagram-runs-agree v w events notes last b run =
-    let r = v.history in
+    let r = v.state in
     let h = hold-run r _ last events notes run (record {
       initiator = starts Initiator v b.initiator b.initiator_sent b.initiator_accepted r refl;
-      responder = starts Responder w b.responder b.responder_sent b.responder_accepted r b.history;
+      responder = starts Responder w b.responder b.responder_sent b.responder_accepted r b.state;
     }) in
     record {
       initiator = h.initiator.comes;
@@ -203,7 +203,7 @@ runs-make-one-beginning p a b i j events notes d window run one =
     record {
       initiator = ap (λ (v : Party). v.role) both.0.party ∙ passes-role (begun_as p Initiator a) both.0.last d.initiator.passed both.0.passes;
       responder = ap (λ (v : Party). v.role) both.1.party ∙ passes-role (begun_as p Responder b) both.1.last d.responder.passed both.1.passes;
-      history = sym one.history;
+      state = sym one.state;
       initiator_sent = refl;
       responder_sent = refl;
       initiator_accepted = refl;

@@ -32,13 +32,13 @@ pub fault-in-state : (d : DatagramsValue) (v : DatagramState) (n : ℕ) → Data
 fault-in-state d v n p = rw (p.sender.role, p.sender.one_way, p.sender.nonce) refl
 
 pub seals-as : (s : DatagramSide) (payload bytes : List ℕ) (n : ℕ) → unsealed s.state.role s.state.one_way s.state.sent (length payload) ≡ None
-    → length s.sealed ≡ n → datagram s.state.history s.state.role s.state.sent payload ≡ bytes → PartySeals s payload (Sealed n bytes) (sealing s payload)
+    → length s.sealed ≡ n → datagram s.state.state s.state.role s.state.sent payload ≡ bytes → PartySeals s payload (Sealed n bytes) (sealing s payload)
 seals-as s payload bytes n none number is =
     subst (λ (k : ℕ). PartySeals s payload (Sealed k bytes) (sealing s payload)) number
     (subst (λ (b : List ℕ). PartySeals s payload (Sealed (length s.sealed) b) (sealing s payload)) is (seals s payload none))
 
 pub one-more-in : (s : DatagramSide) (payload : List ℕ)
-    → sealed_datagrams (sealing s payload) ≡ sealed_datagrams s ++ datagram s.state.history s.state.role s.state.sent payload ∷ []
+    → sealed_datagrams (sealing s payload) ≡ sealed_datagrams s ++ datagram s.state.state s.state.role s.state.sent payload ∷ []
 one-more-in s payload = map-append datagram_bytes s.sealed _
 
 pub number-is : (s : DatagramSide) (unchanged : List (Vec ℕ Global)) → bytes_of unchanged ≡ sealed_datagrams s → length s.sealed ≡ length unchanged

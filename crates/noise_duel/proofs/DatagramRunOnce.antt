@@ -21,7 +21,7 @@ not-both p why e = cc
 
 opens-once : (v : DatagramState) (bytes : List ℕ) (w x : DatagramState) (p q : Result (List ℕ) DatagramFault) → Opens v bytes p w → Opens v bytes q x → p ≡ q
 opens-once v bytes w x p q (opened _ _ a none is) (opened _ _ b also be) =
-    ap opens_as (transport_message-same v.history (other v.role) 0 (nonce_named bytes) a b (sym is ∙ be))
+    ap opens_as (transport_message-same v.state (other v.role) 0 (nonce_named bytes) a b (sym is ∙ be))
 opens-once v bytes w x p q (opened _ _ a none is) (forged _ _ also never) = absurd (never a is)
 opens-once v bytes w x p q (refused _ _ why e) (refused _ _ because f) = ap refused_as (same_Some why because (sym e ∙ f))
 opens-once v bytes w x p q (forged _ _ none never) (opened _ _ b also is) = absurd (never b is)

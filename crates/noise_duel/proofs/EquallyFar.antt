@@ -1,7 +1,7 @@
 -- Two ends that have come equally far, and what a line leaves of them.
 use Rattle.std.proofs.Common.{rules, ◌≡◌, ℕ, ◌+◌, ◌<◌, ◌≤◌, List, ◌∷◌, ◌++◌, length, drop, count_by, refl, ap, sym, subst, ◌∙◌, arith, append_assoc, length-append, []}
 use Rattle.std.specs.Prelude.{false}
-use Rattle.noise_duel.proofs.Common.{IsTrue, is_some, Role, Initiator, Responder, other, same_role, turn_from, is_psk, Plan, has_psk, is_one_way, has_key, overhead_of, IsValid, History, cipher_key, Own, Carry, message_bytes, after_payload, passed_places, Party, Speaks, tokens_at, tokens_now, Given, writer, after_own, after_message, Counterparts, counterpart, IsEquipped, LawsBelow, frame, transport_message, last_nonce, HandshakeMessage, TransportMessage, Side, Sides, side, wrote_handshake, accepted_handshake, wrote_transport, accepted_transport, Say, Note, Wrote, Judged, Happens, KeyMaterial, carried_by, transport_messages_of, frames_by, false_from_ne_true, and_left, and_right}
+use Rattle.noise_duel.proofs.Common.{IsTrue, is_some, Role, Initiator, Responder, other, same_role, turn_from, is_psk, Plan, has_psk, is_one_way, has_key, overhead_of, IsValid, SymmetricState, Own, Carry, message_bytes, after_payload, passed_places, Party, Speaks, tokens_at, tokens_now, Given, writer, after_own, after_message, Counterparts, counterpart, IsEquipped, LawsBelow, frame, transport_message, last_nonce, HandshakeMessage, TransportMessage, Side, Sides, side, wrote_handshake, accepted_handshake, wrote_transport, accepted_transport, Say, Note, Wrote, Judged, Happens, KeyMaterial, carried_by, transport_messages_of, frames_by, false_from_ne_true, and_left, and_right}
 use Rattle.noise_session.specs.Steps.StepValue.{Payload}
 use Rattle.noise_duel.proofs.Parts.{HasMaterial, equipped, given-carried, true-dh-result}
 use Rattle.noise_duel.proofs.OneMessage.{say-happens}
@@ -15,7 +15,7 @@ pub record EquallyFar (w : KeyMaterial) (n : ℕ) (d : Sides) : Type 0 where
   pub counterparts : Counterparts d.initiator.state.party d.responder.state.party
   pub mine : HasMaterial w d.initiator.state.party.pattern Initiator d.initiator.state.party.own d.initiator.state.party.agree
   pub theirs : HasMaterial w d.initiator.state.party.pattern Responder d.responder.state.party.own d.responder.state.party.agree
-  pub keyed : is_some (cipher_key d.initiator.state.party.history)
+  pub keyed : is_some d.initiator.state.party.state.cipher.key
       ≡ has_key d.initiator.state.party.pattern (passed_places d.initiator.state.party.pattern d.initiator.state.party.passed)
   pub before : n < length d.initiator.state.party.pattern.messages → d.initiator.state.party.passed ≡ n
   pub beyond : length d.initiator.state.party.pattern.messages ≤ n → d.initiator.state.party.passed ≡ length d.initiator.state.party.pattern.messages
@@ -33,13 +33,13 @@ pub record EquallyFar (w : KeyMaterial) (n : ℕ) (d : Sides) : Type 0 where
 -- the message that is due, by the key material
 abbrev pub due_of : KeyMaterial → Party → List ℕ → HandshakeMessage
 due_of w v payload = record {
-  message = message_bytes (has_psk v.pattern) v.history (tokens_now v) (carried_by w (turn_from Initiator v.passed) v.psks (tokens_now v)) payload;
+  message = message_bytes (has_psk v.pattern) v.state (tokens_now v) (carried_by w (turn_from Initiator v.passed) v.psks (tokens_now v)) payload;
   carried = carried_by w (turn_from Initiator v.passed) v.psks (tokens_now v);
   payload = payload;
 }
 
-abbrev pub after_due : KeyMaterial → Party → List ℕ → History
-after_due w v payload = after_payload (has_psk v.pattern) v.history (tokens_now v) (carried_by w (turn_from Initiator v.passed) v.psks (tokens_now v)) payload
+abbrev pub after_due : KeyMaterial → Party → List ℕ → SymmetricState
+after_due w v payload = after_payload (has_psk v.pattern) v.state (tokens_now v) (carried_by w (turn_from Initiator v.passed) v.psks (tokens_now v)) payload
 
 -- what a line leaves
 pub record AfterSaid (w : KeyMaterial) (n : ℕ) (role : Role) (payload : List ℕ) (d e : Sides) : Type 0 where
@@ -52,7 +52,7 @@ pub record InHandshake (w : KeyMaterial) (payload : List ℕ) (d e : Sides) : Ty
   pub pattern : e.initiator.state.party.pattern ≡ d.initiator.state.party.pattern
   pub count : e.initiator.state.party.passed ≡ d.initiator.state.party.passed + 1
   pub psks : e.initiator.state.party.psks ≡ drop (count_by is_psk (tokens_now d.initiator.state.party)) d.initiator.state.party.psks
-  pub history : e.initiator.state.party.history ≡ after_due w d.initiator.state.party payload
+  pub state : e.initiator.state.party.state ≡ after_due w d.initiator.state.party payload
   pub passed : e.initiator.passed ≡ d.initiator.passed ++ due_of w d.initiator.state.party payload ∷ []
   pub sent : e.initiator.state.sent ≡ d.initiator.state.sent
   pub sent_there : e.responder.state.sent ≡ d.responder.state.sent
@@ -63,16 +63,16 @@ pub record InHandshake (w : KeyMaterial) (payload : List ℕ) (d e : Sides) : Ty
 pub record InTransport (role : Role) (payload : List ℕ) (d e : Sides) : Type 0 where
   pub frames : (r : Role) (lines : List (Role × List ℕ))
       → (side d r).frames ++ frames_by r
-      (transport_messages_of d.initiator.state.party.history d.initiator.state.interval d.initiator.state.sent d.responder.state.sent ((role, payload) ∷ lines))
-      ≡ (side e r).frames ++ frames_by r (transport_messages_of e.initiator.state.party.history e.initiator.state.interval e.initiator.state.sent e.responder.state.sent lines)
+      (transport_messages_of d.initiator.state.party.state d.initiator.state.interval d.initiator.state.sent d.responder.state.sent ((role, payload) ∷ lines))
+      ≡ (side e r).frames ++ frames_by r (transport_messages_of e.initiator.state.party.state e.initiator.state.interval e.initiator.state.sent e.responder.state.sent lines)
   pub party : e.initiator.state.party ≡ d.initiator.state.party
   pub passed : e.initiator.passed ≡ d.initiator.passed
 
 abbrev pub handshake_message : List ℕ → List ℕ → List (List ℕ) → HandshakeMessage
 handshake_message payload message xs = record { message = message; carried = xs; payload = payload }
 
-message-same : (payload m : List ℕ) (xs ys : List (List ℕ)) (v : Party) → xs ≡ ys → m ≡ message_bytes (has_psk v.pattern) v.history (tokens_now v) xs payload
-    → handshake_message payload m xs ≡ handshake_message payload (message_bytes (has_psk v.pattern) v.history (tokens_now v) ys payload) ys
+message-same : (payload m : List ℕ) (xs ys : List (List ℕ)) (v : Party) → xs ≡ ys → m ≡ message_bytes (has_psk v.pattern) v.state (tokens_now v) xs payload
+    → handshake_message payload m xs ≡ handshake_message payload (message_bytes (has_psk v.pattern) v.state (tokens_now v) ys payload) ys
 message-same payload m xs ys v e f = search
 
 -- what a party's message carries is that of the key material
@@ -131,7 +131,7 @@ module _ (laws : LawsBelow) (w : KeyMaterial) (long : (role : Role) (k : Own) �
       let has1 : IsEquipped p Responder u.own u.agree v.own = equipped laws w p a.valid Responder u.own v.own u.agree v.agree long a.theirs a.mine in
       let has2 : IsEquipped p u.role u.own u.agree v.own = subst (λ (r : Role). IsEquipped p r u.own u.agree v.own) (sym role) has1 in
       let has : IsEquipped u.pattern u.role u.own u.agree v.own = search rules in
-      let keyed : is_some (cipher_key u.history) ≡ has_key u.pattern (passed_places u.pattern u.passed) = search rules in
+      let keyed : is_some u.state.cipher.key ≡ has_key u.pattern (passed_places u.pattern u.passed) = search rules in
       let fits : overhead_of u.pattern (u.passed + 1) + length payload ≤ 65535 = search rules in
       step-handshake laws s t payload valid turned has speaks keyed fits a.partial
 
@@ -162,7 +162,7 @@ module _ (laws : LawsBelow) (w : KeyMaterial) (long : (role : Role) (k : Own) �
         counterparts = sp.counterparts;
         mine = a.mine;
         theirs = a.theirs;
-        keyed = laws.keyed_next p v.passed v.history xs payload due carry a.keyed;
+        keyed = laws.keyed_next p v.passed v.state xs payload due carry a.keyed;
         before = λ h. ap (λ (k : ℕ). k + 1) at;
         beyond = λ h. omega (arith, h, more, at);
         partial = a.partial;
@@ -183,7 +183,7 @@ module _ (laws : LawsBelow) (w : KeyMaterial) (long : (role : Role) (k : Own) �
         pattern = refl;
         count = refl;
         psks = refl;
-        history = ap (λ (zs : List (List ℕ)). after_payload (has_psk p) v.history (tokens_now v) zs payload) is;
+        state = ap (λ (zs : List (List ℕ)). after_payload (has_psk p) v.state (tokens_now v) zs payload) is;
         passed = ap (λ (z : HandshakeMessage). s.passed ++ z ∷ []) same;
         sent = refl;
         sent_there = refl;
@@ -224,7 +224,7 @@ module _ (laws : LawsBelow) (w : KeyMaterial) (long : (role : Role) (k : Own) �
         counterparts = laws.turned (after_own u xs payload) (after_message v xs payload) sp.counterparts;
         mine = a.mine;
         theirs = a.theirs;
-        keyed = laws.keyed_next p v.passed v.history xs payload due carry a.keyed;
+        keyed = laws.keyed_next p v.passed v.state xs payload due carry a.keyed;
         before = λ h. ap (λ (k : ℕ). k + 1) at;
         beyond = λ h. omega (arith, h, more, at);
         partial = refl;
@@ -245,7 +245,7 @@ module _ (laws : LawsBelow) (w : KeyMaterial) (long : (role : Role) (k : Own) �
         pattern = refl;
         count = refl;
         psks = refl;
-        history = ap (λ (zs : List (List ℕ)). after_payload (has_psk p) v.history (tokens_now v) zs payload) is;
+        state = ap (λ (zs : List (List ℕ)). after_payload (has_psk p) v.state (tokens_now v) zs payload) is;
         passed = ap (λ (z : HandshakeMessage). t.passed ++ z ∷ []) same;
         sent = refl;
         sent_there = refl;
@@ -286,7 +286,7 @@ module _ (w : KeyMaterial) where
       step-transport s t payload all all_t
       (and_right (is_one_way p) (same_role v.role Responder) (ap (λ (r : Role). same_role r Responder) a.role))
       (and_right (is_one_way u.pattern) (same_role u.role Initiator) (ap (λ (r : Role). same_role r Initiator) role_t))
-      going going_t short (below-too s.state.sent n last_nonce a.few low) a.came_there (ap (λ (z : Party). z.history) a.counterparts.there) a.interval
+      going going_t short (below-too s.state.sent n last_nonce a.few low) a.came_there (ap (λ (z : Party). z.state) a.counterparts.there) a.interval
       (ap other role_t ∙ sym a.role) a.partial_there
   transport-at n Responder payload d a ended_party one short low =
       let s : Side = d.responder in
@@ -304,7 +304,7 @@ module _ (w : KeyMaterial) where
       let two_s : is_one_way u.pattern ≡ false = there (λ z. is_one_way z.pattern ≡ false) two in
       step-transport s t payload all_s all
       (and_left (is_one_way u.pattern) (same_role u.role Responder) two_s) (and_left (is_one_way p) (same_role v.role Initiator) two)
-      going_s going short (below-too s.state.sent n last_nonce a.few_there low) a.came_back (sym (ap (λ (z : Party). z.history) a.counterparts.there))
+      going_s going short (below-too s.state.sent n last_nonce a.few_there low) a.came_back (sym (ap (λ (z : Party). z.state) a.counterparts.there))
       (sym a.interval) (ap other a.role ∙ sym role_s) a.partial
 
   pub transport-said : (n : ℕ) (role : Role) (payload : List ℕ) (d e : Sides) (notes : List (Role × Note)) → EquallyFar w n d
@@ -351,9 +351,9 @@ module _ (w : KeyMaterial) where
           party = refl;
           passed = refl;
           frames = λ r lines. ap
-              (λ (z : List ℕ). (side d r).frames ++ frames_by r ((Initiator, z) ∷ transport_messages_of v.history s.state.interval (s.state.sent + 1) t.state.sent lines))
-              (ap (λ (q : Role). transport_message v.history q s.state.interval s.state.sent payload) (sym a.role) ∙ sym sp.is)
-              ∙ frames-on Initiator r d after sp.message (transport_messages_of v.history s.state.interval (s.state.sent + 1) t.state.sent lines) refl refl;
+              (λ (z : List ℕ). (side d r).frames ++ frames_by r ((Initiator, z) ∷ transport_messages_of v.state s.state.interval (s.state.sent + 1) t.state.sent lines))
+              (ap (λ (q : Role). transport_message v.state q s.state.interval s.state.sent payload) (sym a.role) ∙ sym sp.is)
+              ∙ frames-on Initiator r d after sp.message (transport_messages_of v.state s.state.interval (s.state.sent + 1) t.state.sent lines) refl refl;
         });
       }
   transport-said n Responder payload d e notes a ended_party one short low does =
@@ -397,10 +397,10 @@ module _ (w : KeyMaterial) where
           party = refl;
           passed = refl;
           frames = λ r lines. ap
-              (λ (z : List ℕ). (side d r).frames ++ frames_by r ((Responder, z) ∷ transport_messages_of v.history t.state.interval t.state.sent (s.state.sent + 1) lines))
-              (ap (λ (q : Role). transport_message v.history q t.state.interval s.state.sent payload) (sym role_s)
-              ∙ ap (λ (k : ℕ). transport_message v.history u.role k s.state.sent payload) (sym a.interval)
-              ∙ ap (λ (h : History). transport_message h u.role s.state.interval s.state.sent payload) (sym (ap (λ (z : Party). z.history) a.counterparts.there)) ∙ sym sp.is)
-              ∙ frames-on Responder r d after sp.message (transport_messages_of v.history t.state.interval t.state.sent (s.state.sent + 1) lines) refl refl;
+              (λ (z : List ℕ). (side d r).frames ++ frames_by r ((Responder, z) ∷ transport_messages_of v.state t.state.interval t.state.sent (s.state.sent + 1) lines))
+              (ap (λ (q : Role). transport_message v.state q t.state.interval s.state.sent payload) (sym role_s)
+              ∙ ap (λ (k : ℕ). transport_message v.state u.role k s.state.sent payload) (sym a.interval)
+              ∙ ap (λ (h : SymmetricState). transport_message h u.role s.state.interval s.state.sent payload) (sym (ap (λ (z : Party). z.state) a.counterparts.there)) ∙ sym sp.is)
+              ∙ frames-on Responder r d after sp.message (transport_messages_of v.state t.state.interval t.state.sent (s.state.sent + 1) lines) refl refl;
         });
       }

@@ -1,7 +1,7 @@
 -- What comes of events, in code, from what comes of one end's part of them.
 use Rattle.std.proofs.Common.{rules, ◌≡◌, ℕ, List, ◌∷◌, ◌++◌, length, map, refl, ap, sym, subst, ◌∙◌, append_assoc, append-nil, Option, Some, None, Result, Ok, Err, slice_get, Vec, Global, []}
 use Rattle.std.specs.Result.{result_ok}
-use Rattle.noise_duel.proofs.Common.{map-append, Role, Initiator, Responder, other, Own, SendFault, frame, EndValue, note_of, notes_of, written_note, Event, Write, Say, Deliver, Note, Wrote, Missing, held_note, noted_by, DuelValue, DuelMatches, HasFrames, HasDelivered, RoleWrote, HasHappened, HasComeTo, SideWrites, SideReceives, Happens, Run, writes_handshake, writes_transport, writes, says_nothing, says, delivers, misses, injects, Side, Sides, side, with_side, same_Some, get-last}
+use Rattle.noise_duel.proofs.Common.{map-append, Role, Initiator, Responder, other, SendFault, frame, EndValue, note_of, notes_of, written_note, Event, Write, Say, Deliver, Note, Wrote, Missing, held_note, noted_by, DuelValue, DuelMatches, HasFrames, HasDelivered, RoleWrote, HasHappened, HasComeTo, SideWrites, SideReceives, Happens, Run, writes_handshake, writes_transport, writes, says_nothing, says, delivers, misses, injects, Side, Sides, side, with_side, same_Some, get-last}
 use Rattle.noise_duel.specs.declared.entry.Entry.{Entry}
 use Rattle.noise_duel.specs.declared.report.Report.{Report}
 use Rattle.noise_events.specs.Events.{Raw}
@@ -17,10 +17,10 @@ reported-more before after entry is = ap notes_of is ∙ map-append (λ (e : Rol
 
 -- ---- a frame that was written is there
 
-wrote-there : (s next : Side) (payload : List ℕ) (n : ℕ) → SideWrites s payload (Wrote n) next
+wrote-there : (s : Side) (payload : List ℕ) (next : Side) (n : ℕ) → SideWrites s payload (Wrote n) next
     → (bytes : List ℕ) × (slice_get next.frames n ≡ Some bytes)
-wrote-there s next payload n (writes_handshake _ message _ xs free w) = (frame message, get-last s.frames (frame message))
-wrote-there s next payload n (writes_transport _ message _ free opens is) = (frame message, get-last s.frames (frame message))
+wrote-there s payload next n (writes_handshake _ message _ xs free w) = (frame message, get-last s.frames (frame message))
+wrote-there s payload next n (writes_transport _ message _ free opens is) = (frame message, get-last s.frames (frame message))
 
 -- ---- a delivery, taken apart
 
@@ -43,14 +43,14 @@ delivery d e role n notes bytes there (misses _ _ _ none) = cc
 say-of : (d e : Sides) (role : Role) (payload : List ℕ) (n : ℕ) (next : Side) (notes : List (Role × Note)) → SideWrites (side d role) payload (Wrote n) next
     → Happens (with_side d role next) (Deliver (other role) n) notes e → Happens d (Say role payload) ((role, Wrote n) ∷ notes) e
 say-of d e Initiator payload n next notes w h =
-    let there = wrote-there d.initiator next payload n w in
+    let there = wrote-there d.initiator payload next n w in
     let it = delivery (with_side d Initiator next) e Responder n notes there.0 there.1 h in
     subst (λ (last : Sides). Happens d (Say Initiator payload) ((Initiator, Wrote n) ∷ notes) last) (sym it.beyond)
     (subst (λ (ns : List (Role × Note)). Happens d (Say Initiator payload) ((Initiator, Wrote n) ∷ ns)
     (with_side (with_side d Initiator next) Responder it.reader))
     (sym it.notes_are) (says d Initiator payload it.bytes n it.heard next it.reader w it.got it.receives))
 say-of d e Responder payload n next notes w h =
-    let there = wrote-there d.responder next payload n w in
+    let there = wrote-there d.responder payload next n w in
     let it = delivery (with_side d Responder next) e Initiator n notes there.0 there.1 h in
     subst (λ (last : Sides). Happens d (Say Responder payload) ((Responder, Wrote n) ∷ notes) last) (sym it.beyond)
     (subst (λ (ns : List (Role × Note)). Happens d (Say Responder payload) ((Responder, Wrote n) ∷ ns)

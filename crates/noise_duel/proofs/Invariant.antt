@@ -1,7 +1,7 @@
 -- Every event leaves each end what its messages made of it.
 use Rattle.std.proofs.Common.{rules, ◌≡◌, ℕ, ◌+◌, ◌<◌, List, ◌∷◌, ◌++◌, length, refl, ap, sym, subst, ◌∙◌, arith, inl, inr, ◌⊎◌, length-append, []}
 use Rattle.std.specs.Prelude.{Bool, true, false, ◌==◌, Err, if◌then◌else◌}
-use Rattle.noise_duel.proofs.Common.{nat_tests, IsTrue, Role, Initiator, Responder, other, History, Party, Accepts, Writes, after_own, after_message, SendFault, transport_message, StepValue, is_one_way, is_open, Handshaking, HasEnded, EndState, progress_of, ended_session, end_of, Judges, accepted, dropped, exhausted, Sends, after_fault, refuses, lacks_dh_result, HandshakeMessage, Exchanged, begun_as, none, wrote, took, TransportMessage, Side, Sides, new_side, with_state, Event, Note, SideWrites, SideReads, SideReceives, Happens, Run, GivesNoPayload, writes_nothing, writes_handshake, writes_transport, accepts_handshake, accepts_transport, refuses_message, is_idle, waits, reads_frame, writes, says_nothing, says, delivers, misses, injects, sides_at_start, AreTransportMessages, ComesOfMessages, EndsComeOfMessages}
+use Rattle.noise_duel.proofs.Common.{nat_tests, IsTrue, Role, Initiator, Responder, other, SymmetricState, Party, Accepts, Writes, after_own, after_message, SendFault, transport_message, StepValue, is_one_way, is_open, Handshaking, HasEnded, EndState, progress_of, ended_session, end_of, Judges, accepted, dropped, exhausted, Sends, after_fault, refuses, lacks_dh_result, HandshakeMessage, Exchanged, begun_as, none, wrote, took, TransportMessage, Side, Sides, new_side, with_state, Event, Note, SideWrites, SideReads, SideReceives, Happens, Run, GivesNoPayload, writes_nothing, writes_handshake, writes_transport, accepts_handshake, accepts_transport, refuses_message, is_idle, waits, reads_frame, writes, says_nothing, says, delivers, misses, injects, sides_at_start, AreTransportMessages, ComesOfMessages, EndsComeOfMessages}
 use Rattle.noise_session.specs.Faults.{ends}
 use Rattle.noise_session.specs.Progress.Progress.{Open}
 use Rattle.noise_session.specs.Taking.Judges.{refused, opened}
@@ -25,7 +25,7 @@ passes-took v w (q ∷ qs) p (wrote _ _ _ _ here more) h =
 passes-took v w (q ∷ qs) p (took _ _ _ _ here more) h =
     took v (after_message w p.carried p.payload) q (qs ++ p ∷ []) here (passes-took (after_message v q.carried q.payload) w qs p more h)
 
-transport_messages-more : (r : History) (writer : Role) (interval n : ℕ) (ps : List TransportMessage) (m : TransportMessage) → AreTransportMessages r writer interval n ps
+transport_messages-more : (r : SymmetricState) (writer : Role) (interval n : ℕ) (ps : List TransportMessage) (m : TransportMessage) → AreTransportMessages r writer interval n ps
     → m.message ≡ transport_message r writer interval (n + length ps) m.payload
     → AreTransportMessages r writer interval n (ps ++ m ∷ [])
 transport_messages-more r writer interval n [] m h e = search rules
@@ -87,27 +87,27 @@ module _ (first : Party) (interval : ℕ) where
           let bad : ⊥ = omega (arith, less, all, passed, count) in
           absurd bad
 
-  none-transport_messages : (r : History) (writer : Role) (ps : List TransportMessage) → ps ≡ [] → AreTransportMessages r writer interval 0 ps
+  none-transport_messages : (r : SymmetricState) (writer : Role) (ps : List TransportMessage) → ps ≡ [] → AreTransportMessages r writer interval 0 ps
   none-transport_messages r writer ps e = subst (λ (qs : List TransportMessage). AreTransportMessages r writer interval 0 qs) (sym e) tt
 
   -- a transport message of the end's state is one of the state that it matches
   transport_message-of : (s : Side) (payload : List ℕ) (h : ComesOfMessages first interval s) (writer : Role) (n m : ℕ) (role : Role) → writer ≡ role → n ≡ m
-      → transport_message s.state.party.history writer s.state.interval n payload ≡ transport_message h.last.history role interval (0 + m) payload
+      → transport_message s.state.party.state writer s.state.interval n payload ≡ transport_message h.last.state role interval (0 + m) payload
   transport_message-of s payload h writer n m role e f =
       let zeros : n ≡ 0 + m = omega (arith, f) in
-      ap (λ (r : History). transport_message r writer s.state.interval n payload) (ap (λ (v : Party). v.history) h.party)
-      ∙ ap (λ (k : ℕ). transport_message h.last.history writer k n payload) h.interval_is
-      ∙ ap (λ (k : ℕ). transport_message h.last.history writer interval k payload) zeros
-      ∙ ap (λ (w : Role). transport_message h.last.history w interval (0 + m) payload) e
+      ap (λ (r : SymmetricState). transport_message r writer s.state.interval n payload) (ap (λ (v : Party). v.state) h.party)
+      ∙ ap (λ (k : ℕ). transport_message h.last.state writer k n payload) h.interval_is
+      ∙ ap (λ (k : ℕ). transport_message h.last.state writer interval k payload) zeros
+      ∙ ap (λ (w : Role). transport_message h.last.state w interval (0 + m) payload) e
 
-  pub writes-matches : (s t : Side) (payload : List ℕ) (note : Note) → ComesOfMessages first interval s → SideWrites s payload note t
+  pub writes-matches : (s : Side) (payload : List ℕ) (t : Side) (note : Note) → ComesOfMessages first interval s → SideWrites s payload note t
       → ComesOfMessages first interval t
-  writes-matches s t payload note h (writes_nothing _ _ why next sends) = go why next sends
+  writes-matches s payload t note h (writes_nothing _ _ why next sends) = go why next sends
     where
       go : (why : SendFault) (next : EndState) → Sends s.state payload (Err why) next → ComesOfMessages first interval (with_state s next)
       go why next (refuses _ _ _ e) = refusal-seen s why h
       go why next (lacks_dh_result _ _ k e lacks) = seen s (ended_session s.state) h refl refl refl refl
-  writes-matches s t payload note h (writes_handshake _ message _ xs e w) =
+  writes-matches s payload t note h (writes_handshake _ message _ xs e w) =
       let p : HandshakeMessage = record { message = message; carried = xs; payload = payload } in
       let same : s.state.party ≡ h.last = unended s.state.party h.last h.party w.speaks.going in
       let empty = unsent s h w.speaks.more in
@@ -120,10 +120,10 @@ module _ (first : Party) (interval : ℕ) where
         sending = h.sending;
         receiving = h.receiving;
         opened = inl empty;
-        sent = none-transport_messages (after_own h.last xs payload).history h.last.role s.sent empty.0;
-        received = none-transport_messages (after_own h.last xs payload).history (other h.last.role) s.received empty.1;
+        sent = none-transport_messages (after_own h.last xs payload).state h.last.role s.sent empty.0;
+        received = none-transport_messages (after_own h.last xs payload).state (other h.last.role) s.received empty.1;
       }
-  writes-matches s t payload note h (writes_transport _ message _ e due is) =
+  writes-matches s payload t note h (writes_transport _ message _ e due is) =
       let m : TransportMessage = record { message = message; payload = payload } in
       let passed : h.last.passed ≡ length h.last.pattern.messages = search rules in
       record {
@@ -134,7 +134,7 @@ module _ (first : Party) (interval : ℕ) where
         sending = length-more s.sent m s.state.sent h.sending;
         receiving = h.receiving;
         opened = inr passed;
-        sent = transport_messages-more h.last.history h.last.role interval 0 s.sent m h.sent
+        sent = transport_messages-more h.last.state h.last.role interval 0 s.sent m h.sent
             (is ∙ transport_message-of s payload h s.state.party.role s.state.sent (length s.sent) h.last.role (ap (λ (v : Party). v.role) h.party) h.sending);
         received = h.received;
       }
@@ -153,8 +153,8 @@ module _ (first : Party) (interval : ℕ) where
         sending = h.sending;
         receiving = h.receiving;
         opened = inl empty;
-        sent = none-transport_messages (after_message h.last xs payload).history h.last.role s.sent empty.0;
-        received = none-transport_messages (after_message h.last xs payload).history (other h.last.role) s.received empty.1;
+        sent = none-transport_messages (after_message h.last xs payload).state h.last.role s.sent empty.0;
+        received = none-transport_messages (after_message h.last xs payload).state (other h.last.role) s.received empty.1;
       }
   reads-matches s t message step h (accepts_transport _ _ payload due low is) =
       let m : TransportMessage = record { message = message; payload = payload } in
@@ -168,7 +168,7 @@ module _ (first : Party) (interval : ℕ) where
         receiving = length-more s.received m s.state.received h.receiving;
         opened = inr passed;
         sent = h.sent;
-        received = transport_messages-more h.last.history (other h.last.role) interval 0 s.received m h.received
+        received = transport_messages-more h.last.state (other h.last.role) interval 0 s.received m h.received
             (is ∙ transport_message-of s payload h (other s.state.party.role) s.state.received (length s.received) (other h.last.role)
             (ap (λ (v : Party). other v.role) h.party) h.receiving);
       }
@@ -195,10 +195,10 @@ module _ (first second : Party) (i j : ℕ) where
   BothMatch d = ComesOfMessages first i d.initiator × ComesOfMessages second j d.responder
 
   event-matches : (d e : Sides) (event : Event) (notes : List (Role × Note)) → BothMatch d → Happens d event notes e → BothMatch e
-  event-matches d e event notes h (writes _ Initiator payload note next written) = (writes-matches first i d.initiator next payload note h.0 written, h.1)
-  event-matches d e event notes h (writes _ Responder payload note next written) = (h.0, writes-matches second j d.responder next payload note h.1 written)
-  event-matches d e event notes h (says_nothing _ Initiator payload why next written) = (writes-matches first i d.initiator next payload _ h.0 written, h.1)
-  event-matches d e event notes h (says_nothing _ Responder payload why next written) = (h.0, writes-matches second j d.responder next payload _ h.1 written)
+  event-matches d e event notes h (writes _ Initiator payload note next written) = (writes-matches first i d.initiator payload next note h.0 written, h.1)
+  event-matches d e event notes h (writes _ Responder payload note next written) = (h.0, writes-matches second j d.responder payload next note h.1 written)
+  event-matches d e event notes h (says_nothing _ Initiator payload why next written) = (writes-matches first i d.initiator payload next _ h.0 written, h.1)
+  event-matches d e event notes h (says_nothing _ Responder payload why next written) = (h.0, writes-matches second j d.responder payload next _ h.1 written)
   event-matches d e event notes h (says _ Initiator payload bytes n more next heard written frame receives) = search (writes-matches, receives-matches)
   event-matches d e event notes h (says _ Responder payload bytes n more next heard written frame receives) = search (receives-matches, writes-matches)
   event-matches d e event notes h (delivers _ Initiator n bytes more heard frame receives) = search receives-matches

@@ -1,10 +1,10 @@
 -- Keys that agree and equal psks: one conversation and one history, or two hashed texts clash.
 use Rattle.std.proofs.Common.{◌≡◌, ℕ, List, ◌∷◌, length, ap, sym, subst, ◌∙◌, inl, inr, []}
 use Rattle.std.specs.Prelude.{true, Option, Some}
-use Rattle.noise_duel.proofs.Common.{after_all, is_some, unwrap_or, Role, Initiator, Responder, Token, E, S, other, Plan, pre_of, name_bytes, History, Ephemeral, Static, Remote, Own, public_keys, has_before, has_token, token_of, LawsBelow, Start, begun_as, pre_keys, IsSetUp, KeysReport, Knows, heads, tails}
+use Rattle.noise_duel.proofs.Common.{is_some, unwrap_or, Role, Initiator, Responder, Token, E, S, other, Plan, pre_of, name_bytes, SymmetricState, Ephemeral, Static, Remote, Own, public_keys, has_before, has_token, token_of, LawsBelow, Start, begun_as, pre_keys, IsSetUp, KeysReport, Knows, heads, tails, History, history_of, history_at_start}
 use Rattle.noise_duel.proofs.HashedMessages.{AreMessages, AllAlike, passes-messages}
 use Rattle.noise_duel.proofs.HashReports.{SameBytes, bytes-or, starts-back}
-use Rattle.noise_duel.proofs.Forward.{UsePsks, passes-psks, starts-same}
+use Rattle.noise_duel.proofs.Forward.{UsePsks, passes-psks, one-history, starts-one, states-one}
 use Rattle.noise_duel.proofs.Agreeing.{all-agree, passes-uses}
 
 at-e : (k l : Remote) (ts : List Token) → has_token E ts ≡ true → pre_keys k ts ≡ pre_keys l ts → unwrap_or k.e [] ≡ unwrap_or l.e []
@@ -46,15 +46,19 @@ pub keys-report : LawsBelow → KeysReport
 keys-report laws p a b ps qs v w sa sb left right count e psks agrees =
     elim (bytes-or p a b ps qs v w left right count e) [ inl h ↦ inl (whole h) | inr c ↦ inr c ]
   where
-    whole : SameBytes p a b ps qs v w left right count → (ps ≡ qs) × (v.history ≡ w.history)
+    whole : SameBytes p a b ps qs v w left right count → (ps ≡ qs) × (history_of p Initiator a ps ≡ history_of p Responder b qs)
     whole h =
         let name : List ℕ = name_bytes (record { base = p.base; places = p.places }) in
-        let r0 : History = (begun_as p Initiator a).history in
-        let s0 : History = (begun_as p Responder b).history in
+        let r0 : SymmetricState = (begun_as p Initiator a).state in
+        let s0 : SymmetricState = (begun_as p Responder b).state in
         let l = passes-messages (begun_as p Initiator a) v ps left in
         let m = passes-messages (begun_as p Responder b) w qs right in
-        let first : r0 ≡ s0 = starts-same name p a.prologue b.prologue (public_keys a.own) a.remote b.remote (public_keys b.own) h.start in
+        let left0 : History = history_at_start name p a.prologue (public_keys a.own) a.remote in
+        let right0 : History = history_at_start name p b.prologue b.remote (public_keys b.own) in
         let keys = starts-back name p a.prologue b.prologue (public_keys a.own) a.remote b.remote (public_keys b.own) h.start in
+        let begun : left0 ≡ right0 =
+        starts-one name p a.prologue b.prologue (public_keys a.own) a.remote b.remote (public_keys b.own) keys.0 keys.1 keys.2 in
+        let first : r0 ≡ s0 = states-one name p a.prologue b.prologue (public_keys a.own) a.remote b.remote (public_keys b.own) begun in
         let ka : Knows a.remote b.own = knows-first laws p Initiator a b sa sb keys.2 in
         let kb : Knows b.remote a.own = knows-first laws p Responder b a sb sa (sym keys.1) in
         let one : ps ≡ qs = all-agree a b agrees p 0 a.remote b.remote a.psks r0 ps qs ka kb
@@ -62,6 +66,6 @@ keys-report laws p a b ps qs v w sa sb left right count e psks agrees =
         (passes-psks (begun_as p Initiator a) v ps left)
         (subst (λ (z : List (List ℕ)). UsePsks p 0 z qs) (sym psks) (passes-psks (begun_as p Responder b) w qs right))
         l.lines
-        (subst (λ (s : History). AreMessages p 0 s qs) (sym first) m.lines)
-        (subst (λ (s : History). AllAlike p 0 r0 s ps qs) (sym first) h.lines) in
-        (one, l.history ∙ ap (λ (s : History). after_all p 0 s ps) first ∙ ap (after_all p 0 s0) one ∙ sym m.history)
+        (subst (λ (s : SymmetricState). AreMessages p 0 s qs) (sym first) m.lines)
+        (subst (λ (s : SymmetricState). AllAlike p 0 r0 s ps qs) (sym first) h.lines) in
+        (one, one-history p left0 right0 ps qs begun one)

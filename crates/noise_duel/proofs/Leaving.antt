@@ -2,7 +2,7 @@
 use Rattle.std.proofs.Common.{rules, ◌≡◌, ◌∙◌, refl, ap, ap₂, sym, ℕ, zero, suc, ◌+◌, ◌<◌, min, List, ◌∷◌, ◌++◌, length, map, take, drop, arith, append_assoc, length-append, count_by, drop-drop, []}
 use Rattle.std.specs.Prelude.{Bool, true, false, if◌then◌else◌}
 use Rattle.std.proofs.lemmas.List.Sums.{sum_by-cons}
-use Rattle.noise_duel.proofs.Common.{cond, length-map, length-take, Role, Initiator, Responder, Token, Plan, is_psk, other, History, counterpart, shown_after, after_message, after_own, psks_of, Party, tokens_at, tokens_now, EndState, frame, ComeThrough, MessagesComeThrough, MessagesLeave, conversation, end_after, frames_by, history_in, in_turn, messages_by, transport_messages_of, payloads_in, start_in, ComesOfMessages, EndsComeOfMessages, Exchanged, HandshakeMessage, Start, begun_as, messages_of, none, wrote, took, EndsFrame, FramesAreOwn, own_messages, Side, TransportMessage}
+use Rattle.noise_duel.proofs.Common.{cond, length-map, length-take, Role, Initiator, Responder, Token, Plan, is_psk, other, SymmetricState, counterpart, shown_after, after_message, after_own, psks_of, Party, tokens_at, tokens_now, EndState, frame, ComeThrough, MessagesComeThrough, MessagesLeave, conversation, end_after, frames_by, state_after_lines, in_turn, messages_by, transport_messages_of, payloads_in, start_in, ComesOfMessages, EndsComeOfMessages, Exchanged, HandshakeMessage, Start, begun_as, messages_of, none, wrote, took, EndsFrame, FramesAreOwn, own_messages, Side, TransportMessage}
 
 -- ---- how many transport messages a role has sent
 
@@ -23,7 +23,7 @@ one-or-none : (b : Bool) (f : List ℕ) (fs : List (List ℕ)) → length ((if b
 one-or-none true f fs = omega arith
 one-or-none false f fs = omega arith
 
-transport_messages-by : (role : Role) (r : History) (interval i j : ℕ) (lines : List (Role × List ℕ))
+transport_messages-by : (role : Role) (r : SymmetricState) (interval i j : ℕ) (lines : List (Role × List ℕ))
     → length (frames_by role (transport_messages_of r interval i j lines)) ≡ messages_by role lines
 transport_messages-by role r interval i j [] = refl
 transport_messages-by role r interval i j ((Initiator, payload) ∷ lines) =
@@ -87,16 +87,16 @@ unchanged v w (p ∷ ps) (took _ _ _ _ here more) = search (unchanged-more, (unc
 
 same-end : (v w : EndState) → v.party.pattern ≡ w.party.pattern → v.party.role ≡ w.party.role → v.party.psks ≡ w.party.psks
     → v.party.own ≡ w.party.own → v.party.agree ≡ w.party.agree → v.party.remote ≡ w.party.remote → v.party.passed ≡ w.party.passed
-    → v.party.history ≡ w.party.history → v.party.ended ≡ w.party.ended → v.interval ≡ w.interval → v.sent ≡ w.sent → v.received ≡ w.received
+    → v.party.state ≡ w.party.state → v.party.ended ≡ w.party.ended → v.interval ≡ w.interval → v.sent ≡ w.sent → v.received ≡ w.received
     → v.partial ≡ w.partial → v ≡ w
 same-end v w a b c d e f g h i j k l m = search rules
 
-module _ (p : Plan) (role : Role) (s theirs : Start) (interval : ℕ) (r : History) (lines : List (Role × List ℕ)) where
+module _ (p : Plan) (role : Role) (s theirs : Start) (interval : ℕ) (r : SymmetricState) (lines : List (Role × List ℕ)) where
   abbrev many : ℕ
   many = min (length p.messages) (length lines)
 
   end-is : (side : Side) (u : Party) → ComesOfMessages (begun_as p role s) interval side → side.state.party ≡ counterpart u side.state.party.own side.state.party.agree
-      → u.pattern ≡ p → u.role ≡ other role → u.own ≡ theirs.own → u.passed ≡ many → u.history ≡ r
+      → u.pattern ≡ p → u.role ≡ other role → u.own ≡ theirs.own → u.passed ≡ many → u.state ≡ r
       → length side.sent ≡ messages_by role (drop (length p.messages) lines) → length side.received ≡ messages_by (other role) (drop (length p.messages) lines)
       → side.state.partial ≡ [] → side.state ≡ end_after p role s theirs interval r lines
   end-is side u made faces pattern turned own passed history sent received partial =
@@ -112,7 +112,7 @@ module _ (p : Plan) (role : Role) (s theirs : Start) (interval : ℕ) (r : Histo
       (ap (λ (z : Party). z.agree) made.party ∙ k.agree)
       (ap (λ (z : Party). z.remote) faces ∙ shown-same u pattern turned own passed)
       count
-      (ap (λ (z : Party). z.history) faces ∙ history)
+      (ap (λ (z : Party). z.state) faces ∙ history)
       (ap (λ (z : Party). z.ended) faces)
       made.interval_is
       (made.sending ∙ sent)
@@ -130,7 +130,7 @@ messages-leave come stand framed w p prologue a b interval lines notes d parts t
     let it : ComeThrough w p prologue interval lines d = (come w p prologue a b interval lines notes d parts turns run).1 in
     let made = stand p a b interval interval _ notes d run in
     let own = framed p a b interval interval _ notes d run in
-    let r : History = history_in w p prologue lines in
+    let r : SymmetricState = state_after_lines w p prologue lines in
     let ms : List HandshakeMessage = conversation w p 0 w.psks (start_in w p prologue) (payloads_in (length p.messages) lines) in
     let rest : List (Role × List ℕ) = drop (length p.messages) lines in
     let transport_messages : List (Role × List ℕ) = transport_messages_of r interval 0 0 rest in
@@ -149,9 +149,9 @@ messages-leave come stand framed w p prologue a b interval lines notes d parts t
     let there = it.ends.parties.there in (
       end-is p Initiator a b interval r lines d.initiator u made.0 it.ends.parties.back
           (ap (λ (z : Party). z.pattern) made.1.party ∙ l.pattern) role-there (ap (λ (z : Party). z.own) made.1.party ∙ l.own)
-          (ap (λ (z : Party). z.passed) there ∙ count) (ap (λ (z : Party). z.history) there ∙ it.history)
+          (ap (λ (z : Party). z.passed) there ∙ count) (ap (λ (z : Party). z.state) there ∙ it.state)
           sent (ap (λ (ts : List TransportMessage). length ts) it.back ∙ sent-there) it.ends.partial,
       end-is p Responder b a interval r lines d.responder v made.1 there
-          (ap (λ (z : Party). z.pattern) made.0.party ∙ k.pattern) role (ap (λ (z : Party). z.own) made.0.party ∙ k.own) count it.history
+          (ap (λ (z : Party). z.pattern) made.0.party ∙ k.pattern) role (ap (λ (z : Party). z.own) made.0.party ∙ k.own) count it.state
           sent-there (ap (λ (ts : List TransportMessage). length ts) it.there ∙ sent) it.ends.partial_there,
     )

@@ -20,18 +20,18 @@ pub writes-no-fault : (s next : Side) (payload : List ℕ) (why : SendFault) →
     → SideWrites s payload (WriteFault why) next → ⊥
 writes-no-fault s next payload why e lacks (writes_nothing _ _ _ after sends) = sends-no-fault s.state after payload why e lacks sends
 
-pub writes-message : LawsBelow → (s next : Side) (payload message : List ℕ) (xs : List (List ℕ)) (k : ℕ) → is_open (progress_of s.state) ≡ false
+pub writes-message : LawsBelow → (s : Side) (payload : List ℕ) (next : Side) (message : List ℕ) (xs : List (List ℕ)) (k : ℕ) → is_open (progress_of s.state) ≡ false
     → Writes s.state.party payload xs message
     → SideWrites s payload (Wrote k) next → (next ≡ wrote_handshake s (record { message = message; carried = xs; payload = payload })) × (k ≡ length s.frames)
-writes-message laws s next payload message xs k shut w (writes_handshake _ m _ ys e here) = search rules
-writes-message laws s next payload message xs k shut w (writes_transport _ m _ e due is) = cc
+writes-message laws s payload next message xs k shut w (writes_handshake _ m _ ys e here) = search rules
+writes-message laws s payload next message xs k shut w (writes_transport _ m _ e due is) = cc
 
-pub writes-transport_message : (s next : Side) (payload : List ℕ) (k : ℕ) → IsTrue (is_open (progress_of s.state))
+pub writes-transport_message : (s : Side) (payload : List ℕ) (next : Side) (k : ℕ) → IsTrue (is_open (progress_of s.state))
     → SideWrites s payload (Wrote k) next
-    → (next ≡ wrote_transport s (record { message = transport_message s.state.party.history s.state.party.role s.state.interval s.state.sent payload; payload = payload }))
+    → (next ≡ wrote_transport s (record { message = transport_message s.state.party.state s.state.party.role s.state.interval s.state.sent payload; payload = payload }))
     × (k ≡ length s.frames)
-writes-transport_message s next payload k open-now (writes_handshake _ m _ ys e here) = search rules
-writes-transport_message s next payload k open-now (writes_transport _ m _ e due is) =
+writes-transport_message s payload next k open-now (writes_handshake _ m _ ys e here) = search rules
+writes-transport_message s payload next k open-now (writes_transport _ m _ e due is) =
     (ap (λ (z : List ℕ). wrote_transport s (record { message = z; payload = payload })) is, refl)
 
 -- ---- hearing
@@ -47,19 +47,19 @@ reads-message laws t message payload xs shut a step next (refuses_message _ _ _ 
 
 transport_messages-no-fault : (v next : EndState) (message payload : List ℕ) (step : StepValue) → GivesNoPayload step → IsTrue (is_open (progress_of v))
     → v.received ≢ last_nonce
-    → message ≡ transport_message v.party.history (other v.party.role) v.interval v.received payload → Judges v message step next → ⊥
+    → message ≡ transport_message v.party.state (other v.party.role) v.interval v.received payload → Judges v message step next → ⊥
 transport_messages-no-fault v next message payload step bad due low is (refused _ _ token cause r) = omega (arith, r.listens.more, all-passed v due)
 transport_messages-no-fault v next message payload step bad due low is (dropped _ _ d l never) = never payload is
 transport_messages-no-fault v next message payload step bad due low is (exhausted _ _ d full) = low full
 transport_messages-no-fault v next message payload step bad due low is _ = bad
 
 pub reads-transport_message : (t : Side) (message payload : List ℕ) → IsTrue (is_open (progress_of t.state)) → t.state.received ≢ last_nonce
-    → message ≡ transport_message t.state.party.history (other t.state.party.role) t.state.interval t.state.received payload
+    → message ≡ transport_message t.state.party.state (other t.state.party.role) t.state.interval t.state.received payload
     → (step : StepValue) (next : Side) → SideReads t message step next
     → (step ≡ Payload payload) × (next ≡ accepted_transport t (record { message = message; payload = payload }))
 reads-transport_message t message payload due low is step next (accepts_handshake _ _ p ys b) = search rules
 reads-transport_message t message payload due low is step next (accepts_transport _ _ p d l i) =
-    let same : p ≡ payload = transport_message-same t.state.party.history (other t.state.party.role) t.state.interval t.state.received p payload (sym i ∙ is) in
+    let same : p ≡ payload = transport_message-same t.state.party.state (other t.state.party.role) t.state.interval t.state.received p payload (sym i ∙ is) in
     (ap Payload same, ap (λ (z : List ℕ). accepted_transport t (record { message = message; payload = z })) same)
 reads-transport_message t message payload due low is step next (refuses_message _ _ _ after bad j) = search transport_messages-no-fault
 

@@ -1,17 +1,17 @@
 -- Accepted payloads are the first of the written ones, or the first that isn't was forged.
 use Rattle.std.proofs.Common.{◌≡◌, ◌≢◌, ℕ, suc, ◌+◌, List, ◌∷◌, ◌++◌, take, refl, ap, sym, subst, ◌∙◌, arith, inl, inr, ◌⊎◌, slice_get, Some, []}
-use Rattle.noise_duel.proofs.Common.{Role, History, rekeyed_times, transport_message, rekeys, split_key, TransportMessage, AreTransportMessages, cons-same, same-or}
+use Rattle.noise_duel.proofs.Common.{Role, SymmetricState, rekeyed_times, transport_message, rekeys, split_key, TransportMessage, AreTransportMessages, cons-same, same-or}
 use Rattle.noise_aead.specs.Sealing.{nonce_of}
 use Rattle.noise_aead.specs.Sealed.{sealed-same}
 use Rattle.noise_duel.specs.Forgery.{contents, PrefixOrForgedMessage}
 
-pub transport_message-same : (r : History) (writer : Role) (interval n : ℕ) (x y : List ℕ) → transport_message r writer interval n x ≡ transport_message r writer interval n y → x ≡ y
+pub transport_message-same : (r : SymmetricState) (writer : Role) (interval n : ℕ) (x y : List ℕ) → transport_message r writer interval n x ≡ transport_message r writer interval n y → x ≡ y
 transport_message-same r writer interval n x y e = sealed-same (rekeyed_times (rekeys interval n) (split_key r writer)) (nonce_of n) [] x y e
 
 first-of : (w m : TransportMessage) → Some w ≡ Some m → w ≡ m
 first-of w m e = cc
 
-module _ (r : History) (writer : Role) (interval : ℕ) where
+module _ (r : SymmetricState) (writer : Role) (interval : ℕ) where
   record ForgedFrom (n : ℕ) (written accepted : List TransportMessage) (i : ℕ) : Type 0 where
     forged : TransportMessage
     came : slice_get accepted i ≡ Some forged

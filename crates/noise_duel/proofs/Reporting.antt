@@ -1,8 +1,8 @@
 -- What the laws say of a run, for the ends and the report that are left.
-use Rattle.std.proofs.Common.{rules, ◌≡◌, ℕ, zero, suc, ◌+◌, List, ◌∷◌, ◌++◌, length, take, refl, ap, sym, subst, ◌∙◌, append_assoc, Option, Some, None, []}
+use Rattle.std.proofs.Common.{rules, ◌≡◌, ℕ, zero, suc, ◌+◌, List, ◌∷◌, ◌++◌, length, take, refl, ap, sym, subst, ◌∙◌, append_assoc, Some, None, []}
 use Rattle.std.specs.Prelude.{Bool, true, false, ◌&&◌, if◌then◌else◌}
 use Rattle.std.specs.List.{list_any}
-use Rattle.noise_duel.proofs.Common.{◌||◌, Role, Initiator, Responder, Token, other, same_role, Plan, Place, first_places, message_places, places_of, token_places, transport_places, is_among, is_at, hash, Own, Counterparts, counterpart, passed_places, token_of, Party, EndState, EndMatches, EndValue, IsReportedBy, KeyMaterial, HaveParts, InTurn, MessagesComeThrough, MessagesLeave, sides_at_start, payloads_in, say_events, notes_of, Event, Note, DuelValue, EndsComeOfMessages, Start, HashesReport, PayloadsCome, PsksMakeOne, VisiblyEqualGivesOne, EndsFrame, Run, Sides}
+use Rattle.noise_duel.proofs.Common.{◌||◌, Role, Initiator, Responder, Token, other, same_role, Plan, Place, first_places, message_places, places_of, token_places, transport_places, is_among, is_at, Own, Counterparts, counterpart, passed_places, token_of, Party, EndState, EndMatches, EndValue, IsReportedBy, KeyMaterial, HaveParts, InTurn, MessagesComeThrough, MessagesLeave, sides_at_start, payloads_in, say_events, notes_of, Event, Note, DuelValue, EndsComeOfMessages, Start, HashesReport, PayloadsCome, PsksMakeOne, VisiblyEqualGivesOne, EndsFrame, Run, Sides}
 use Rattle.noise_duel.specs.declared.report.Report.{Report}
 use Rattle.noise_duel.specs.Reports.{EndsAgree, HaveComeThrough, Reports, static_shown}
 use Rattle.noise_keys.specs.Keys.{KeyPairs}
@@ -83,7 +83,7 @@ module _ {A B : Type 0} (pairs_a : A → KeyPairs)
       let role_b : u.role ≡ Responder = search in
       let own_a : v.own ≡ a.own = search rules in
       let own_b : u.own ≡ b.own = search rules in
-      let history : u.history ≡ v.history = ap (λ (z : Party). z.history) parties.there in
+      let history : u.state ≡ v.state = ap (λ (z : Party). z.state) parties.there in
       let passed : u.passed ≡ v.passed = ap (λ (z : Party). z.passed) parties.there in
       let pattern : u.pattern ≡ v.pattern = ap (λ (z : Party). z.pattern) parties.there in
       let going_a : v.ended ≡ false = ap (λ (z : Party). z.ended) parties.back in
@@ -101,7 +101,7 @@ module _ {A B : Type 0} (pairs_a : A → KeyPairs)
         last = last;
         matches = left.matches;
         through = it.1;
-        history = history;
+        state = history;
         hash = search;
         keys_there = search rules;
         keys_back = search rules;

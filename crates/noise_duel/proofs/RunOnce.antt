@@ -28,7 +28,7 @@ module _ (laws : LawsBelow) where
       absurd (subst GivesNoPayload (sym (laws.judged_once s.state _ next m (Payload p) b (accepted s.state m p xs h) j).0) bad)
   reads-once s x y m a b (accepts_transport _ _ p due low is) (accepts_handshake _ _ q ys k) = search rules
   reads-once s x y m a b (accepts_transport _ _ p due low is) (accepts_transport _ _ q d l be) =
-      let same : p ≡ q = transport_message-same s.state.party.history (other s.state.party.role) s.state.interval s.state.received p q (sym is ∙ be) in
+      let same : p ≡ q = transport_message-same s.state.party.state (other s.state.party.role) s.state.interval s.state.received p q (sym is ∙ be) in
       (ap Payload same, ap (λ (z : List ℕ). accepted_transport s (record { message = m; payload = z })) same)
   reads-once s x y m a b (accepts_transport _ _ p due low is) (refuses_message _ _ _ next bad j) =
       absurd (subst GivesNoPayload (sym (laws.judged_once s.state _ next m (Payload p) b (opened s.state m p due low is) j).0) bad)
@@ -39,20 +39,20 @@ module _ (laws : LawsBelow) where
   reads-once s x y m a b (refuses_message _ _ _ next bad j) (refuses_message _ _ _ after worse k) = search rules
 
   -- a payload is written in one way
-  writes-once : (s x y : Side) (payload : List ℕ) (a b : Note) → SideWrites s payload a x → SideWrites s payload b y → (a ≡ b) × (x ≡ y)
-  writes-once s x y payload a b (writes_nothing _ _ why next h) (writes_nothing _ _ other_why after k) = search rules
-  writes-once s x y payload a b (writes_nothing _ _ why next h) (writes_handshake _ m _ ys e w) =
+  writes-once : (s : Side) (payload : List ℕ) (x y : Side) (a b : Note) → SideWrites s payload a x → SideWrites s payload b y → (a ≡ b) × (x ≡ y)
+  writes-once s payload x y a b (writes_nothing _ _ why next h) (writes_nothing _ _ other_why after k) = search rules
+  writes-once s payload x y a b (writes_nothing _ _ why next h) (writes_handshake _ m _ ys e w) =
       absurd (writes-no-fault s x payload why e (λ k l. laws.not_lacking s.state.party payload m ys k w l) (writes_nothing s payload why next h))
-  writes-once s x y payload a b (writes_nothing _ _ why next h) (writes_transport _ m _ e due is) =
+  writes-once s payload x y a b (writes_nothing _ _ why next h) (writes_transport _ m _ e due is) =
       absurd (writes-no-fault s x payload why e (λ k l. not-due s due l.speaks.more) (writes_nothing s payload why next h))
-  writes-once s x y payload a b (writes_handshake _ m _ xs e w) (writes_nothing _ _ why next h) =
+  writes-once s payload x y a b (writes_handshake _ m _ xs e w) (writes_nothing _ _ why next h) =
       absurd (writes-no-fault s y payload why e (λ k l. laws.not_lacking s.state.party payload m xs k w l) (writes_nothing s payload why next h))
-  writes-once s x y payload a b (writes_handshake _ m _ xs e w) (writes_handshake _ n _ ys f z) = search rules
-  writes-once s x y payload a b (writes_handshake _ m _ xs e w) (writes_transport _ n _ f due is) = absurd (not-due s due w.speaks.more)
-  writes-once s x y payload a b (writes_transport _ m _ e due is) (writes_nothing _ _ why next h) =
+  writes-once s payload x y a b (writes_handshake _ m _ xs e w) (writes_handshake _ n _ ys f z) = search rules
+  writes-once s payload x y a b (writes_handshake _ m _ xs e w) (writes_transport _ n _ f due is) = absurd (not-due s due w.speaks.more)
+  writes-once s payload x y a b (writes_transport _ m _ e due is) (writes_nothing _ _ why next h) =
       absurd (writes-no-fault s y payload why e (λ k l. not-due s due l.speaks.more) (writes_nothing s payload why next h))
-  writes-once s x y payload a b (writes_transport _ m _ e due is) (writes_handshake _ n _ ys f w) = absurd (not-due s due w.speaks.more)
-  writes-once s x y payload a b (writes_transport _ m _ e due is) (writes_transport _ n _ f d be) =
+  writes-once s payload x y a b (writes_transport _ m _ e due is) (writes_handshake _ n _ ys f w) = absurd (not-due s due w.speaks.more)
+  writes-once s payload x y a b (writes_transport _ m _ e due is) (writes_transport _ n _ f d be) =
       (refl, ap (λ (r : List ℕ). wrote_transport s (record { message = r; payload = payload })) (is ∙ sym be))
 
   -- bytes are received in one way

@@ -1,7 +1,7 @@
 -- A message from one end to the other one, which listens: in the handshake, and in transport.
 use Rattle.std.proofs.Common.{rules, ◌≡◌, ◌≢◌, ℕ, ◌+◌, ◌<◌, ◌≤◌, List, ◌∷◌, length, refl, ap, sym, subst, ◌∙◌, arith, None, []}
 use Rattle.std.specs.Prelude.{true, false, ◌&&◌, ◌==◌}
-use Rattle.noise_duel.proofs.Common.{nat_tests, nat_lt, IsTrue, is_some, Role, Initiator, Responder, other, same_role, turn_from, is_one_way, has_key, overhead_of, IsValid, cipher_key, rekeyed_times, passed_places, Party, Accepts, Listens, Speaks, Writes, after_own, after_message, Counterparts, IsEquipped, SendFault, frame, transport_message, last_nonce, rekeys, split_key, Progress, is_open, idle_step, refusal, Handshaking, LawsBelow, EndState, progress_of, Side, wrote_handshake, accepted_handshake, wrote_transport, accepted_transport, Note, Wrote, WriteFault, Judged, SideWrites, SideReceives, writes_handshake, writes_transport, accepts_handshake, accepts_transport, same_role-self}
+use Rattle.noise_duel.proofs.Common.{nat_tests, nat_lt, IsTrue, is_some, Role, Initiator, Responder, other, same_role, turn_from, is_one_way, has_key, overhead_of, IsValid, rekeyed_times, passed_places, Party, Accepts, Listens, Speaks, Writes, after_own, after_message, Counterparts, IsEquipped, SendFault, frame, transport_message, last_nonce, rekeys, split_key, Progress, is_open, idle_step, refusal, Handshaking, LawsBelow, EndState, progress_of, Side, wrote_handshake, accepted_handshake, wrote_transport, accepted_transport, Note, Wrote, WriteFault, Judged, SideWrites, SideReceives, writes_handshake, writes_transport, accepts_handshake, accepts_transport, same_role-self}
 use Rattle.noise_aead.specs.Sealing.{nonce_of}
 use Rattle.noise_aead.specs.Sealed.{length-sealed}
 use Rattle.noise_session.specs.Steps.StepValue.{Payload}
@@ -63,7 +63,7 @@ pub record HandshakeStep (s t : Side) (payload : List ℕ) : Type 0 where
 
 pub step-handshake : LawsBelow → (s t : Side) (payload : List ℕ) → IsValid s.state.party.pattern → Counterparts s.state.party t.state.party
     → IsEquipped s.state.party.pattern s.state.party.role s.state.party.own s.state.party.agree t.state.party.own → Speaks s.state.party
-    → is_some (cipher_key s.state.party.history) ≡ has_key s.state.party.pattern (passed_places s.state.party.pattern s.state.party.passed)
+    → is_some s.state.party.state.cipher.key ≡ has_key s.state.party.pattern (passed_places s.state.party.pattern s.state.party.passed)
     → overhead_of s.state.party.pattern (s.state.party.passed + 1) + length payload ≤ 65535 → t.state.partial ≡ [] → HandshakeStep s t payload
 step-handshake laws s t payload valid m has speaks keyed room empty =
     let v : Party = s.state.party in
@@ -80,7 +80,7 @@ step-handshake laws s t payload valid m has speaks keyed room empty =
       counterparts = laws.next v u payload d.1 d.0 valid m d.2;
       lacks = λ why next. writes-no-fault s next payload why (speaks-unrefused s.state (length payload) speaks room)
           (λ k l. laws.not_lacking v payload d.1 d.0 k d.2 l);
-      written = λ k next. writes-message laws s next payload d.1 d.0 k closed_s d.2;
+      written = λ k next. writes-message laws s payload next d.1 d.0 k closed_s d.2;
       can_write = writes_handshake s d.1 payload d.0 (speaks-unrefused s.state (length payload) speaks room) d.2;
       can_receive = receives-can t (accepted_handshake t (record { message = d.1; carried = d.0; payload = payload })) d.1 payload
           (listens-now t.state a.listens) empty refl a.fits (accepts_handshake t d.1 payload d.0 a);
@@ -93,7 +93,7 @@ step-handshake laws s t payload valid m has speaks keyed room empty =
 
 pub record TransportStep (s t : Side) (payload : List ℕ) : Type 0 where
   pub message : List ℕ
-  pub is : message ≡ transport_message s.state.party.history s.state.party.role s.state.interval s.state.sent payload
+  pub is : message ≡ transport_message s.state.party.state s.state.party.role s.state.interval s.state.sent payload
   pub lacks : (why : SendFault) (next : Side) → SideWrites s payload (WriteFault why) next → ⊥
   pub written : (k : ℕ) (next : Side) → SideWrites s payload (Wrote k) next
       → (next ≡ wrote_transport s (record { message = message; payload = payload })) × (k ≡ length s.frames)
@@ -113,7 +113,7 @@ pub step-transport : (s t : Side) (payload : List ℕ) → s.state.party.passed 
     → (is_one_way s.state.party.pattern && same_role s.state.party.role Responder) ≡ false
     → (is_one_way t.state.party.pattern && same_role t.state.party.role Initiator) ≡ false
     → s.state.party.ended ≡ false → t.state.party.ended ≡ false
-    → length payload ≤ 65519 → s.state.sent < last_nonce → t.state.received ≡ s.state.sent → t.state.party.history ≡ s.state.party.history
+    → length payload ≤ 65519 → s.state.sent < last_nonce → t.state.received ≡ s.state.sent → t.state.party.state ≡ s.state.party.state
     → t.state.interval ≡ s.state.interval
     → other t.state.party.role ≡ s.state.party.role → t.state.partial ≡ [] → TransportStep s t payload
 step-transport s t payload all all_t ones onet going going_t short low count history interval role empty =
@@ -121,18 +121,18 @@ step-transport s t payload all all_t ones onet going going_t short low count his
     let q : progress_of t.state ≡ Open t.state.party.role (is_one_way t.state.party.pattern) t.state.sent t.state.received = opened-now t.state going_t all_t in
     let es : is_open (progress_of s.state) ≡ true = ap is_open p in
     let et : is_open (progress_of t.state) ≡ true = ap is_open q in
-    let key : List ℕ = rekeyed_times (rekeys s.state.interval s.state.sent) (split_key s.state.party.history s.state.party.role) in
-    let m : List ℕ = transport_message s.state.party.history s.state.party.role s.state.interval s.state.sent payload in
+    let key : List ℕ = rekeyed_times (rekeys s.state.interval s.state.sent) (split_key s.state.party.state s.state.party.role) in
+    let m : List ℕ = transport_message s.state.party.state s.state.party.role s.state.interval s.state.sent payload in
     let free : refusal (progress_of s.state) (length payload) ≡ None = search rules in
     let idle : idle_step (progress_of t.state) ≡ None = search in
-    let is : m ≡ transport_message t.state.party.history (other t.state.party.role) t.state.interval t.state.received payload = search in
+    let is : m ≡ transport_message t.state.party.state (other t.state.party.role) t.state.interval t.state.received payload = search in
     let size : length m ≡ length payload + 16 = length-sealed key (nonce_of s.state.sent) [] payload in
     let below_last : t.state.received ≢ last_nonce = apart t.state.received last_nonce (subst (λ (k : ℕ). k < last_nonce) (sym count) low) in
     record {
       message = m;
       is = refl;
       lacks = λ why next. writes-no-fault s next payload why free (λ k l. after-all s.state es l.speaks.more);
-      written = λ k next. writes-transport_message s next payload k es;
+      written = λ k next. writes-transport_message s payload next k es;
       can_write = writes_transport s m payload free es refl;
       can_receive = receives-can t (accepted_transport t (record { message = m; payload = payload })) m payload idle empty refl (omega (arith, size, short))
           (accepts_transport t m payload et below_last is);

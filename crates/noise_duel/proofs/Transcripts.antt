@@ -1,13 +1,14 @@
 -- Lines in turn between two parties with their parts of one key material come through.
 use Rattle.std.proofs.Common.{rules, ◌≡◌, ℕ, zero, suc, ◌+◌, ◌-◌, ◌<◌, ◌≤◌, List, ◌∷◌, ◌++◌, length, take, drop, map, count_by, refl, ap, sym, subst, ◌∙◌, arith, append-nil, append_assoc, Some, None, []}
 use Rattle.std.specs.Prelude.{Bool, true, false, Option, if◌then◌else◌}
-use Rattle.noise_duel.proofs.Common.{nat_lt, IsTrue, MatchBool, unwrap_or, Role, Initiator, Responder, Token, E, S, Ee, Es, Se, Ss, Psk, other, same_role, turn_from, is_psk, Plan, places_of, has_psk, is_one_way, overhead_of, is_among, IsValid, name_bytes, History, MixHash, and_then, Own, Ephemeral, Static, Remote, with_ephemeral, Party, tokens_now, with_premessage, has_before, has_token, token_of, party_at_start, public_keys, Counterparts, shown_before, LawsBelow, last_nonce, HandshakeMessage, Start, begun_as, messages_of, TransportMessage, Side, Sides, side, with_side, wrote_handshake, accepted_handshake, wrote_transport, accepted_transport, Say, Note, Wrote, Judged, Happens, Run, KeyMaterial, conversation, after_conversation, public_keys_in, start_in, IsPart, InTurn, notes_of_messages, say_events, sides_at_start, in_turn, transport_messages_of, frames_by, payloads_in, MessagesComeThrough, MessagesRun, ltb-true, ltb-false}
+use Rattle.noise_duel.proofs.Common.{nat_lt, IsTrue, MatchBool, unwrap_or, Role, Initiator, Responder, Token, E, S, Ee, Es, Se, Ss, Psk, other, same_role, turn_from, is_psk, Plan, places_of, has_psk, is_one_way, overhead_of, is_among, IsValid, name_bytes, SymmetricState, Own, Ephemeral, Static, Remote, with_ephemeral, Party, tokens_now, with_premessage, has_before, has_token, token_of, party_at_start, public_keys, Counterparts, shown_before, LawsBelow, last_nonce, HandshakeMessage, Start, begun_as, messages_of, TransportMessage, Side, Sides, side, with_side, wrote_handshake, accepted_handshake, wrote_transport, accepted_transport, Say, Note, Wrote, Judged, Happens, Run, KeyMaterial, conversation, after_conversation, public_keys_in, start_in, IsPart, InTurn, notes_of_messages, say_events, sides_at_start, in_turn, transport_messages_of, frames_by, payloads_in, MessagesComeThrough, MessagesRun, ltb-true, ltb-false}
 use Rattle.noise_names.specs.Limits.{IsPattern}
 use Rattle.noise_session.specs.Steps.StepValue.{Payload}
 use Rattle.noise_duel.specs.Runs.Run.{ends, begins}
 use Rattle.noise_duel.proofs.Parts.{HasMaterial, dh-results-agree}
 use Rattle.noise_duel.proofs.OneMessage.{say-can}
 use Rattle.noise_duel.proofs.EquallyFar.{EquallyFar, due_of, after_due, handshake_message, SaidInHandshake, handshake-at, handshake-said, with_payload, SaidInTransport, transport-at, transport-said}
+use Rattle.noise_state.specs.Symmetric.{initialize, mix_hash}
 
 -- ---- all lines
 
@@ -32,45 +33,45 @@ noted-on Initiator payload d next now later lines e f g h = search
 noted-on Responder payload d next now later lines e f g h = search
 
 module _ (laws : LawsBelow) (w : KeyMaterial) where
-  -- the messages and the history from a party's state on
+  -- the messages and the state from a party's on
   abbrev from : Party → List (List ℕ) → List HandshakeMessage
-  from v ps = conversation w v.pattern v.passed v.psks v.history ps
+  from v ps = conversation w v.pattern v.passed v.psks v.state ps
 
-  abbrev beyond : Party → List (List ℕ) → History
-  beyond v ps = after_conversation w v.pattern v.passed v.psks v.history ps
+  abbrev beyond : Party → List (List ℕ) → SymmetricState
+  beyond v ps = after_conversation w v.pattern v.passed v.psks v.state ps
 
   abbrev left : Party → ℕ
   left v = length v.pattern.messages - v.passed
 
   -- with the transport messages after them
-  abbrev coming : Plan → ℕ → List (List ℕ) → History → ℕ → ℕ → ℕ → List (List ℕ) → List (Role × List ℕ) → List (Role × List ℕ)
+  abbrev coming : Plan → ℕ → List (List ℕ) → SymmetricState → ℕ → ℕ → ℕ → List (List ℕ) → List (Role × List ℕ) → List (Role × List ℕ)
   coming p n psks r interval i j ps lines =
       in_turn n (messages_of (conversation w p n psks r ps)) ++ transport_messages_of (after_conversation w p n psks r ps) interval i j lines
 
   abbrev to_come : Sides → List (Role × List ℕ) → List (Role × List ℕ)
   to_come d lines =
-      coming d.initiator.state.party.pattern d.initiator.state.party.passed d.initiator.state.party.psks d.initiator.state.party.history
+      coming d.initiator.state.party.pattern d.initiator.state.party.passed d.initiator.state.party.psks d.initiator.state.party.state
       d.initiator.state.interval d.initiator.state.sent d.responder.state.sent
       (payloads_in (left d.initiator.state.party) lines) (drop (left d.initiator.state.party) lines)
 
-  coming-same : (p q : Plan) (n m : ℕ) (s t : List (List ℕ)) (r u : History) (k l i j x y : ℕ) (xs ys : List (List ℕ)) (vs ws : List (Role × List ℕ))
+  coming-same : (p q : Plan) (n m : ℕ) (s t : List (List ℕ)) (r u : SymmetricState) (k l i j x y : ℕ) (xs ys : List (List ℕ)) (vs ws : List (Role × List ℕ))
       → p ≡ q → n ≡ m → s ≡ t → r ≡ u → k ≡ l → i ≡ j → x ≡ y → xs ≡ ys → vs ≡ ws → coming p n s r k i x xs vs ≡ coming q m t u l j y ys ws
   coming-same p q n m s t r u k l i j x y xs ys vs ws a b c d e f g h o = cc
 
   record AfterAllSaid (n : ℕ) (lines : List (Role × List ℕ)) (d e : Sides) (notes : List (Role × Note)) : Type 0 where
     noted : notes ≡ notes_of_messages (length d.initiator.frames) (length d.responder.frames) lines
     passed : e.initiator.passed ≡ d.initiator.passed ++ from d.initiator.state.party (payloads_in (left d.initiator.state.party) lines)
-    history : e.initiator.state.party.history ≡ beyond d.initiator.state.party (payloads_in (left d.initiator.state.party) lines)
+    state : e.initiator.state.party.state ≡ beyond d.initiator.state.party (payloads_in (left d.initiator.state.party) lines)
     frames : (r : Role) → (side e r).frames ≡ (side d r).frames ++ frames_by r (to_come d lines)
     count : e.initiator.state.party.passed ≡ d.initiator.state.party.passed + length (payloads_in (left d.initiator.state.party) lines)
     last : ℕ
     equally_far : EquallyFar w last e
 
-  from-same : (p q : Plan) (n m : ℕ) (s t : List (List ℕ)) (r u : History) (xs ys : List (List ℕ)) → p ≡ q → n ≡ m → s ≡ t → r ≡ u → xs ≡ ys
+  from-same : (p q : Plan) (n m : ℕ) (s t : List (List ℕ)) (r u : SymmetricState) (xs ys : List (List ℕ)) → p ≡ q → n ≡ m → s ≡ t → r ≡ u → xs ≡ ys
       → conversation w p n s r xs ≡ conversation w q m t u ys
   from-same p q n m s t r u xs ys e f g h i = cc
 
-  after-same : (p q : Plan) (n m : ℕ) (s t : List (List ℕ)) (r u : History) (xs ys : List (List ℕ)) → p ≡ q → n ≡ m → s ≡ t → r ≡ u → xs ≡ ys
+  after-same : (p q : Plan) (n m : ℕ) (s t : List (List ℕ)) (r u : SymmetricState) (xs ys : List (List ℕ)) → p ≡ q → n ≡ m → s ≡ t → r ≡ u → xs ≡ ys
       → after_conversation w p n s r xs ≡ after_conversation w q m t u ys
   after-same p q n m s t r u xs ys e f g h i = cc
 
@@ -83,11 +84,11 @@ module _ (laws : LawsBelow) (w : KeyMaterial) where
         record {
           noted = refl;
           passed = sym (ap (λ (ps : List (List ℕ)). d.initiator.passed ++ from v ps) none ∙ append-nil d.initiator.passed);
-          history = sym (ap (beyond v) none);
+          state = sym (ap (beyond v) none);
           frames = λ r. sym (ap (λ (ms : List (Role × List ℕ)). (side d r).frames ++ frames_by r ms)
-              (ap (λ (ls : List (Role × List ℕ)). coming v.pattern v.passed v.psks v.history d.initiator.state.interval d.initiator.state.sent
+              (ap (λ (ls : List (Role × List ℕ)). coming v.pattern v.passed v.psks v.state d.initiator.state.interval d.initiator.state.sent
               d.responder.state.sent (payloads_in (left v) []) ls) (drop-none (left v))
-              ∙ ap (λ (ps : List (List ℕ)). coming v.pattern v.passed v.psks v.history d.initiator.state.interval d.initiator.state.sent
+              ∙ ap (λ (ps : List (List ℕ)). coming v.pattern v.passed v.psks v.state d.initiator.state.interval d.initiator.state.sent
               d.responder.state.sent ps []) none)
               ∙ append-nil (side d r).frames);
           count = omega (arith, ap length none);
@@ -117,26 +118,26 @@ module _ (laws : LawsBelow) (w : KeyMaterial) where
                   ∙ ap (λ (ms : List HandshakeMessage). ms ++ from u (payloads_in (left u) lines)) hs.passed
                   ∙ append_assoc d.initiator.passed (due_of w o l.1 ∷ []) (from u (payloads_in (left u) lines))
                   ∙ ap (λ (ms : List HandshakeMessage). d.initiator.passed ++ due_of w o l.1 ∷ ms)
-                  (from-same u.pattern o.pattern u.passed (o.passed + 1) u.psks (drop (count_by is_psk (tokens_now o)) o.psks) u.history
-                  (after_due w o l.1) (payloads_in (left u) lines) ps hs.pattern hs.count hs.psks hs.history same)
+                  (from-same u.pattern o.pattern u.passed (o.passed + 1) u.psks (drop (count_by is_psk (tokens_now o)) o.psks) u.state
+                  (after_due w o l.1) (payloads_in (left u) lines) ps hs.pattern hs.count hs.psks hs.state same)
                   ∙ ap (λ (qs : List (List ℕ)). d.initiator.passed ++ from o qs) (sym all);
-              history =
-                  ih.history
-                  ∙ after-same u.pattern o.pattern u.passed (o.passed + 1) u.psks (drop (count_by is_psk (tokens_now o)) o.psks) u.history
-                  (after_due w o l.1) (payloads_in (left u) lines) ps hs.pattern hs.count hs.psks hs.history same
+              state =
+                  ih.state
+                  ∙ after-same u.pattern o.pattern u.passed (o.passed + 1) u.psks (drop (count_by is_psk (tokens_now o)) o.psks) u.state
+                  (after_due w o l.1) (payloads_in (left u) lines) ps hs.pattern hs.count hs.psks hs.state same
                   ∙ ap (beyond o) (sym all);
               frames = λ r.
                   ih.frames r
                   ∙ ap (λ (ms : List (Role × List ℕ)). (side next r).frames ++ frames_by r ms)
-                  (coming-same u.pattern o.pattern u.passed (o.passed + 1) u.psks (drop (count_by is_psk (tokens_now o)) o.psks) u.history
+                  (coming-same u.pattern o.pattern u.passed (o.passed + 1) u.psks (drop (count_by is_psk (tokens_now o)) o.psks) u.state
                   (after_due w o l.1) next.initiator.state.interval d.initiator.state.interval
                   next.initiator.state.sent d.initiator.state.sent next.responder.state.sent d.responder.state.sent (payloads_in (left u) lines) ps
                   (drop (left u) lines) (drop (length o.pattern.messages - (o.passed + 1)) lines)
-                  hs.pattern hs.count hs.psks hs.history step.past_message.interval hs.sent hs.sent_there same (ap (λ (k : ℕ). drop k lines) rest))
+                  hs.pattern hs.count hs.psks hs.state step.past_message.interval hs.sent hs.sent_there same (ap (λ (k : ℕ). drop k lines) rest))
                   ∙ sym (hs.frames r (coming o.pattern (o.passed + 1) (drop (count_by is_psk (tokens_now o)) o.psks) (after_due w o l.1)
                   d.initiator.state.interval d.initiator.state.sent d.responder.state.sent ps (drop (length o.pattern.messages - (o.passed + 1)) lines)))
                   ∙ sym (ap (λ (k : ℕ). (side d r).frames ++ frames_by r
-                  (coming o.pattern o.passed o.psks o.history d.initiator.state.interval d.initiator.state.sent d.responder.state.sent
+                  (coming o.pattern o.passed o.psks o.state d.initiator.state.interval d.initiator.state.sent d.responder.state.sent
                   (payloads_in k (l ∷ lines)) (drop k (l ∷ lines)))) one);
               count = omega (arith, ih.count, hs.count, ap length same, ap length all);
               last = ih.last;
@@ -159,16 +160,16 @@ module _ (laws : LawsBelow) (w : KeyMaterial) where
                   tr.passed
                   ∙ ap (λ (z : Party). d.initiator.passed ++ from z (payloads_in (left z) lines)) tr.party
                   ∙ ap (λ (qs : List (List ℕ)). d.initiator.passed ++ from o qs) none;
-              history = ih.history ∙ ap (λ (z : Party). beyond z (payloads_in (left z) lines)) tr.party ∙ ap (beyond o) none;
+              state = ih.state ∙ ap (λ (z : Party). beyond z (payloads_in (left z) lines)) tr.party ∙ ap (beyond o) none;
               frames = λ r.
                   ih.frames r
                   ∙ ap (λ (k : ℕ). (side next r).frames ++ frames_by r
-                  (coming u.pattern u.passed u.psks u.history next.initiator.state.interval next.initiator.state.sent next.responder.state.sent
+                  (coming u.pattern u.passed u.psks u.state next.initiator.state.interval next.initiator.state.sent next.responder.state.sent
                   (payloads_in k lines) (drop k lines)))
                   (ap left tr.party ∙ zero_left)
                   ∙ sym (tr.frames r lines)
                   ∙ sym (ap (λ (k : ℕ). (side d r).frames ++ frames_by r
-                  (coming o.pattern o.passed o.psks o.history d.initiator.state.interval d.initiator.state.sent d.responder.state.sent
+                  (coming o.pattern o.passed o.psks o.state d.initiator.state.interval d.initiator.state.sent d.responder.state.sent
                   (payloads_in k (l ∷ lines)) (drop k (l ∷ lines)))) zero_left);
               count = ih.count ∙ ap (λ (z : Party). z.passed + length (payloads_in (left z) lines)) tr.party
                   ∙ ap (λ (qs : List (List ℕ)). o.passed + length qs) none;
@@ -236,15 +237,15 @@ module _ (laws : LawsBelow) (w : KeyMaterial) (long : (role : Role) (k : Own) �
 none-left : (n : ℕ) → n ≤ 0 → 0 ≡ n
 none-left n h = omega (arith, h)
 
-pre-agree : (has_psks : Bool) (x y : Remote) (ts : List Token) (r : History) → (has_token E ts ≡ true → x.e ≡ y.e) → (has_token S ts ≡ true → x.s ≡ y.s)
+pre-agree : (has_psks : Bool) (x y : Remote) (ts : List Token) (r : SymmetricState) → (has_token E ts ≡ true → x.e ≡ y.e) → (has_token S ts ≡ true → x.s ≡ y.s)
     → with_premessage has_psks x ts r ≡ with_premessage has_psks y ts r
 pre-agree has_psks x y [] r f g = refl
 pre-agree has_psks x y (E ∷ ts) r f g =
     ap (λ (o : Option (List ℕ)). with_premessage has_psks x ts (with_ephemeral has_psks r (unwrap_or o []))) (f refl)
     ∙ pre-agree has_psks x y ts (with_ephemeral has_psks r (unwrap_or y.e [])) (λ h. f refl) g
 pre-agree has_psks x y (S ∷ ts) r f g =
-    ap (λ (o : Option (List ℕ)). with_premessage has_psks x ts (and_then r (MixHash (unwrap_or o [])))) (g refl)
-    ∙ pre-agree has_psks x y ts (and_then r (MixHash (unwrap_or y.s []))) f (λ h. g refl)
+    ap (λ (o : Option (List ℕ)). with_premessage has_psks x ts (mix_hash r (unwrap_or o []))) (g refl)
+    ∙ pre-agree has_psks x y ts (mix_hash r (unwrap_or y.s [])) f (λ h. g refl)
 pre-agree has_psks x y (Ee ∷ ts) r f g = pre-agree has_psks x y ts r f g
 pre-agree has_psks x y (Es ∷ ts) r f g = pre-agree has_psks x y ts r f g
 pre-agree has_psks x y (Se ∷ ts) r f g = pre-agree has_psks x y ts r f g
@@ -282,13 +283,13 @@ module _ (laws : LawsBelow) (w : KeyMaterial) (p : Plan) (prologue : List ℕ) (
       (subst (λ (z : List ℕ). Counterparts (begun_as p Initiator a) (party_at_start p Responder z b.own b.agree b.remote a.psks))
       (i.prologue_is ∙ sym j.prologue_is) first)
 
-  -- the history at the start is that of the key material
-  start-is : (begun_as p Initiator a).history ≡ start_in w p prologue
+  -- the state at the start is that of the key material
+  start-is : (begun_as p Initiator a).state ≡ start_in w p prologue
   start-is =
-      let first : List ℕ → History = λ z. and_then (record { name = name_bytes (record { base = p.base; places = p.places }); entries = [] }) (MixHash z) in
+      let first : List ℕ → SymmetricState = λ z. mix_hash (initialize (name_bytes (record { base = p.base; places = p.places }))) z in
       ap (λ (z : List ℕ). with_premessage (has_psk p) a.remote p.responder (with_premessage (has_psk p) (public_keys a.own) p.initiator (first z)))
       i.prologue_is
-      ∙ ap (λ (r : History). with_premessage (has_psk p) a.remote p.responder r)
+      ∙ ap (λ (r : SymmetricState). with_premessage (has_psk p) a.remote p.responder r)
       (pre-agree (has_psk p) (public_keys a.own) (public_keys_in w Initiator) p.initiator (first prologue)
       (λ h. i.own Ephemeral (before-own Initiator Ephemeral h)) (λ h. i.own Static (before-own Initiator Static h)))
       ∙ pre-agree (has_psk p) a.remote (public_keys_in w Responder) p.responder
@@ -327,7 +328,7 @@ messages-come-through laws w p prologue a b interval lines notes d parts turns r
     let v : Party = begun_as p Initiator a in
     let all : payloads_in (length p.messages - 0) lines ≡ payloads_in (length p.messages) lines = ap (λ (k : ℕ). payloads_in k lines) (omega arith) in
     let whole : d.initiator.passed ≡ conversation w p 0 w.psks (start_in w p prologue) (payloads_in (length p.messages) lines) =
-    c.passed ∙ from-same laws w p p 0 0 a.psks w.psks v.history (start_in w p prologue) (payloads_in (length p.messages - 0) lines)
+    c.passed ∙ from-same laws w p p 0 0 a.psks w.psks v.state (start_in w p prologue) (payloads_in (length p.messages - 0) lines)
     (payloads_in (length p.messages) lines) refl refl i.psks (start-is laws w p prologue a b i j) all in (
       c.noted,
       record {
@@ -335,11 +336,11 @@ messages-come-through laws w p prologue a b interval lines notes d parts turns r
         responder = c.equally_far.passed;
         frames = λ role. c.frames role
             ∙ ap (λ (fs : List (List ℕ)). fs ++ frames_by role (to_come laws w (sides_at_start p a b interval interval) lines)) (none-yet role) ∙ ap (frames_by role)
-            (coming-same laws w p p 0 0 a.psks w.psks v.history (start_in w p prologue) interval interval 0 0 0 0
+            (coming-same laws w p p 0 0 a.psks w.psks v.state (start_in w p prologue) interval interval 0 0 0 0
             (payloads_in (length p.messages - 0) lines) (payloads_in (length p.messages) lines)
             (drop (length p.messages - 0) lines) (drop (length p.messages) lines) refl refl i.psks (start-is laws w p prologue a b i j) refl refl refl all
             (ap (λ (k : ℕ). drop k lines) (omega arith)));
-        history = c.history ∙ after-same laws w p p 0 0 a.psks w.psks v.history (start_in w p prologue) (payloads_in (length p.messages - 0) lines)
+        state = c.state ∙ after-same laws w p p 0 0 a.psks w.psks v.state (start_in w p prologue) (payloads_in (length p.messages - 0) lines)
             (payloads_in (length p.messages) lines) refl refl i.psks (start-is laws w p prologue a b i j) all;
         count = omega (arith, c.count, ap length all);
         ends = search;

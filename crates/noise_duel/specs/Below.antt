@@ -9,7 +9,7 @@ use Rattle.noise_names.specs.Validity.{IsValid, is_among, occurs}
 use Rattle.noise_names.specs.Plan.{Plan, Place, places_of, has_psk}
 use Rattle.noise_names.specs.Overhead.{has_key, overhead_of}
 use Rattle.noise_names.specs.Limits.{IsPattern}
-use Rattle.noise_state.specs.History.{History, cipher_key}
+use Rattle.noise_state.specs.declared.symmetric.SymmetricState.{SymmetricState}
 use Rattle.noise_keys.specs.declared.keys.Own.{Own}
 use Rattle.noise_handshake.specs.declared.remote.Remote.{Remote}
 use Rattle.noise_handshake.specs.declared.faults.Cause.{Cause}
@@ -45,11 +45,11 @@ pub record LawsBelow : Type 0 where
       → Judges v message s x → Judges v message t y → (s ≡ t) × (x ≡ y)
   -- where there is a key, and what a message carries
   pub keyed_first : (name prologue : List ℕ) (p : Plan) (initiator responder : Remote) → IsPattern p
-      → is_some (cipher_key (start name p prologue initiator responder)) ≡ has_key p (passed_places p 0)
-  pub keyed_next : (p : Plan) (n : ℕ) (r : History) (xs : List (List ℕ)) (payload : List ℕ)
+      → is_some ((start name p prologue initiator responder).cipher.key) ≡ has_key p (passed_places p 0)
+  pub keyed_next : (p : Plan) (n : ℕ) (r : SymmetricState) (xs : List (List ℕ)) (payload : List ℕ)
       → n < length p.messages → Carry (tokens_at p.messages n) xs
-      → is_some (cipher_key r) ≡ has_key p (passed_places p n)
-      → is_some (cipher_key (after_payload (has_psk p) r (tokens_at p.messages n) xs payload))
+      → is_some r.cipher.key ≡ has_key p (passed_places p n)
+      → is_some ((after_payload (has_psk p) r (tokens_at p.messages n) xs payload).cipher.key)
       ≡ has_key p (passed_places p (n + 1))
   pub written_carries : (v : Party) (payload message : List ℕ) (xs : List (List ℕ))
       → Writes v payload xs message → Carry (tokens_now v) xs

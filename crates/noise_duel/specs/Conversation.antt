@@ -12,7 +12,7 @@ use Rattle.noise_names.specs.Names.{name_bytes}
 use Rattle.noise_names.specs.Overhead.{overhead_of}
 use Rattle.noise_names.specs.Validity.{is_among, occurs, IsValid}
 use Rattle.noise_names.specs.Limits.{IsPattern}
-use Rattle.noise_state.specs.History.{History}
+use Rattle.noise_state.specs.declared.symmetric.SymmetricState.{SymmetricState}
 use Rattle.noise_keys.specs.declared.keys.Own.{Own}
 use Rattle.noise_keys.specs.declared.keys.Own.TheVariants.{Ephemeral, Static}
 use Rattle.noise_handshake.specs.declared.remote.Remote.{Remote}
@@ -45,19 +45,19 @@ carried_by w party psks (S ∷ ts) = w.public party Static ∷ carried_by w part
 carried_by w party psks (Psk ∷ ts) = first_psk psks ∷ carried_by w party (other_psks psks) ts
 carried_by w party psks (t ∷ ts) = w.dh_result t ∷ carried_by w party psks ts
 
--- what message n carries, the history after it, and the psks for the messages after it
+-- what message n carries, the state after it, and the psks for the messages after it
 abbrev pub carried_at : KeyMaterial → Plan → ℕ → List (List ℕ) → List (List ℕ)
 carried_at w p n psks = carried_by w (turn_from Initiator n) psks (tokens_at p.messages n)
 
-abbrev pub history_next : KeyMaterial → Plan → ℕ → List (List ℕ) → History → List ℕ → History
-history_next w p n psks r payload =
+abbrev pub state_next : KeyMaterial → Plan → ℕ → List (List ℕ) → SymmetricState → List ℕ → SymmetricState
+state_next w p n psks r payload =
     after_payload (has_psk p) r (tokens_at p.messages n) (carried_at w p n psks) payload
 
 abbrev pub psks_next : Plan → ℕ → List (List ℕ) → List (List ℕ)
 psks_next p n psks = drop (count_by is_psk (tokens_at p.messages n)) psks
 
 -- the handshake messages from number n on, counted from 0, with these payloads (Noise 5.3)
-abbrev pub conversation : KeyMaterial → Plan → ℕ → List (List ℕ) → History → List (List ℕ) → List HandshakeMessage
+abbrev pub conversation : KeyMaterial → Plan → ℕ → List (List ℕ) → SymmetricState → List (List ℕ) → List HandshakeMessage
 conversation w p n psks r [] = []
 conversation w p n psks r (payload ∷ payloads) =
     record {
@@ -65,20 +65,20 @@ conversation w p n psks r (payload ∷ payloads) =
       carried = carried_at w p n psks;
       payload = payload;
     }
-    ∷ conversation w p (n + 1) (psks_next p n psks) (history_next w p n psks r payload) payloads
+    ∷ conversation w p (n + 1) (psks_next p n psks) (state_next w p n psks r payload) payloads
 
--- the history after them (Noise 5.3)
-abbrev pub after_conversation : KeyMaterial → Plan → ℕ → List (List ℕ) → History → List (List ℕ) → History
+-- the state after them (Noise 5.3)
+abbrev pub after_conversation : KeyMaterial → Plan → ℕ → List (List ℕ) → SymmetricState → List (List ℕ) → SymmetricState
 after_conversation w p n psks r [] = r
 after_conversation w p n psks r (payload ∷ payloads) =
-    after_conversation w p (n + 1) (psks_next p n psks) (history_next w p n psks r payload) payloads
+    after_conversation w p (n + 1) (psks_next p n psks) (state_next w p n psks r payload) payloads
 
 -- a party's public keys
 abbrev pub public_keys_in : KeyMaterial → Role → Remote
 public_keys_in w party = record { e = Some (w.public party Ephemeral); s = Some (w.public party Static) }
 
--- the history at the start (Noise 5.3)
-abbrev pub start_in : KeyMaterial → Plan → List ℕ → History
+-- the state at the start (Noise 5.3)
+abbrev pub start_in : KeyMaterial → Plan → List ℕ → SymmetricState
 start_in w p prologue =
     start (name_bytes (record { base = p.base; places = p.places })) p prologue
     (public_keys_in w Initiator) (public_keys_in w Responder)
@@ -123,9 +123,9 @@ abbrev pub in_turn : ℕ → List (List ℕ) → List (Role × List ℕ)
 in_turn n [] = []
 in_turn n (m ∷ ms) = (turn_from Initiator n, m) ∷ in_turn (n + 1) ms
 
--- the transport messages of lines with their writers, after a history and so many transport messages of each (Noise
+-- the transport messages of lines with their writers, from a state and so many transport messages of each on (Noise
 -- 5.2)
-abbrev pub transport_messages_of : History → ℕ → ℕ → ℕ → List (Role × List ℕ) → List (Role × List ℕ)
+abbrev pub transport_messages_of : SymmetricState → ℕ → ℕ → ℕ → List (Role × List ℕ) → List (Role × List ℕ)
 transport_messages_of r interval i j [] = []
 transport_messages_of r interval i j (l ∷ lines) =
     (if same_role l.0 Initiator
@@ -141,21 +141,21 @@ frames_by role (m ∷ ms) = (if same_role m.0 role then frame m.1 ∷ [] else []
 abbrev pub payloads_in : ℕ → List (Role × List ℕ) → List (List ℕ)
 payloads_in k lines = map (λ l. l.1) (take k lines)
 
--- for the lines that are handshake messages: their payloads, their messages, and the history after them
+-- for the lines that are handshake messages: their payloads, their messages, and the state after them
 abbrev pub handshake_payloads : Plan → List (Role × List ℕ) → List (List ℕ)
 handshake_payloads p lines = payloads_in (length p.messages) lines
 
 abbrev pub handshake_in : KeyMaterial → Plan → List ℕ → List (Role × List ℕ) → List HandshakeMessage
 handshake_in w p prologue lines = conversation w p 0 w.psks (start_in w p prologue) (handshake_payloads p lines)
 
-abbrev pub history_in : KeyMaterial → Plan → List ℕ → List (Role × List ℕ) → History
-history_in w p prologue lines = after_conversation w p 0 w.psks (start_in w p prologue) (handshake_payloads p lines)
+abbrev pub state_after_lines : KeyMaterial → Plan → List ℕ → List (Role × List ℕ) → SymmetricState
+state_after_lines w p prologue lines = after_conversation w p 0 w.psks (start_in w p prologue) (handshake_payloads p lines)
 
 -- all messages of lines with their writers, the handshake's and then the transport messages
 abbrev pub transcript : KeyMaterial → Plan → List ℕ → ℕ → List (Role × List ℕ) → List (Role × List ℕ)
 transcript w p prologue interval lines =
     in_turn 0 (messages_of (handshake_in w p prologue lines))
-    ++ transport_messages_of (history_in w p prologue lines) interval 0 0 (drop (length p.messages) lines)
+    ++ transport_messages_of (state_after_lines w p prologue lines) interval 0 0 (drop (length p.messages) lines)
 
 -- two new ends of one pattern, with these intervals
 abbrev pub sides_at_start : Plan → Start → Start → ℕ → ℕ → Sides
@@ -165,14 +165,14 @@ sides_at_start p a b i j = record {
 }
 
 -- Each end has written the frames of the transcript that are its own, and what the one wrote the other has accepted. As
--- many handshake messages have passed as there were lines for, the history is that of their payloads, and the ends have
--- come equally far: they have one history, and each knows the keys that the other has sent.
+-- many handshake messages have passed as there were lines for, the state is that after their payloads, and the ends have
+-- come equally far: they have one state, and each knows the keys that the other has sent.
 pub record ComeThrough (w : KeyMaterial) (p : Plan) (prologue : List ℕ) (interval : ℕ) (lines : List (Role × List ℕ))
     (d : Sides) : Type 0 where
   pub frames : (role : Role) → (side d role).frames ≡ frames_by role (transcript w p prologue interval lines)
   pub initiator : d.initiator.passed ≡ handshake_in w p prologue lines
   pub responder : d.responder.passed ≡ d.initiator.passed
-  pub history : d.initiator.state.party.history ≡ history_in w p prologue lines
+  pub state : d.initiator.state.party.state ≡ state_after_lines w p prologue lines
   pub count : d.initiator.state.party.passed ≡ length (handshake_payloads p lines)
   pub ends : EndCounterparts d.initiator.state d.responder.state
   pub there : d.responder.received ≡ d.initiator.sent
@@ -183,9 +183,9 @@ abbrev pub messages_by : Role → List (Role × List ℕ) → ℕ
 messages_by role lines = count_by (λ l. same_role l.0 role) lines
 
 -- The end of a role that starts from this, and faces a party that starts from that, once lines have come through and
--- this is the history: so many messages of the handshake have passed, the psks after theirs are to come, and the other
+-- this is the state: so many messages of the handshake have passed, the psks after theirs are to come, and the other
 -- lines were transport messages.
-abbrev pub end_after : Plan → Role → Start → Start → ℕ → History → List (Role × List ℕ) → EndState
+abbrev pub end_after : Plan → Role → Start → Start → ℕ → SymmetricState → List (Role × List ℕ) → EndState
 end_after p role s theirs interval r lines =
     let passed : ℕ = min (length p.messages) (length lines) in
     let rest : List (Role × List ℕ) = drop (length p.messages) lines in
@@ -198,7 +198,7 @@ end_after p role s theirs interval r lines =
         agree = s.agree;
         remote = shown_after p (other role) passed theirs.own;
         passed = passed;
-        history = r;
+        state = r;
         ended = false;
       };
       interval = interval;
@@ -229,8 +229,8 @@ MessagesLeave = (w : KeyMaterial) (p : Plan) (prologue : List ℕ) (a b : Start)
     (lines : List (Role × List ℕ)) (notes : List (Role × Note)) (d : Sides)
     → HaveParts w p prologue a b → InTurn p 0 lines
     → Run (sides_at_start p a b interval interval) (say_events lines) notes d
-    → (d.initiator.state ≡ end_after p Initiator a b interval (history_in w p prologue lines) lines)
-    × (d.responder.state ≡ end_after p Responder b a interval (history_in w p prologue lines) lines)
+    → (d.initiator.state ≡ end_after p Initiator a b interval (state_after_lines w p prologue lines) lines)
+    × (d.responder.state ≡ end_after p Responder b a interval (state_after_lines w p prologue lines) lines)
 
 -- There is such a run.
 abbrev pub MessagesRun : Type 0

@@ -13,7 +13,7 @@ use Rattle.noise_duel.specs.DatagramSides.{DatagramSide, DatagramSides, sealed_d
 pub data PartySeals : DatagramSide → List ℕ → DatagramNote → DatagramSide → Type 0 where
   seals : (s : DatagramSide) (payload : List ℕ)
       → unsealed s.state.role s.state.one_way s.state.sent (length payload) ≡ None
-      → PartySeals s payload (Sealed (length s.sealed) (datagram s.state.history s.state.role s.state.sent payload))
+      → PartySeals s payload (Sealed (length s.sealed) (datagram s.state.state s.state.role s.state.sent payload))
       (sealing s payload)
   seals_nothing : (s : DatagramSide) (payload : List ℕ) (why : SendFault)
       → unsealed s.state.role s.state.one_way s.state.sent (length payload) ≡ Some why

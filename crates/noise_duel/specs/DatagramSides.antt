@@ -47,7 +47,7 @@ abbrev pub sealing : DatagramSide → List ℕ → DatagramSide
 sealing s payload = record s {
   state = record (s.state) { sent = s.state.sent + 1 };
   sealed = s.sealed ++ at_nonce s.state.sent
-      (transport_message s.state.history s.state.role 0 s.state.sent payload) payload ∷ [];
+      (transport_message s.state.state s.state.role 0 s.state.sent payload) payload ∷ [];
 }
 
 abbrev pub opening : DatagramSide → List ℕ → List ℕ → DatagramSide

@@ -2,6 +2,7 @@ pub mod Below
 pub mod HashedTexts
 pub mod Messages
 pub mod Histories
+pub mod HistoryStates
 pub mod Notes
 pub mod Acts
 pub mod Sides

@@ -4,7 +4,7 @@ use Rattle.noise_names.specs.declared.token.Role.{Role}
 use Rattle.noise_names.specs.declared.token.Role.TheVariants.{Initiator, Responder}
 use Rattle.noise_names.specs.Plan.{Plan}
 use Rattle.noise_session.specs.Ends.{session_hash}
-use Rattle.noise_duel.specs.Histories.{PartiesClash}
+use Rattle.noise_duel.specs.Histories.{PartiesClash, history_of}
 use Rattle.noise_duel.specs.Messages.{Start, dh_results_from, HaveSameKeysBefore, messages_of}
 use Rattle.noise_duel.specs.Sides.{Sides}
 use Rattle.noise_events.specs.Events.{Event}
@@ -46,11 +46,12 @@ HashesReport = (p : Plan) (a b : Start) (i j : ℕ) (events : List Event) (notes
     → Run (sides_at_start p a b i j) events notes d → HaveOneHash d
     → VisiblyEqual p a b d.initiator.passed d.responder.passed ⊎ HaveClash p a b d
 
--- all of the conversation, what travelled encrypted too, and one history: one hash, one chaining key, the same
--- transport keys
-pub record HaveOneHistory (d : Sides) : Type 0 where
+-- all of the conversation, what travelled encrypted too, and one history, and so one state: one hash, one chaining key,
+-- the same transport keys
+pub record HaveOneHistory (p : Plan) (a b : Start) (d : Sides) : Type 0 where
   pub passed : d.initiator.passed ≡ d.responder.passed
-  pub history : d.initiator.state.party.history ≡ d.responder.state.party.history
+  pub history : history_of p Initiator a d.initiator.passed ≡ history_of p Responder b d.responder.passed
+  pub state : d.initiator.state.party.state ≡ d.responder.state.party.state
 
 -- The other way round: two opened ends whose conversations are the same as far as they can be seen, with the same psks
 -- and DH results, have one hash.
@@ -58,21 +59,21 @@ abbrev pub VisiblyEqualGivesOne : Type 0
 VisiblyEqualGivesOne = (p : Plan) (a b : Start) (i j : ℕ) (events : List Event) (notes : List (Role × Note)) (d : Sides)
     → Run (sides_at_start p a b i j) events notes d
     → a.prologue ≡ b.prologue → HaveSameKeysBefore p a b
-    → messages_of d.initiator.passed ≡ messages_of d.responder.passed → UsedSamePsks p a b d → HaveOneHistory d
+    → messages_of d.initiator.passed ≡ messages_of d.responder.passed → UsedSamePsks p a b d → HaveOneHistory p a b d
 
 -- With equal hashes and the same psks the ends have the whole conversation and one history in common, or there is a
 -- collision.
 abbrev pub PsksMakeOne : Type 0
 PsksMakeOne = (p : Plan) (a b : Start) (i j : ℕ) (events : List Event) (notes : List (Role × Note)) (d : Sides)
     → Run (sides_at_start p a b i j) events notes d → HaveOneHash d
-    → SharePsks p a b d → HaveOneHistory d ⊎ HaveClash p a b d
+    → SharePsks p a b d → HaveOneHistory p a b d ⊎ HaveClash p a b d
 
 -- in each direction the accepted payloads are the first of the written ones, in order, or a forged message was accepted
 pub record PayloadsAgree (interval : ℕ) (d : Sides) : Type 0 where
   pub there : PrefixOrForgedMessage
-      d.initiator.state.party.history Initiator interval d.initiator.sent d.responder.received
+      d.initiator.state.party.state Initiator interval d.initiator.sent d.responder.received
   pub back : PrefixOrForgedMessage
-      d.responder.state.party.history Responder interval d.responder.sent d.initiator.received
+      d.responder.state.party.state Responder interval d.responder.sent d.initiator.received
 
 -- With equal hashes, the same psks and equal intervals the accepted payloads agree with the written ones, or there
 -- is a clash.

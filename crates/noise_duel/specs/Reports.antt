@@ -5,7 +5,6 @@ use Rattle.noise_names.specs.declared.token.Role.TheVariants.{Initiator, Respond
 use Rattle.noise_names.specs.declared.token.Token.TheVariants.{S}
 use Rattle.noise_names.specs.Plan.{Plan}
 use Rattle.noise_names.specs.Validity.{is_among}
-use Rattle.noise_keys.specs.declared.keys.Own.{Own}
 use Rattle.noise_keys.specs.declared.keys.Own.TheVariants.{Static}
 use Rattle.noise_handshake.specs.Passed.{passed_places}
 use Rattle.noise_session.specs.declared.phase.Phase.{Phase}
@@ -13,7 +12,7 @@ use Rattle.noise_session.specs.declared.phase.Phase.TheVariants as phase
 use Rattle.noise_session.specs.Ends.{EndState, EndMatches, hash_in, remote_static_in}
 use Rattle.noise_duel.specs.declared.report.Report.{Report}
 use Rattle.noise_duel.specs.Agreement.{VisiblyEqual}
-use Rattle.noise_duel.specs.Conversation.{KeyMaterial, ComeThrough, HaveParts, InTurn, end_after, sides_at_start, frames_by, handshake_payloads, history_in, notes_of_messages, transcript}
+use Rattle.noise_duel.specs.Conversation.{KeyMaterial, ComeThrough, HaveParts, InTurn, end_after, sides_at_start, frames_by, handshake_payloads, state_after_lines, notes_of_messages, transcript}
 use Rattle.noise_names.specs.Lists.{bytes_of}
 use Rattle.noise_duel.specs.Entries.{notes_of}
 use Rattle.noise_events.specs.Events.{Event}
@@ -40,10 +39,10 @@ pub record EndsAgree (p : Plan) (a b : Start) (i j : ℕ) (last : Sides) : Type 
   -- and so one hash.
   pub back : a.prologue ≡ b.prologue → HaveSameKeysBefore p a b
       → messages_of last.initiator.passed ≡ messages_of last.responder.passed
-      → UsedSamePsks p a b last → HaveOneHistory last
+      → UsedSamePsks p a b last → HaveOneHistory p a b last
   -- With equal hashes and the same psks: all of the conversation is the same, what travelled encrypted too, or two
   -- hashed texts clash.
-  pub one : HaveOneHash last → SharePsks p a b last → HaveOneHistory last ⊎ HaveClash p a b last
+  pub one : HaveOneHash last → SharePsks p a b last → HaveOneHistory p a b last ⊎ HaveClash p a b last
   -- And with equal intervals: each end's accepted payloads are the first of those that the other wrote, in order, up to
   -- a forged message.
   pub payloads : i ≡ j → HaveOneHash last → SharePsks p a b last → PayloadsAgree i last ⊎ HaveClash p a b last
@@ -93,13 +92,13 @@ module _ {A B : Type 0} (pairs_a : A → KeyPairs)
     pub responder_frames : bytes_of report.responder.items
         ≡ frames_by Responder (transcript w p prologue interval lines)
     pub initiator : EndMatches pairs_a duel.initiator
-        (end_after p Initiator a b interval (history_in w p prologue lines) lines)
+        (end_after p Initiator a b interval (state_after_lines w p prologue lines) lines)
     pub responder : EndMatches pairs_b duel.responder
-        (end_after p Responder b a interval (history_in w p prologue lines) lines)
+        (end_after p Responder b a interval (state_after_lines w p prologue lines) lines)
     pub last : Sides
     pub matches : DuelMatches pairs_a pairs_b duel last
     pub through : ComeThrough w p prologue interval lines last
-    pub history : last.responder.state.party.history ≡ last.initiator.state.party.history
+    pub state : last.responder.state.party.state ≡ last.initiator.state.party.state
     pub hash : hash_in duel.responder.phase ≡ hash_in duel.initiator.phase
     pub keys_there : receive_key_in duel.responder.phase ≡ send_key_in duel.initiator.phase
     pub keys_back : receive_key_in duel.initiator.phase ≡ send_key_in duel.responder.phase

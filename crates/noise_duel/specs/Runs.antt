@@ -30,7 +30,7 @@ pub data SideWrites : Side → List ℕ → Note → Side → Type 0 where
   writes_transport : (s : Side) (message payload : List ℕ)
       → refusal (progress_of s.state) (length payload) ≡ None
       → IsTrue (is_open (progress_of s.state))
-      → message ≡ transport_message s.state.party.history s.state.party.role s.state.interval s.state.sent payload
+      → message ≡ transport_message s.state.party.state s.state.party.role s.state.interval s.state.sent payload
       → SideWrites s payload (Wrote (length s.frames))
       (wrote_transport s (record { message = message; payload = payload }))
 
@@ -47,7 +47,7 @@ pub data SideReads : Side → List ℕ → StepValue → Side → Type 0 where
       (accepted_handshake s (record { message = message; carried = xs; payload = payload }))
   accepts_transport : (s : Side) (message payload : List ℕ)
       → IsTrue (is_open (progress_of s.state)) → s.state.received ≢ last_nonce
-      → message ≡ transport_message s.state.party.history
+      → message ≡ transport_message s.state.party.state
       (other s.state.party.role) s.state.interval s.state.received payload
       → SideReads s message (Payload payload)
       (accepted_transport s (record { message = message; payload = payload }))

@@ -79,7 +79,7 @@ impl DatagramDuel {
             → IfOk result (λ r. DatagramReports (datagram_sides v w) (datagram_events_of events.now) r.0 r.1) }
         ensures agrees { (v w : DatagramState) → DatagramDuelMatches self (datagram_sides v w) → HaveOneBeginning v w
             → IfOk result (λ r. (left : DatagramReports (datagram_sides v w) (datagram_events_of events.now) r.0 r.1)
-            × DatagramsAgree v.history left.last) }
+            × DatagramsAgree v.state left.last) }
     {
         let mut report = DatagramReport::new(alloc);
         let mut sealed = SealedDatagrams {

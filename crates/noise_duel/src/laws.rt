@@ -38,8 +38,9 @@ fn laws_below()
     due_is_written();
 }
 
-/// The history of a party follows from its pattern, its role, what it started from, and the messages that it wrote and
-/// accepted: it mixed the prologue, the pre-messages, and then those messages (Noise 5.3).
+/// The state of a party is the one to which a history leads that follows from its pattern, its role, what it started
+/// from, and the messages that it wrote and accepted: it mixed the prologue, the pre-messages, and then those messages
+/// (Noise 5.3).
 pub fn history_follows()
     ensures { ExchangedHasHistory }
 {}

@@ -6,11 +6,11 @@ use Rattle.noise_handshake.proofs.Wanted.{wants-of}
 
 -- for a party that listens
 pub before-of : (v : Party) (m : List ℕ) (k : ℕ) (o : Result (Option (List ℕ)) Stop) → Listens v
-    → MatchResult o (λ remote. BeginsBefore (reader v) v.remote v.psks v.history (tokens_now v) m k remote)
-    (λ stop. (stop.token < k) × Stops (reader v) v.remote v.psks v.history (tokens_now v) m stop.token stop.cause × MatchOption stop.want
-    ((j : ℕ) → Stops (reader v) v.remote v.psks v.history (tokens_now v) m j Agreement → ⊥)
-    (λ want. StopsFor (reader v) v.remote v.psks v.history (tokens_now v) m want.0 want.1))
-    → MatchResult o (λ remote. BeginsBefore (reader v) v.remote v.psks v.history (tokens_now v) m k remote)
+    → MatchResult o (λ remote. BeginsBefore (reader v) v.remote v.psks v.state (tokens_now v) m k remote)
+    (λ stop. (stop.token < k) × Stops (reader v) v.remote v.psks v.state (tokens_now v) m stop.token stop.cause × MatchOption stop.want
+    ((j : ℕ) → Stops (reader v) v.remote v.psks v.state (tokens_now v) m j Agreement → ⊥)
+    (λ want. StopsFor (reader v) v.remote v.psks v.state (tokens_now v) m want.0 want.1))
+    → MatchResult o (λ remote. BeginsBefore (reader v) v.remote v.psks v.state (tokens_now v) m k remote)
     (λ stop. (stop.token < k) × Refuses v m stop.token stop.cause × MatchOption stop.want
     ((j : ℕ) → Refuses v m j Agreement → ⊥) (λ want. WantsToRead v m want.0 want.1))
 before-of v m k (Ok remote) l h = h

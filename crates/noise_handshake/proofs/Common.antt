@@ -20,10 +20,9 @@ pub use Rattle.noise_names.specs.declared.token.Role.TheVariants.{Initiator, Res
 pub use Rattle.noise_names.specs.declared.token.Token.{Token}
 pub use Rattle.noise_names.specs.declared.token.Token.TheVariants.{E, Ee, Es, S, Se, Ss}
 pub use Rattle.noise_state.specs.Ciphertexts.{ciphertext-same, length-ciphertext}
-pub use Rattle.noise_state.specs.History.{Ciphertext, History, MixHash, MixKeyAndHash, and_then, cipher_key, ciphertext}
 pub use Rattle.noise_state.specs.Outcomes.{decrypts-not}
-pub use Rattle.noise_state.specs.Symmetric.{after_ciphertext, ciphertext_now, mix_hash, mix_key_and_hash}
-pub use Rattle.noise_state.specs.Standing.{StateMatches, keyed, nonce_now}
+pub use Rattle.noise_state.specs.Symmetric.{after_ciphertext, ciphertext, initialize, mix_hash, mix_key_and_hash}
+pub use Rattle.noise_state.specs.Standing.{keyed, nonce_now}
 pub use Rattle.noise_state.specs.declared.symmetric.SymmetricState.{SymmetricState}
 pub use Rattle.noise_handshake.specs.Counterparts.{Counterparts, DhResultsAgree, DhResultsAlike, IsEquipped, counterpart, is_dh, keys_if, shown_after, shown_before, xor_agreement, xor_public}
 pub use Rattle.noise_handshake.specs.HandshakeValue.{Advances, HandshakeValue, HasPsks, IsAgreement, ended_as, is_turn, length_now, length_unless, message_len_of, read_fault, write_fault}

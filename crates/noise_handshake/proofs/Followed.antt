@@ -1,6 +1,6 @@
 -- What following the tokens of a message leaves.
 use Rattle.std.proofs.Common.{◌≡◌, ℕ, suc, ◌+◌, ◌*◌, ◌<◌, ◌≤◌, Bool, true, false, List, [], ◌∷◌, ◌++◌, length, take, drop, refl, ap, sym, subst, ◌∙◌, arith, take_all, length-drop}
-use Rattle.noise_handshake.proofs.Common.{length-take-le, take-append-drop, Advances, after_payload, Ok, Err, Some, count_by, drop_at, is_psk, after_ciphertext, ciphertext, after_own, message_bytes, HasPsks, Matches, MessageLayout, LaysNext, Plan, has_key, passed_places, Token, E, S, Ee, Es, Se, Ss, Initiator, other, turn_from, has_psk, History, SymmetricState, StateMatches, keyed, nonce_now, Remote, Cause, before_payload, after_tokens, Reader, BeginsAs, remote_after, Writer, Given, tag_width, token_width, tokens_width, keyed_after, keyed_after_tokens, nonce_after_tokens, nonce_after_message, tokens_at, tokens_now, HandshakeValue, ValueMatches, Party, held_in, IsKept, KnowsRemote, PlacedToken, tokens_of, Keying, keying_of}
+use Rattle.noise_handshake.proofs.Common.{length-take-le, take-append-drop, Advances, after_payload, Ok, Err, Some, count_by, drop_at, is_psk, after_ciphertext, ciphertext, after_own, message_bytes, HasPsks, Matches, MessageLayout, LaysNext, Plan, has_key, passed_places, Token, E, S, Ee, Es, Se, Ss, Initiator, other, turn_from, has_psk, SymmetricState, keyed, nonce_now, Remote, Cause, before_payload, after_tokens, Reader, BeginsAs, remote_after, Writer, Given, tag_width, token_width, tokens_width, keyed_after, keyed_after_tokens, nonce_after_tokens, nonce_after_message, tokens_at, tokens_now, HandshakeValue, ValueMatches, Party, held_in, IsKept, KnowsRemote, PlacedToken, tokens_of, Keying, keying_of}
 use Rattle.noise_names.specs.declared.token.Token.TheVariants.{Psk}
 use Rattle.noise_state.specs.Cipher.{next_nonce}
 use Rattle.noise_keys.specs.Keys.{KeyPairs}
@@ -24,7 +24,7 @@ use Rattle.noise_handshake.proofs.Told.{width-read, width-written}
 abbrev pub front_of : ℕ → SymmetricState → Remote → Front
 front_of n state remote = record { from = n; state = state; remote = remote }
 
-module _ {S : Type 0} (after : S → Token → ℕ → ℕ → SymmetricState → S) (r : History) (us ts : List Token) (e : us ≡ ts) (old new : S) where
+module _ {S : Type 0} (after : S → Token → ℕ → ℕ → SymmetricState → S) (r : SymmetricState) (us ts : List Token) (e : us ≡ ts) (old new : S) where
   -- tokens of the other party
   module _ (v : Reader) (known here : Remote) (psks : List (List ℕ)) (m : List ℕ) (state : SymmetricState) where
     pub front-read : (n : ℕ) → n ≤ length m → ReadsTokens v r state known here psks us m 0 (Ok n) → TellsRead after v r known psks us m 0 (Ok n) old new
@@ -40,8 +40,8 @@ module _ {S : Type 0} (after : S → Token → ℕ → ℕ → SymmetricState �
             from = sym (width-read piece m n within spelled)
                 ∙ ap (λ (ys : List (List ℕ)). length (before_payload v.has_psks r us ys)) same.0
                 ∙ ap (λ (zs : List Token). length (before_payload v.has_psks r zs xs)) e;
-            state = subst (λ (zs : List Token). StateMatches state (after_tokens v.has_psks r zs xs)) e
-                (subst (λ (ys : List (List ℕ)). StateMatches state (after_tokens v.has_psks r us ys)) same.0 q.2);
+            state = subst (λ (zs : List Token). state ≡ after_tokens v.has_psks r zs xs) e
+                (subst (λ (ys : List (List ℕ)). state ≡ after_tokens v.has_psks r us ys) same.0 q.2);
             remote = q.3 ∙ ap (λ (ys : List (List ℕ)). remote_after known us ys) same.0 ∙ ap (λ (zs : List Token). remote_after known zs xs) e;
           },
           told xs rest l1 ∙ ap (λ (zs : List Token). after_steps after v.has_psks r 0 zs xs old) e,
@@ -65,8 +65,8 @@ module _ {S : Type 0} (after : S → Token → ℕ → ℕ → SymmetricState �
             from = sym (width-written (before_payload w.has_psks r us q.0) out n within q.2)
                 ∙ ap (λ (ys : List (List ℕ)). length (before_payload w.has_psks r us ys)) same
                 ∙ ap (λ (zs : List Token). length (before_payload w.has_psks r zs xs)) e;
-            state = subst (λ (zs : List Token). StateMatches state (after_tokens w.has_psks r zs xs)) e
-                (subst (λ (ys : List (List ℕ)). StateMatches state (after_tokens w.has_psks r us ys)) same q.3);
+            state = subst (λ (zs : List Token). state ≡ after_tokens w.has_psks r zs xs) e
+                (subst (λ (ys : List (List ℕ)). state ≡ after_tokens w.has_psks r us ys) same q.3);
             remote = refl;
           },
           told xs g1 ∙ ap (λ (zs : List Token). after_steps after w.has_psks r 0 zs xs old) e,
@@ -199,7 +199,7 @@ module _ {K : Type 0} (pairs : K → KeyPairs) (h : HandshakeValue K) (state : S
 
   -- for the parties of the handshake
   pub gone-to : (v : Party) → ValueMatches pairs h v → (xs : List (List ℕ)) (payload : List ℕ) (known : Remote)
-      → StateMatches state (after_payload (has_psk v.pattern) v.history (tokens_now v) xs payload) → remote ≡ known
+      → state ≡ after_payload (has_psk v.pattern) v.state (tokens_now v) xs payload → remote ≡ known
       → ValueMatches pairs (gone_on h state remote) (record (after_own v xs payload) { remote = known })
   gone-to v s xs payload known k e = record {
     pattern = s.pattern;
@@ -210,7 +210,7 @@ module _ {K : Type 0} (pairs : K → KeyPairs) (h : HandshakeValue K) (state : S
     remote = e;
     passed = ap (λ (n : ℕ). n + 1) s.passed;
     ended = s.ended;
-    history = k;
+    state = k;
   }
 
 -- a handshake that has all psks matches the party after a message that went past
@@ -222,14 +222,14 @@ less-now pairs h v s more =
 
 module _ {K : Type 0} (pairs : K → KeyPairs) (h : HandshakeValue K) (v : Party) (s : Matches pairs h v) (less : h.passed < length h.pattern.messages) where
   pub gone-matches : (f : Front) (xs : List (List ℕ)) (payload message : List ℕ) (state : SymmetricState) (known : Remote)
-      → IsFront f (has_psk v.pattern) v.history (tokens_now v) xs known
-      → message ≡ message_bytes (has_psk v.pattern) v.history (tokens_now v) xs payload
+      → IsFront f (has_psk v.pattern) v.state (tokens_now v) xs known
+      → message ≡ message_bytes (has_psk v.pattern) v.state (tokens_now v) xs payload
       → state ≡ after_ciphertext f.state (drop f.from message)
       → Matches pairs (gone_on h state f.remote) (record (after_own v xs payload) { remote = known })
   gone-matches f xs payload message state known q spelled mixed =
       let has_psks : Bool = has_psk v.pattern in
-      let piece : List ℕ = before_payload has_psks v.history (tokens_now v) xs in
-      let after : History = after_tokens has_psks v.history (tokens_now v) xs in
+      let piece : List ℕ = before_payload has_psks v.state (tokens_now v) xs in
+      let after : SymmetricState = after_tokens has_psks v.state (tokens_now v) xs in
       let rest : drop f.from message ≡ ciphertext after payload =
       ap (drop f.from) spelled ∙ drop_at piece (ciphertext after payload) f.from (sym q.from) in
       matches-of pairs (gone_on h state f.remote) (record (after_own v xs payload) { remote = known })

@@ -1,7 +1,7 @@
 -- The first tokens of a message.
 use Rattle.std.proofs.Common.{rules, ◌≡◌, ℕ, zero, suc, ◌+◌, ◌<◌, List, [], ◌∷◌, ◌++◌, length, take, drop, refl, ap, sym, subst, ◌∙◌, arith, take-take, length-take, append_assoc}
 use Rattle.std.specs.Prelude.{Bool, true}
-use Rattle.noise_handshake.proofs.Common.{take-append-drop, list_all, Token, History, Own, Remote, Cause, PlacedToken, keyed_after, Reader, BeginsAs, CanBegin, cause_at, remote_after, LacksDhResultFor, Writer, Given, LacksDhResultAt, tokens_of, ArePlaced, StopsKnowing, and_parts}
+use Rattle.noise_handshake.proofs.Common.{take-append-drop, list_all, Token, SymmetricState, Own, Remote, Cause, PlacedToken, keyed_after, Reader, BeginsAs, CanBegin, cause_at, remote_after, LacksDhResultFor, Writer, Given, LacksDhResultAt, tokens_of, ArePlaced, StopsKnowing, and_parts}
 
 pub tokens-take : (ps : List PlacedToken) (k : ℕ) → tokens_of (take k ps) ≡ take k (tokens_of ps)
 tokens-take ps zero = refl
@@ -25,7 +25,7 @@ cause-take keyed (t ∷ ts) zero j rest h w = absurd (omega (arith, h))
 cause-take keyed (t ∷ ts) (suc k) zero rest h w = refl
 cause-take keyed (t ∷ ts) (suc k) (suc j) rest h w = cause-take keyed ts k j rest (omega (arith, h)) (omega (arith, w))
 
-pub stops-all : (v : Reader) (known : Remote) (s : List (List ℕ)) (r : History) (ts : List Token) (m : List ℕ) (k j : ℕ) (cause : Cause) (here : Remote)
+pub stops-all : (v : Reader) (known : Remote) (s : List (List ℕ)) (r : SymmetricState) (ts : List Token) (m : List ℕ) (k j : ℕ) (cause : Cause) (here : Remote)
     → j < length (take k ts) → StopsKnowing v known s r (take k ts) m j cause here → StopsKnowing v known s r ts m j cause here
 stops-all v known s r ts m k j cause here h (stop, knows) =
     let less : j < k = omega (arith, h, length-take k ts) in

@@ -1,7 +1,7 @@
 -- The steps of writing, as the code's values have them.
 use Rattle.std.proofs.Common.{rules, ◌≡◌, ℕ, zero, suc, ◌+◌, ◌<◌, ◌≤◌, List, [], ◌∷◌, ◌++◌, take, refl, ap, sym, subst, arith, add-one, take-take}
 use Rattle.std.specs.Prelude.{Bool}
-use Rattle.noise_handshake.proofs.Common.{Token, History, Remote, token_bytes, after_token, before_payload, after_tokens, keyed_after, keyed_after_tokens, tag_width, token_width, tokens_width, added_width, Party, psks_after, tokens_now, Writer, writer, Gives, Given, LacksDhResultAt, Writes, LacksDhResult}
+use Rattle.noise_handshake.proofs.Common.{Token, SymmetricState, Remote, token_bytes, after_token, before_payload, after_tokens, keyed_after, keyed_after_tokens, tag_width, token_width, tokens_width, added_width, Party, psks_after, tokens_now, Writer, writer, Gives, Given, LacksDhResultAt, Writes, LacksDhResult}
 use Rattle.noise_handshake.proofs.Once.{same-place}
 
 -- one token more in front
@@ -28,7 +28,7 @@ pub widths-last : (has_psks keyed keyed2 : Bool) (ts : List Token) (n k p room :
     → n ≡ tokens_width has_psks keyed ts → keyed2 ≡ keyed_after_tokens has_psks keyed ts → k ≡ p + tag_width keyed2 → n + k ≤ room
 widths-last has_psks keyed keyed2 ts n k p room fits e f h = omega (arith, ap tag_width f)
 
-module _ (w : Writer) (known : Remote) (psks others : List (List ℕ)) (r : History) (tokens ts : List Token) (t : Token) (x : List ℕ)
+module _ (w : Writer) (known : Remote) (psks others : List (List ℕ)) (r : SymmetricState) (tokens ts : List Token) (t : Token) (x : List ℕ)
     (split : tokens ≡ t ∷ ts) (gives : Gives w known psks t x) (holds : others ≡ psks_after psks t) where
   pub given-on : (xs : List (List ℕ)) → Given w known others ts xs → Given w known psks tokens (x ∷ xs)
   given-on xs h = search rules
@@ -37,9 +37,9 @@ module _ (w : Writer) (known : Remote) (psks others : List (List ℕ)) (r : Hist
       → start ++ more ≡ before_payload w.has_psks r tokens (x ∷ xs)
   front-on xs start more e f = search
 
-  pub after-on : {St : Type 0} (matches : St → History → Type 0) (state : St) (xs : List (List ℕ))
-      → matches state (after_tokens w.has_psks (after_token w.has_psks r t x) ts xs) → matches state (after_tokens w.has_psks r tokens (x ∷ xs))
-  after-on matches state xs h = subst (λ (us : List Token). matches state (after_tokens w.has_psks r us (x ∷ xs))) (sym split) h
+  pub after-on : (state : SymmetricState) (xs : List (List ℕ))
+      → state ≡ after_tokens w.has_psks (after_token w.has_psks r t x) ts xs → state ≡ after_tokens w.has_psks r tokens (x ∷ xs)
+  after-on state xs h = subst (λ (us : List Token). state ≡ after_tokens w.has_psks r us (x ∷ xs)) (sym split) h
 
   pub lacks-on : (k : ℕ) → LacksDhResultAt w known others ts k → LacksDhResultAt w known psks tokens (k + 1)
   lacks-on k l =

@@ -50,7 +50,7 @@ module _ (v : Party) (u : List (List ℕ)) (n : ℕ) (e : take n u ≡ take n v.
       → (w : WantsToRead (holding v u) m own key) → suc (length w.stops.before) ≤ k → WantsToRead v m own key
   wants-partial m own key k c w h = record {
     listens = listens-partial v u w.listens;
-    stops = stops-for-same (reader v) v.remote u v.psks v.history n e (tokens_now v) m own key w.stops
+    stops = stops-for-same (reader v) v.remote u v.psks v.state n e (tokens_now v) m own key w.stops
         (omega (arith, c, count-less (tokens_now v) (suc (length w.stops.before)) k h));
   }
 
@@ -72,12 +72,12 @@ module _ (v : Party) (u : List (List ℕ)) (n : ℕ) (e : take n u ≡ take n v.
 
 -- where reading comes to it
 pub wants-psk : (v : Party) (m : List ℕ) (n k : ℕ) (remote : Option (List ℕ)) → Listens v → IsPskAfter (tokens_now v) n k
-    → BeginsBefore (reader v) v.remote v.psks v.history (tokens_now v) m k remote → WantsPskToRead v n m remote
+    → BeginsBefore (reader v) v.remote v.psks v.state (tokens_now v) m k remote → WantsPskToRead v n m remote
 wants-psk v m n k remote l a b = search
 
 -- the key that it reports is determined
 pub psk-one : (v : Party) (m : List ℕ) (n k : ℕ) (remote other : Option (List ℕ)) → IsPskAfter (tokens_now v) n k
-    → BeginsBefore (reader v) v.remote v.psks v.history (tokens_now v) m k remote → WantsPskToRead v n m other → remote ≡ other
+    → BeginsBefore (reader v) v.remote v.psks v.state (tokens_now v) m k remote → WantsPskToRead v n m other → remote ≡ other
 psk-one v m n k remote other a b w = search (rules, psk-place, front-apart)
 
 -- what stops before it doesn't come to it
@@ -85,10 +85,10 @@ pub psk-not : (v : Party) (m : List ℕ) (n k j : ℕ) (cause : Cause) (remote :
     → Refuses v m j cause → WantsPskToRead v n m remote → ⊥
 psk-not v m n k j cause remote a h r w =
     let same : w.before ≡ take k (tokens_now v) = psk-place (tokens_now v) w.before w.later n k a w.tokens w.count in
-    let l = subst (λ (us : List Token). BeginsAs (reader v) v.remote v.psks v.history us w.carried m w.rest) same w.leads in
-    let reaches = reads-leads (reader v) v.remote v.psks v.history (take k (tokens_now v)) w.carried m w.rest (suc j) l in
+    let l = subst (λ (us : List Token). BeginsAs (reader v) v.remote v.psks v.state us w.carried m w.rest) same w.leads in
+    let reaches = reads-leads (reader v) v.remote v.psks v.state (take k (tokens_now v)) w.carried m w.rest (suc j) l in
     r.stops.further (omega (arith, h, a.within))
-    (subst (λ (us : List Token). CanBegin (reader v) v.remote v.psks v.history us m) (take-take (suc j) k (tokens_now v) (omega (arith, h))) reaches)
+    (subst (λ (us : List Token). CanBegin (reader v) v.remote v.psks v.state us m) (take-take (suc j) k (tokens_now v) (omega (arith, h))) reaches)
 
 -- where there are psks enough
 pub psk-none : (v : Party) (m : List ℕ) (n : ℕ) (remote : Option (List ℕ)) → count_by is_psk (tokens_now v) ≤ n → WantsPskToRead v n m remote → ⊥
@@ -108,7 +108,7 @@ module _ {K : Type 0} (pairs : K → KeyPairs) (h : HandshakeValue K) (v : Party
     remote = s.remote;
     passed = s.passed;
     ended = s.ended;
-    history = s.history;
+    state = s.state;
   }
 
   pub agrees : take (length h.psks) h.psks ≡ take (length h.psks) v.psks
@@ -130,7 +130,7 @@ module _ {K : Type 0} (pairs : K → KeyPairs) (h : HandshakeValue K) (v : Party
     remote = t.remote;
     passed = t.passed;
     ended = t.ended;
-    history = t.history;
+    state = t.state;
   }
 
   pub after-written : (h2 : HandshakeValue K) (xs : List (List ℕ)) (payload : List ℕ) → count_by is_psk (tokens_now v) ≤ length h.psks
@@ -145,7 +145,7 @@ module _ {K : Type 0} (pairs : K → KeyPairs) (h : HandshakeValue K) (v : Party
     remote = t.remote;
     passed = t.passed;
     ended = t.ended;
-    history = t.history;
+    state = t.state;
   }
 
 -- ---- a handshake that has all psks
@@ -161,7 +161,7 @@ module _ {K : Type 0} (pairs : K → KeyPairs) (h : HandshakeValue K) (v : Party
     remote = s.remote;
     passed = s.passed;
     ended = s.ended;
-    history = s.history;
+    state = s.state;
   }
 
   pub matches-of : ValueMatches pairs h v → IsSupplied h → Matches pairs h v
@@ -174,7 +174,7 @@ module _ {K : Type 0} (pairs : K → KeyPairs) (h : HandshakeValue K) (v : Party
     remote = s.remote;
     passed = s.passed;
     ended = s.ended;
-    history = s.history;
+    state = s.state;
     supplied = all;
   }
 
@@ -363,21 +363,21 @@ module _ {K : Type 0} (pairs : K → KeyPairs) (h : HandshakeValue K) (v : Party
     few-before : (j : ℕ) → j ≤ k → count_by is_psk (take j (tokens_now v)) ≤ given-now
     few-before j less = omega (arith, at-read.count, count-less (tokens_now v) j k less)
 
-    leads-here : (remote : Option (List ℕ)) → BeginsBefore (reader v) v.remote h.psks v.history (tokens_now v) m k remote
-        → BeginsBefore (reader v) v.remote v.psks v.history (tokens_now v) m k remote
+    leads-here : (remote : Option (List ℕ)) → BeginsBefore (reader v) v.remote h.psks v.state (tokens_now v) m k remote
+        → BeginsBefore (reader v) v.remote v.psks v.state (tokens_now v) m k remote
     leads-here remote l = record {
       carried = l.carried;
       rest = l.rest;
-      leads = leads-same (reader v) v.remote h.psks v.psks v.history given-now alike (take k (tokens_now v)) l.carried m l.rest
+      leads = leads-same (reader v) v.remote h.psks v.psks v.state given-now alike (take k (tokens_now v)) l.carried m l.rest
           (few-before k (omega arith)) l.leads;
       remote_is = l.remote_is;
     }
 
     pub before-psk : (remote : Option (List ℕ)) → h.passed ≤ length h.pattern.messages → read_fault h ≡ None
-        → BeginsBefore (reader v) v.remote h.psks v.history (tokens_now v) m k remote → WantsPskToRead v given-now m remote
+        → BeginsBefore (reader v) v.remote h.psks v.state (tokens_now v) m k remote → WantsPskToRead v given-now m remote
     before-psk remote within none b = search (rules, wants-psk, leads-here)
 
-    pub before-one : (remote other : Option (List ℕ)) → BeginsBefore (reader v) v.remote h.psks v.history (tokens_now v) m k remote
+    pub before-one : (remote other : Option (List ℕ)) → BeginsBefore (reader v) v.remote h.psks v.state (tokens_now v) m k remote
         → WantsPskToRead v given-now m other → remote ≡ other
     before-one remote other b x = psk-one v m given-now k remote other at-read (leads-here remote b) x
 

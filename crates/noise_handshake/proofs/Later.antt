@@ -1,7 +1,7 @@
 -- What a message's tokens carry doesn't depend on the psks that are handed in for later psk tokens.
 use Rattle.std.proofs.Common.{rules, ◌≡◌, ℕ, zero, suc, ◌≤◌, List, [], ◌∷◌, length, take, refl, ap, sym, subst, ◌∙◌, arith, take-take, take_all}
 use Rattle.std.specs.Prelude.{cond}
-use Rattle.noise_handshake.proofs.Common.{sum_by-cons, sum_by-take-le, count_by, Token, E, S, Ee, Es, Se, Ss, is_psk, History, Own, Remote, Cause, Reader, Fit, BeginsAs, CanBegin, Reads, Stops, first_psk, other_psks, known_after, StopsFor, LacksDhResultFor, Writer, Given, LacksDhResultAt}
+use Rattle.noise_handshake.proofs.Common.{sum_by-cons, sum_by-take-le, count_by, Token, E, S, Ee, Es, Se, Ss, is_psk, SymmetricState, Own, Remote, Cause, Reader, Fit, BeginsAs, CanBegin, Reads, Stops, first_psk, other_psks, known_after, StopsFor, LacksDhResultFor, Writer, Given, LacksDhResultAt}
 use Rattle.noise_names.specs.declared.token.Token.TheVariants.{Psk}
 
 -- ---- psk tokens
@@ -64,7 +64,7 @@ given-same w known s u (suc n) (Psk ∷ ts) (x ∷ xs) c e f =
 
 -- ---- reading
 
-module _ (v : Reader) (known : Remote) (s u : List (List ℕ)) (r : History) (n : ℕ) (e : take n s ≡ take n u) where
+module _ (v : Reader) (known : Remote) (s u : List (List ℕ)) (r : SymmetricState) (n : ℕ) (e : take n s ≡ take n u) where
   pub leads-same : (ts : List Token) (xs : List (List ℕ)) (m rest : List ℕ) → count_by is_psk ts ≤ n
       → BeginsAs v known s r ts xs m rest → BeginsAs v known u r ts xs m rest
   leads-same ts xs m rest c l = record { fit = fit-same v known s u n ts xs c e l.fit; spelled = l.spelled }
@@ -76,7 +76,7 @@ module _ (v : Reader) (known : Remote) (s u : List (List ℕ)) (r : History) (n 
       → Reads v known s r ts m xs payload → Reads v known u r ts m xs payload
   reads-same ts m xs payload c l = record { fit = fit-same v known s u n ts xs c e l.fit; spelled = l.spelled }
 
-module _ (v : Reader) (known : Remote) (s u : List (List ℕ)) (r : History) (n : ℕ) (e : take n s ≡ take n u) (ts : List Token) (m : List ℕ) where
+module _ (v : Reader) (known : Remote) (s u : List (List ℕ)) (r : SymmetricState) (n : ℕ) (e : take n s ≡ take n u) (ts : List Token) (m : List ℕ) where
   pub stops-same : (k : ℕ) (cause : Cause) → count_by is_psk (take (suc k) ts) ≤ n → Stops v known s r ts m k cause → Stops v known u r ts m k cause
   stops-same k cause c l = record {
     within = l.within;

@@ -1,7 +1,7 @@
 -- The next message of a handshake: what its fields give a reader or a writer, and what they hold after it.
 use Rattle.std.proofs.Common.{rules, ◌≡◌, ℕ, ◌+◌, ◌-◌, ◌<◌, ◌≤◌, ◌^◌, List, Bool, true, length, take, drop, sym, ap, subst, refl, ◌∙◌, arith, length-drop, drop-drop}
 use Rattle.std.specs.Prelude.{is_some, not}
-use Rattle.noise_handshake.proofs.Common.{None, Some, count_by, ◌&&◌, ◌==◌, list_all, Token, Initiator, is_psk, other, turn_from, Plan, has_psk, has_key, overhead_of, StateMatches, keyed, nonce_now, SymmetricState, MessageLayout, PlacedToken, Remote, HandshakeValue, HasPsks, is_turn, message_len_of, read_fault, write_fault, added_width, keyed_after_tokens, nonce_after_message, ValueMatches, passed_places, Party, tokens_at, tokens_now, held_in, IsKept, IsPskAfter, KnowsRemote, are_known, is_known, tokens_of, ArePlaced, LaysNext, Listening, Speaking, has_own}
+use Rattle.noise_handshake.proofs.Common.{None, Some, count_by, ◌&&◌, ◌==◌, list_all, Token, Initiator, is_psk, other, turn_from, Plan, has_psk, has_key, overhead_of, keyed, nonce_now, SymmetricState, MessageLayout, PlacedToken, Remote, HandshakeValue, HasPsks, is_turn, message_len_of, read_fault, write_fault, added_width, keyed_after_tokens, nonce_after_message, ValueMatches, passed_places, Party, tokens_at, tokens_now, held_in, IsKept, IsPskAfter, KnowsRemote, are_known, is_known, tokens_of, ArePlaced, LaysNext, Listening, Speaking, has_own}
 use Rattle.noise_handshake.specs.declared.handshake.Handshake.TheInside.{Inside}
 use Rattle.noise_handshake.proofs.Keeping.{key-after, sound-after}
 use Rattle.noise_handshake.proofs.Knowing.{reading-known, writing-known}
@@ -177,8 +177,8 @@ module _ {K : Type 0} (pairs : K → KeyPairs) (a : Inside K) (i : IsKept pairs 
     here : tokens_of placed ≡ tokens_now v
     here = tokens-next ∙ tokens-are pairs (held_in a) v matches-in
 
-    pub trial-next : (state : SymmetricState) → state ≡ a.state → StateMatches state v.history
-    trial-next state e = subst (λ (z : SymmetricState). StateMatches z v.history) (sym e) matches-in.history
+    pub trial-next : (state : SymmetricState) → state ≡ a.state → state ≡ v.state
+    trial-next state e = subst (λ (z : SymmetricState). z ≡ v.state) (sym e) matches-in.state
 
     module _ (ds : List (List ℕ)) (f : ds ≡ a.psks.items) where
       pub listening-next : read_fault h ≡ None

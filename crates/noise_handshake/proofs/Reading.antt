@@ -1,13 +1,13 @@
 -- The steps of reading, as the code's values have them.
 use Rattle.std.proofs.Common.{rules, ◌≡◌, ℕ, suc, ◌+◌, ◌-◌, ◌<◌, ◌≤◌, List, ◌∷◌, ◌++◌, length, take, drop, ap, sym, subst, ◌∙◌, arith, drop-drop, length-take, length-drop, append-nil}
 use Rattle.std.specs.Prelude.{is_some}
-use Rattle.noise_handshake.proofs.Common.{take-append-le, drop_at, length-take-le, nil_from_length, drop-append_seam, Token, History, cipher_key, Remote, Cause, token_bytes, after_token, Reader, Fits, BeginsAs, known_after, psks_after, remote_after, cause_of, Fails, StopsKnowing}
+use Rattle.noise_handshake.proofs.Common.{take-append-le, drop_at, length-take-le, nil_from_length, drop-append_seam, Token, SymmetricState, Remote, Cause, token_bytes, after_token, Reader, Fits, BeginsAs, known_after, psks_after, remote_after, cause_of, Fails, StopsKnowing}
 use borrow.Rule.Slice.PartMut.{put_mid}
 use Rattle.noise_handshake.proofs.Apart.{leads-more, stops-later}
 
-pub stopped : (v : Reader) (known : Remote) (psks : List (List ℕ)) (r : History) (tokens ts : List Token) (t : Token) (m : List ℕ) (cause : Cause)
+pub stopped : (v : Reader) (known : Remote) (psks : List (List ℕ)) (r : SymmetricState) (tokens ts : List Token) (t : Token) (m : List ℕ) (cause : Cause)
     (here : Remote)
-    → tokens ≡ t ∷ ts → Fails v known psks r t m → cause ≡ cause_of (is_some (cipher_key r)) t m → here ≡ known
+    → tokens ≡ t ∷ ts → Fails v known psks r t m → cause ≡ cause_of (is_some r.cipher.key) t m → here ≡ known
     → StopsKnowing v known psks r tokens m 0 cause here
 stopped v known psks r tokens ts t m cause here e bad why same = search rules
 
@@ -36,7 +36,7 @@ rest-at m buf n len h rest =
         ∙ ap (λ (p : List ℕ). buf ++ p) (nil_from_length post none)
         ∙ append-nil buf
 
-module _ (v : Reader) (known known2 : Remote) (psks secrets2 : List (List ℕ)) (r : History) (tokens ts : List Token) (t : Token) (x m m2 : List ℕ) (n : ℕ)
+module _ (v : Reader) (known known2 : Remote) (psks secrets2 : List (List ℕ)) (r : SymmetricState) (tokens ts : List Token) (t : Token) (x m m2 : List ℕ) (n : ℕ)
     (split : tokens ≡ t ∷ ts) (fits : Fits v known psks t x) (spelled : m ≡ token_bytes r t x ++ drop n m)
     (knows : known2 ≡ known_after known t x) (holds : secrets2 ≡ psks_after psks t) (goes : m2 ≡ drop n m) where
   pub led : (xs : List (List ℕ)) (k : ℕ) → BeginsAs v known2 secrets2 (after_token v.has_psks r t x) ts xs m2 (drop k m2)

@@ -106,7 +106,7 @@ module _ {K : Type 0} (pairs : K → KeyPairs) (h : HandshakeValue K) (v : Party
     remote = s.remote;
     passed = s.passed;
     ended = s.ended;
-    history = s.history;
+    state = s.state;
   }
 
   -- it has ended
@@ -120,7 +120,7 @@ module _ {K : Type 0} (pairs : K → KeyPairs) (h : HandshakeValue K) (v : Party
     remote = s.remote;
     passed = s.passed;
     ended = e;
-    history = s.history;
+    state = s.state;
   }
 
 -- what holds of a party's parts holds of the party that it listens for
@@ -131,13 +131,13 @@ module _ (v : Party) (role : Role) (has_psks : Bool) (agree : Own → List ℕ �
   for-view P h = search rules
 
   pub accepted : (m : List ℕ) (xs : List (List ℕ)) (payload : List ℕ) → length m ≤ 65535
-      → Reads (record { role = role; has_psks = has_psks; agree = agree }) known psks v.history tokens m xs payload → Accepts v m xs payload
+      → Reads (record { role = role; has_psks = has_psks; agree = agree }) known psks v.state tokens m xs payload → Accepts v m xs payload
   accepted m xs payload fits h = record {
     listens = l.listens;
     fits = fits;
-    reads = for-view (λ w k s ts. Reads w k s v.history ts m xs payload) h;
+    reads = for-view (λ w k s ts. Reads w k s v.state ts m xs payload) h;
   }
 
   pub refused : (m : List ℕ) (k : ℕ) (cause : Cause)
-      → Stops (record { role = role; has_psks = has_psks; agree = agree }) known psks v.history tokens m k cause → Refuses v m k cause
-  refused m k cause h = record { listens = l.listens; stops = for-view (λ w z s ts. Stops w z s v.history ts m k cause) h }
+      → Stops (record { role = role; has_psks = has_psks; agree = agree }) known psks v.state tokens m k cause → Refuses v m k cause
+  refused m k cause h = record { listens = l.listens; stops = for-view (λ w z s ts. Stops w z s v.state ts m k cause) h }

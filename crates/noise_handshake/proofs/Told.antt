@@ -1,6 +1,6 @@
 -- What is told of a message's first token, and then of those after it.
 use Rattle.std.proofs.Common.{◌≡◌, ℕ, suc, ◌+◌, ◌≤◌, Bool, List, [], ◌∷◌, ◌++◌, length, take, drop, ap, sym, subst, ◌∙◌, arith, append_assoc, length-append, length-drop, length-take}
-use Rattle.noise_handshake.proofs.Common.{Token, History, SymmetricState, StateMatches, Remote, token_bytes, after_token, before_payload, Reader, Fits, Fit, BeginsAs, known_after, psks_after, first_psk, Writer, Gives, Given}
+use Rattle.noise_handshake.proofs.Common.{Token, SymmetricState, Remote, token_bytes, after_token, before_payload, Reader, Fits, Fit, BeginsAs, known_after, psks_after, first_psk, Writer, Gives, Given}
 use Rattle.noise_handshake.proofs.Apart.{token-apart}
 use Rattle.noise_handshake.proofs.Giving.{given-one}
 use Rattle.noise_handshake.specs.Steps.{after_step, after_steps}
@@ -15,14 +15,14 @@ width-written piece out n h e = omega (arith, h, ap length e, length-take n out)
 
 module _ {S : Type 0} (after : S → Token → ℕ → ℕ → SymmetricState → S) where
   -- what the code tells of a token
-  pub told-one : (has_psks : Bool) (r : History) (t : Token) (x : List ℕ) (place first n : ℕ) (state : SymmetricState) (old mid : S)
-      → mid ≡ after old t first (first + n) state → first ≡ place → length (token_bytes r t x) ≡ n → StateMatches state (after_token has_psks r t x)
+  pub told-one : (has_psks : Bool) (r : SymmetricState) (t : Token) (x : List ℕ) (place first n : ℕ) (state : SymmetricState) (old mid : S)
+      → mid ≡ after old t first (first + n) state → first ≡ place → length (token_bytes r t x) ≡ n → state ≡ after_token has_psks r t x
       → mid ≡ after_step after has_psks r place t x old
   told-one has_psks r t x place first n state old mid e f wide s =
       e ∙ ap (λ (k : ℕ). after old t k (k + n) state) f ∙ ap (λ (k : ℕ). after old t place (place + k) state) (sym wide)
       ∙ ap (after old t place (place + length (token_bytes r t x))) s
 
-  module _ (has_psks : Bool) (r : History) (t : Token) (ts : List Token) (x : List ℕ) (ys : List (List ℕ)) (place place2 : ℕ) (old mid new : S)
+  module _ (has_psks : Bool) (r : SymmetricState) (t : Token) (ts : List Token) (x : List ℕ) (ys : List (List ℕ)) (place place2 : ℕ) (old mid new : S)
       (from : place2 ≡ place + length (token_bytes r t x)) (here : mid ≡ after_step after has_psks r place t x old) where
     pub told-on : new ≡ after_steps after has_psks (after_token has_psks r t x) place2 ts ys mid
         → new ≡ after_steps after has_psks r place (t ∷ ts) (x ∷ ys) old
@@ -31,7 +31,7 @@ module _ {S : Type 0} (after : S → Token → ℕ → ℕ → SymmetricState �
         ∙ ap (after_steps after has_psks (after_token has_psks r t x) (place + length (token_bytes r t x)) ts ys) here
 
   -- of the other party's tokens
-  module _ (v : Reader) (known known2 : Remote) (psks others : List (List ℕ)) (r : History) (tokens ts : List Token) (t : Token) (x m m2 : List ℕ)
+  module _ (v : Reader) (known known2 : Remote) (psks others : List (List ℕ)) (r : SymmetricState) (tokens ts : List Token) (t : Token) (x m m2 : List ℕ)
       (place place2 : ℕ) (old mid new : S) (split : tokens ≡ t ∷ ts) (fits : Fits v known psks t x) (spelled : m ≡ token_bytes r t x ++ m2)
       (knows : known2 ≡ known_after known t x) (holds : others ≡ psks_after psks t)
       (from : place2 ≡ place + length (token_bytes r t x)) (here : mid ≡ after_step after v.has_psks r place t x old) where
@@ -73,7 +73,7 @@ module _ {S : Type 0} (after : S → Token → ℕ → ℕ → SymmetricState �
         (first-read (take k ts) later xs rest (subst (λ (us : List Token). BeginsAs v known psks r us xs m rest) e l))
 
   -- of the party's own
-  module _ (w : Writer) (known : Remote) (psks others : List (List ℕ)) (r : History) (tokens ts : List Token) (t : Token) (x : List ℕ)
+  module _ (w : Writer) (known : Remote) (psks others : List (List ℕ)) (r : SymmetricState) (tokens ts : List Token) (t : Token) (x : List ℕ)
       (place place2 : ℕ) (old mid new : S) (split : tokens ≡ t ∷ ts) (gives : Gives w known psks t x) (holds : others ≡ psks_after psks t)
       (from : place2 ≡ place + length (token_bytes r t x)) (here : mid ≡ after_step after w.has_psks r place t x old) where
     first-written : (us : List Token)

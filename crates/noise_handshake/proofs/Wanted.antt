@@ -1,7 +1,7 @@
 -- Which DH result the next message lacks: reading.
 use Rattle.std.proofs.Common.{rules, ◌≡◌, ℕ, zero, suc, ◌+◌, ◌<◌, ◌≤◌, List, [], ◌∷◌, ◌++◌, length, take, drop, get_or, refl, ap, sym, subst, ◌∙◌, arith, append_assoc, length-take}
 use Rattle.std.specs.Prelude.{Bool, true, is_some, nat_lt, if◌then◌else◌}
-use Rattle.noise_handshake.proofs.Common.{take-append_seam, Option, Some, None, MatchOption, Token, E, S, Ee, Es, Se, Ss, Role, History, cipher_key, Own, Remote, Agreement, PlacedToken, token_bytes, after_token, before_payload, after_tokens, Party, Reader, reader, Listens, Fit, BeginsAs, CanBegin, Stops, Refuses, known_after, psks_after, remote_after, first_psk, own_at, remote_at, cause_of, cause_at, tokens_now, StopsFor, WantsToRead, is_known, are_known, has_after, has_after_tokens, tokens_of, Listening, StopsKnowing, and_parts}
+use Rattle.noise_handshake.proofs.Common.{take-append_seam, Option, Some, None, MatchOption, Token, E, S, Ee, Es, Se, Ss, Role, SymmetricState, Own, Remote, Agreement, PlacedToken, token_bytes, after_token, before_payload, after_tokens, Party, Reader, reader, Listens, Fit, BeginsAs, CanBegin, Stops, Refuses, known_after, psks_after, remote_after, first_psk, own_at, remote_at, cause_of, cause_at, tokens_now, StopsFor, WantsToRead, is_known, are_known, has_after, has_after_tokens, tokens_of, Listening, StopsKnowing, and_parts}
 use Rattle.noise_names.specs.declared.token.Token.TheVariants.{Psk}
 use Rattle.noise_handshake.specs.declared.faults.Cause.TheVariants.{Short, Tag}
 use Rattle.noise_handshake.proofs.Apart.{leads-more, reads-leads}
@@ -71,18 +71,18 @@ cause-end keyed (t ∷ ts) zero rest h = absurd (omega arith)
 cause-end keyed (t ∷ ts) (suc k) rest h = cause-end keyed ts k rest (omega arith)
 
 -- for want of a DH result it stops at a token
-pub stops-within : (v : Reader) (known : Remote) (psks : List (List ℕ)) (r : History) (ts : List Token) (m : List ℕ) (k : ℕ)
+pub stops-within : (v : Reader) (known : Remote) (psks : List (List ℕ)) (r : SymmetricState) (ts : List Token) (m : List ℕ) (k : ℕ)
     → Stops v known psks r ts m k Agreement → k < length ts
 stops-within v known psks r ts m k s = search (rules, cause-end)
 
 -- where all tokens are read it stops at none
-pub all-read : (v : Reader) (known : Remote) (psks : List (List ℕ)) (r : History) (ts : List Token) (xs : List (List ℕ)) (m rest : List ℕ) (k : ℕ)
+pub all-read : (v : Reader) (known : Remote) (psks : List (List ℕ)) (r : SymmetricState) (ts : List Token) (xs : List (List ℕ)) (m rest : List ℕ) (k : ℕ)
     → BeginsAs v known psks r ts xs m rest → Stops v known psks r ts m k Agreement → ⊥
 all-read v known psks r ts xs m rest k l s =
     s.further (stops-within v known psks r ts m k s) (reads-leads v known psks r ts xs m rest (suc k) l)
 
 -- a psk is always there
-psk-goes : (v : Reader) (known : Remote) (psks : List (List ℕ)) (r : History) (before : List Token) (xs : List (List ℕ)) (m rest : List ℕ)
+psk-goes : (v : Reader) (known : Remote) (psks : List (List ℕ)) (r : SymmetricState) (before : List Token) (xs : List (List ℕ)) (m rest : List ℕ)
     → BeginsAs v known psks r before xs m rest → CanBegin v known psks r (before ++ Psk ∷ []) m
 psk-goes v known psks r [] xs m rest l = record {
   carried = first_psk psks ∷ [];
@@ -91,7 +91,7 @@ psk-goes v known psks r [] xs m rest l = record {
 }
 psk-goes v known psks r (t ∷ before) [] m rest l = absurd l.fit
 psk-goes v known psks r (t ∷ before) (x ∷ xs) m rest l =
-    let next : History = after_token v.has_psks r t x in
+    let next : SymmetricState = after_token v.has_psks r t x in
     let more : List ℕ = before_payload v.has_psks next before xs ++ rest in
     let e : m ≡ token_bytes r t x ++ more = l.spelled ∙ append_assoc (token_bytes r t x) (before_payload v.has_psks next before xs) rest in
     let i = psk-goes v (known_after known t x) (psks_after psks t) next before xs more rest (record { fit = l.fit.1; spelled = refl }) in
@@ -107,11 +107,11 @@ none-some None h e = cc
 
 -- ---- the DH result that is wanted
 
-module _ (v : Reader) (known : Remote) (psks : List (List ℕ)) (r : History) (m : List ℕ) (before later : List Token) (t : Token)
+module _ (v : Reader) (known : Remote) (psks : List (List ℕ)) (r : SymmetricState) (m : List ℕ) (before later : List Token) (t : Token)
     (knows : are_known v.role (is_some known.e) (is_some known.s) (before ++ t ∷ later) ≡ true)
     (s : Stops v known psks r (before ++ t ∷ later) m (length before) Agreement) where
   abbrev keyed-there : Bool
-  keyed-there = is_some (cipher_key (after_tokens v.has_psks r (take (length before) (before ++ t ∷ later)) s.carried))
+  keyed-there = is_some ((after_tokens v.has_psks r (take (length before) (before ++ t ∷ later)) s.carried).cipher.key)
 
   leads : BeginsAs v known psks r before s.carried m s.rest
   leads = subst (λ (us : List Token). BeginsAs v known psks r us s.carried m s.rest) (take-append_seam before (t ∷ later)) s.leads
@@ -152,7 +152,7 @@ module _ (v : Reader) (known : Remote) (psks : List (List ℕ)) (r : History) (m
   }
 
 -- what is asked at the token where reading stops
-pub asked : (v : Reader) (known here : Remote) (psks : List (List ℕ)) (r : History) (ts : List Token) (m : List ℕ) (k : ℕ) (t : Token)
+pub asked : (v : Reader) (known here : Remote) (psks : List (List ℕ)) (r : SymmetricState) (ts : List Token) (m : List ℕ) (k : ℕ) (t : Token)
     → k < length ts → t ≡ get_or ts k t → are_known v.role (is_some known.e) (is_some known.s) ts ≡ true
     → StopsKnowing v known psks r ts m k Agreement here → (o : Option (Own × List ℕ))
     → MatchOption o (remote_at v.role here t ≡ None) (λ want. (want.0 ≡ own_at v.role t) × (remote_at v.role here t ≡ Some want.1))
@@ -174,17 +174,17 @@ asked v known here psks r ts m k t less is knows s o h =
 
 -- for a party that listens
 pub wants-of : (v : Party) (m : List ℕ) (o : Option (Own × List ℕ)) → Listens v
-    → MatchOption o ((j : ℕ) → Stops (reader v) v.remote v.psks v.history (tokens_now v) m j Agreement → ⊥)
-    (λ want. StopsFor (reader v) v.remote v.psks v.history (tokens_now v) m want.0 want.1)
+    → MatchOption o ((j : ℕ) → Stops (reader v) v.remote v.psks v.state (tokens_now v) m j Agreement → ⊥)
+    (λ want. StopsFor (reader v) v.remote v.psks v.state (tokens_now v) m want.0 want.1)
     → MatchOption o ((j : ℕ) → Refuses v m j Agreement → ⊥) (λ want. WantsToRead v m want.0 want.1)
 wants-of v m None l h = λ j refuses. h j refuses.stops
 wants-of v m (Some want) l h = record { listens = l; stops = h }
 
 pub wants : (v : Party) (m : List ℕ) (o : Option (Own × List ℕ)) (role : Role) (has_psks : Bool) (agree : Own → List ℕ → Option (List ℕ))
     (psks : List (List ℕ)) (known : Remote) (ts : List Token) → Listening v role has_psks agree psks known ts
-    → MatchOption o ((j : ℕ) → Stops (record { role = role; has_psks = has_psks; agree = agree }) known psks v.history ts m j Agreement → ⊥)
-    (λ want. StopsFor (record { role = role; has_psks = has_psks; agree = agree }) known psks v.history ts m want.0 want.1)
+    → MatchOption o ((j : ℕ) → Stops (record { role = role; has_psks = has_psks; agree = agree }) known psks v.state ts m j Agreement → ⊥)
+    (λ want. StopsFor (record { role = role; has_psks = has_psks; agree = agree }) known psks v.state ts m want.0 want.1)
     → MatchOption o ((j : ℕ) → Refuses v m j Agreement → ⊥) (λ want. WantsToRead v m want.0 want.1)
 wants v m o role has_psks agree psks known ts l h =
     wants-of v m o l.listens (for-view v role has_psks agree psks known ts l
-    (λ w z s us. MatchOption o ((j : ℕ) → Stops w z s v.history us m j Agreement → ⊥) (λ want. StopsFor w z s v.history us m want.0 want.1)) h)
+    (λ w z s us. MatchOption o ((j : ℕ) → Stops w z s v.state us m j Agreement → ⊥) (λ want. StopsFor w z s v.state us m want.0 want.1)) h)

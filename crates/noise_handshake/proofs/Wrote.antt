@@ -91,13 +91,13 @@ module _ (v : Party) (role : Role) (has_psks : Bool) (own : Own → Option (List
   for-view P h = search rules
 
   pub written : (payload : List ℕ) (xs : List (List ℕ)) (m : List ℕ) → length m ≤ 65535
-      → Given (record { role = role; has_psks = has_psks; own = own; agree = agree }) known psks tokens xs → m ≡ message_bytes has_psks v.history tokens xs payload
+      → Given (record { role = role; has_psks = has_psks; own = own; agree = agree }) known psks tokens xs → m ≡ message_bytes has_psks v.state tokens xs payload
       → Writes v payload xs m
   written payload xs m fits g e = record {
     speaks = l.speaks;
     given = for-view (λ w z s ts. Given w z s ts xs) g;
-    spelled = e ∙ ap (λ (z : Bool). message_bytes z v.history tokens xs payload) l.psks_is
-        ∙ ap (λ (ts : List Token). message_bytes (has_psk v.pattern) v.history ts xs payload) l.tokens_are;
+    spelled = e ∙ ap (λ (z : Bool). message_bytes z v.state tokens xs payload) l.psks_is
+        ∙ ap (λ (ts : List Token). message_bytes (has_psk v.pattern) v.state ts xs payload) l.tokens_are;
     fits = fits;
   }
 

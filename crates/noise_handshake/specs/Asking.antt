@@ -27,7 +27,7 @@ pub record WantsPskToRead (v : Party) (n : ℕ) (message : List ℕ) (remote : O
   pub count : count_by is_psk before ≡ n
   pub carried : List (List ℕ)
   pub rest : List ℕ
-  pub leads : BeginsAs (reader v) v.remote v.psks v.history before carried message rest
+  pub leads : BeginsAs (reader v) v.remote v.psks v.state before carried message rest
   pub remote_is : remote ≡ (remote_after v.remote before carried).s
 
 -- The party's message has a psk token, the first after n others, and the party lacks no DH result before it.

@@ -3,8 +3,7 @@ use Rattle.std.specs.Prelude.{◌≡◌, ℕ, ◌+◌, ◌<◌, ◌≤◌, List,
 use Rattle.noise_names.specs.Tokens.{is_psk}
 use Rattle.noise_names.specs.Plan.{Plan, has_psk}
 use Rattle.noise_names.specs.Overhead.{has_key, overhead_of}
-use Rattle.noise_state.specs.History.{History, cipher_key}
-use Rattle.noise_state.specs.Standing.{StateMatches}
+use Rattle.noise_state.specs.declared.symmetric.SymmetricState.{SymmetricState}
 use Rattle.noise_handshake.specs.declared.faults.ReadFault.{ReadFault}
 use Rattle.noise_handshake.specs.declared.faults.ReadFault.TheVariants as read
 use Rattle.noise_handshake.specs.declared.faults.WriteFault.{WriteFault}
@@ -23,7 +22,7 @@ after_message v xs payload = record v {
   psks = drop (count_by is_psk (tokens_now v)) v.psks;
   remote = remote_after v.remote (tokens_now v) xs;
   passed = v.passed + 1;
-  history = after_payload (has_psk v.pattern) v.history (tokens_now v) xs payload;
+  state = after_payload (has_psk v.pattern) v.state (tokens_now v) xs payload;
 }
 
 -- the party after a message of its own
@@ -31,20 +30,20 @@ abbrev pub after_own : Party → List (List ℕ) → List ℕ → Party
 after_own v xs payload = record v {
   psks = drop (count_by is_psk (tokens_now v)) v.psks;
   passed = v.passed + 1;
-  history = after_payload (has_psk v.pattern) v.history (tokens_now v) xs payload;
+  state = after_payload (has_psk v.pattern) v.state (tokens_now v) xs payload;
 }
 
 -- the party once it has ended
 abbrev pub ended_party : Party → Party
 ended_party v = record v { ended = true }
 
--- The history of a pattern's first messages, so many, has a key exactly where the pattern says so.
-abbrev pub IsKeyedAt : Plan → ℕ → History → Type 0
-IsKeyedAt p passed r = is_some (cipher_key r) ≡ has_key p (passed_places p passed)
+-- After a pattern's first messages, so many, this state has a key exactly where the pattern says so.
+abbrev pub IsKeyedAt : Plan → ℕ → SymmetricState → Type 0
+IsKeyedAt p passed r = is_some r.cipher.key ≡ has_key p (passed_places p passed)
 
--- The same of the party's history.
+-- The same of the party's state.
 abbrev pub IsKeyed : Party → Type 0
-IsKeyed v = IsKeyedAt v.pattern v.passed v.history
+IsKeyed v = IsKeyedAt v.pattern v.passed v.state
 
 -- a psk has been handed in for each psk token that is still to come
 abbrev pub IsSupplied : {K : Type 0} → HandshakeValue K → Type 0
@@ -61,7 +60,7 @@ module _ {K : Type 0} (pairs : K → KeyPairs) where
     pub remote : h.remote ≡ v.remote
     pub passed : h.passed ≡ v.passed
     pub ended : h.ended ≡ v.ended
-    pub history : StateMatches h.state v.history
+    pub state : h.state ≡ v.state
     pub supplied : IsSupplied h
 
   -- The same of a handshake that may lack psks: the party has no others than those that were handed in.
@@ -74,7 +73,7 @@ module _ {K : Type 0} (pairs : K → KeyPairs) where
     pub remote : h.remote ≡ v.remote
     pub passed : h.passed ≡ v.passed
     pub ended : h.ended ≡ v.ended
-    pub history : StateMatches h.state v.history
+    pub state : h.state ≡ v.state
 
 -- Why a party doesn't accept a message.
 abbrev pub DoesNotRead : Party → List ℕ → ReadFault → Type 0

@@ -4,7 +4,7 @@ use Rattle.noise_names.specs.declared.token.Role.{Role}
 use Rattle.noise_names.specs.Plan.{is_one_way}
 use Rattle.noise_state.specs.declared.cipher.CipherState.{CipherState}
 use Rattle.noise_state.specs.Cipher.{key_in, nonce_in}
-use Rattle.noise_state.specs.History.{hash, initiator_key, responder_key}
+use Rattle.noise_state.specs.Symmetric.{initiator_key, responder_key}
 use Rattle.noise_handshake.specs.Party.{Party}
 
 -- the parts that it leaves; the cipher states are those of the messages that the initiator and the responder write
@@ -27,9 +27,9 @@ pub record IsOpenedOf (o : OpenedValue) (v : Party) : Type 0 where
   pub whole : v.passed ≡ length v.pattern.messages
   pub role : o.role ≡ v.role
   pub one_way : o.one_way ≡ is_one_way v.pattern
-  pub hash : o.hash ≡ hash v.history
+  pub hash : o.hash ≡ v.state.hash
   pub remote_static : o.remote_static ≡ v.remote.s
-  pub initiator : key_in o.initiator ≡ Some (initiator_key v.history)
-  pub responder : key_in o.responder ≡ Some (responder_key v.history)
+  pub initiator : key_in o.initiator ≡ Some (initiator_key v.state)
+  pub responder : key_in o.responder ≡ Some (responder_key v.state)
   pub initiator_nonce : nonce_in o.initiator ≡ 0
   pub responder_nonce : nonce_in o.responder ≡ 0

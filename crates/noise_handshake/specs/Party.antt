@@ -9,7 +9,8 @@ use Rattle.noise_keys.specs.declared.keys.Own.{Own}
 use Rattle.noise_keys.specs.declared.keys.Own.TheVariants.{Ephemeral, Static}
 use Rattle.noise_handshake.specs.declared.faults.Cause.{Cause}
 use Rattle.noise_handshake.specs.declared.faults.Cause.TheVariants.{Short, Tag, Agreement}
-use Rattle.noise_state.specs.History.{History, MixHash, and_then, cipher_key}
+use Rattle.noise_state.specs.declared.symmetric.SymmetricState.{SymmetricState}
+use Rattle.noise_state.specs.Symmetric.{initialize, mix_hash}
 use Rattle.noise_handshake.specs.declared.remote.Remote.{Remote}
 use Rattle.noise_handshake.specs.Message.{with_ephemeral, before_payload, after_tokens, message_bytes}
 use Rattle.noise_names.specs.Tokens.{other, turn_from}
@@ -24,7 +25,7 @@ pub record Party : Type 0 where
   pub agree : Own → List ℕ → Option (List ℕ)
   pub remote : Remote
   pub passed : ℕ  -- messages
-  pub history : History
+  pub state : SymmetricState
   pub ended : Bool  -- it neither reads nor writes any more
 
 -- the tokens of message i, counted from 0
@@ -35,19 +36,19 @@ tokens_at (tokens ∷ more) (suc i) = tokens_at more i
 
 -- ---- the start (Noise 5.3, 9.2)
 
-abbrev pub with_premessage : Bool → Remote → List Token → History → History
+abbrev pub with_premessage : Bool → Remote → List Token → SymmetricState → SymmetricState
 with_premessage has_psks p [] r = r
 with_premessage has_psks p (E ∷ ts) r = with_premessage has_psks p ts (with_ephemeral has_psks r (unwrap_or p.e []))
-with_premessage has_psks p (S ∷ ts) r = with_premessage has_psks p ts (and_then r (MixHash (unwrap_or p.s [])))
+with_premessage has_psks p (S ∷ ts) r = with_premessage has_psks p ts (mix_hash r (unwrap_or p.s []))
 with_premessage has_psks p (_ ∷ ts) r = with_premessage has_psks p ts r
 
 -- the prologue, and then the pre-message keys, the initiator's first
-abbrev pub start : List ℕ → Plan → List ℕ → Remote → Remote → History
+abbrev pub start : List ℕ → Plan → List ℕ → Remote → Remote → SymmetricState
 start name pattern prologue initiator responder =
     let has_psks = has_psk pattern in
     with_premessage has_psks responder (pre_of Responder pattern) (with_premessage has_psks initiator
     (pre_of Initiator pattern)
-    (and_then (record { name = name; entries = [] }) (MixHash prologue)))
+    (mix_hash (initialize name) prologue))
 
 -- ---- DH results (the table of Noise 5.3)
 
@@ -137,14 +138,14 @@ pub record Speaks (v : Party) : Type 0 where
   pub turn : turn_from Initiator v.passed ≡ v.role
 
 -- The message begins as some sender's tokens would that carry these texts, and this is left of it.
-pub record BeginsAs (v : Reader) (known : Remote) (psks : List (List ℕ)) (r : History) (ts : List Token)
+pub record BeginsAs (v : Reader) (known : Remote) (psks : List (List ℕ)) (r : SymmetricState) (ts : List Token)
     (xs : List (List ℕ))
     (message rest : List ℕ) : Type 0 where
   pub fit : Fit v known psks ts xs
   pub spelled : message ≡ before_payload v.has_psks r ts xs ++ rest
 
 -- It begins as some sender's tokens would.
-pub record CanBegin (v : Reader) (known : Remote) (psks : List (List ℕ)) (r : History) (ts : List Token)
+pub record CanBegin (v : Reader) (known : Remote) (psks : List (List ℕ)) (r : SymmetricState) (ts : List Token)
     (message : List ℕ) : Type 0 where
   pub carried : List (List ℕ)
   pub rest : List ℕ
@@ -163,7 +164,7 @@ cause_at keyed (t ∷ ts) zero rest = cause_of keyed t rest
 cause_at keyed (t ∷ ts) (suc k) rest = cause_at keyed ts k rest
 
 -- The message is one whose tokens carry these texts, with this payload.
-pub record Reads (v : Reader) (known : Remote) (psks : List (List ℕ)) (r : History) (ts : List Token)
+pub record Reads (v : Reader) (known : Remote) (psks : List (List ℕ)) (r : SymmetricState) (ts : List Token)
     (message : List ℕ)
     (xs : List (List ℕ)) (payload : List ℕ) : Type 0 where
   pub fit : Fit v known psks ts xs
@@ -171,7 +172,7 @@ pub record Reads (v : Reader) (known : Remote) (psks : List (List ℕ)) (r : His
 
 -- Reading stops at token k: some sender's tokens before it lead there, and none's lead further. The payload counts as
 -- the token after the last.
-pub record Stops (v : Reader) (known : Remote) (psks : List (List ℕ)) (r : History) (ts : List Token)
+pub record Stops (v : Reader) (known : Remote) (psks : List (List ℕ)) (r : SymmetricState) (ts : List Token)
     (message : List ℕ)
     (k : ℕ) (cause : Cause) : Type 0 where
   pub within : k ≤ length ts
@@ -181,15 +182,15 @@ pub record Stops (v : Reader) (known : Remote) (psks : List (List ℕ)) (r : His
   pub further : k < length ts → CanBegin v known psks r (take (suc k) ts) message → ⊥
   pub unread : k ≡ length ts → (xs : List (List ℕ)) (payload : List ℕ) → Reads v known psks r ts message xs payload
       → ⊥
-  pub why : cause ≡ cause_at (is_some (cipher_key (after_tokens v.has_psks r (take k ts) carried))) ts k rest
+  pub why : cause ≡ cause_at (is_some ((after_tokens v.has_psks r (take k ts) carried).cipher.key)) ts k rest
 
 -- The party accepts the message as this payload, where the tokens carry these texts.
 pub record Accepts (v : Party) (message : List ℕ) (xs : List (List ℕ)) (payload : List ℕ) : Type 0 where
   pub listens : Listens v
   pub fits : length message ≤ 65535
-  pub reads : Reads (reader v) v.remote v.psks v.history (tokens_now v) message xs payload
+  pub reads : Reads (reader v) v.remote v.psks v.state (tokens_now v) message xs payload
 
 -- The party refuses the message at this token, for this cause.
 pub record Refuses (v : Party) (message : List ℕ) (token : ℕ) (cause : Cause) : Type 0 where
   pub listens : Listens v
-  pub stops : Stops (reader v) v.remote v.psks v.history (tokens_now v) message token cause
+  pub stops : Stops (reader v) v.remote v.psks v.state (tokens_now v) message token cause

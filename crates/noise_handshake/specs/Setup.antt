@@ -9,7 +9,7 @@ use Rattle.noise_names.specs.Tokens.{other, is_psk, same_role, same_token}
 use Rattle.noise_names.specs.Plan.{Plan, pre_of, places_of}
 use Rattle.noise_names.specs.Names.{name_bytes}
 use Rattle.noise_names.specs.Validity.{is_among}
-use Rattle.noise_state.specs.History.{History}
+use Rattle.noise_state.specs.declared.symmetric.SymmetricState.{SymmetricState}
 use Rattle.noise_keys.specs.declared.keys.Own.{Own}
 use Rattle.noise_keys.specs.declared.keys.Own.TheVariants.{Ephemeral, Static}
 use Rattle.noise_handshake.specs.declared.remote.Remote.{Remote}
@@ -30,8 +30,8 @@ public_keys own = record { e = own Ephemeral; s = own Static }
 abbrev pub keys_of : Role → Role → Remote → Remote → Remote
 keys_of party role own remote = if same_role party role then own else remote
 
--- the history at the start, for a role with these keys
-abbrev pub start_of : Plan → Role → List ℕ → Remote → Remote → History
+-- the state at the start, for a role with these keys
+abbrev pub start_of : Plan → Role → List ℕ → Remote → Remote → SymmetricState
 start_of p role prologue own remote =
     start (name_bytes (record { base = p.base; places = p.places })) p prologue (keys_of Initiator role own remote)
     (keys_of Responder role own remote)
@@ -47,7 +47,7 @@ party_at_start p role prologue own agree remote psks = record {
   agree = agree;
   remote = remote;
   passed = 0;
-  history = start_of p role prologue (public_keys own) remote;
+  state = start_of p role prologue (public_keys own) remote;
   ended = false;
 }
 

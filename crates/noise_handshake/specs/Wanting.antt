@@ -5,13 +5,13 @@ use Rattle.noise_names.specs.declared.token.Token.{Token}
 use Rattle.noise_keys.specs.declared.keys.Own.{Own}
 use Rattle.noise_handshake.specs.declared.faults.Cause.TheVariants.{Agreement}
 use Rattle.noise_handshake.specs.declared.remote.Remote.{Remote}
-use Rattle.noise_state.specs.History.{History}
+use Rattle.noise_state.specs.declared.symmetric.SymmetricState.{SymmetricState}
 use Rattle.noise_handshake.specs.Party.{Party, Reader, reader, Listens, Speaks, Stops, remote_after, own_at, remote_at, tokens_now}
 use Rattle.noise_handshake.specs.Writing.{Writer, writer, LacksDhResultAt}
 
 -- Reading stops at a DH for want of its DH result: that of this key pair to this key of the other party, as it is known
 -- after the tokens before.
-pub record StopsFor (v : Reader) (known : Remote) (psks : List (List ℕ)) (r : History) (ts : List Token)
+pub record StopsFor (v : Reader) (known : Remote) (psks : List (List ℕ)) (r : SymmetricState) (ts : List Token)
     (message : List ℕ)
     (own : Own) (key : List ℕ) : Type 0 where
   pub before : List Token
@@ -25,7 +25,7 @@ pub record StopsFor (v : Reader) (known : Remote) (psks : List (List ℕ)) (r : 
 -- The party would refuse the message for want of this DH result.
 pub record WantsToRead (v : Party) (message : List ℕ) (own : Own) (key : List ℕ) : Type 0 where
   pub listens : Listens v
-  pub stops : StopsFor (reader v) v.remote v.psks v.history (tokens_now v) message own key
+  pub stops : StopsFor (reader v) v.remote v.psks v.state (tokens_now v) message own key
 
 -- The first token without a text is a DH without its result: that of this key pair to this key of the other party.
 pub record LacksDhResultFor (w : Writer) (known : Remote) (psks : List (List ℕ)) (ts : List Token) (own : Own)

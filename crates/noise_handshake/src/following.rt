@@ -53,8 +53,8 @@ impl<K: Keys> Handshake<K> {
         ensures leaves { count ≡ length (tokens_due self.now) → IfSome result (TokensLeave self.now) }
         ensures front { (v : Party) (xs : List (List ℕ)) (rest : List ℕ) → Matches K.pairs self.now v
             → count ≤ length (tokens_now v) → let ts = take count (tokens_now v) in
-            BeginsAs (reader v) v.remote v.psks v.history ts xs message.now rest
-            → Fronts S.after result (has_psk v.pattern) v.history ts xs (remote_after v.remote ts xs) steps.old
+            BeginsAs (reader v) v.remote v.psks v.state ts xs message.now rest
+            → Fronts S.after result (has_psk v.pattern) v.state ts xs (remote_after v.remote ts xs) steps.old
             steps.new }
     {
         if let Some(_) = self.lacks_psk() {
@@ -95,7 +95,7 @@ impl<K: Keys> Handshake<K> {
         ensures front { (v : Party) (xs : List (List ℕ)) → Matches K.pairs self.now v
             → count ≤ length (tokens_now v) → let ts = take count (tokens_now v) in
             Given (writer v) v.remote v.psks ts xs
-            → Fronts S.after result (has_psk v.pattern) v.history ts xs v.remote steps.old steps.new }
+            → Fronts S.after result (has_psk v.pattern) v.state ts xs v.remote steps.old steps.new }
     {
         if let Some(_) = self.lacks_psk() {
             return None;
@@ -134,13 +134,13 @@ impl<K: Keys> Handshake<K> {
         ensures leaves { count ≡ length (tokens_due self.now) → IfSome result (TokensLeave self.now) }
         ensures read { (v : Party) (xs : List (List ℕ)) (rest : List ℕ) → Matches K.pairs self.now v → Listens v
             → count ≤ length (tokens_now v) → let ts = take count (tokens_now v) in
-            BeginsAs (reader v) v.remote v.psks v.history ts xs message.now rest
-            → Fronts S.after result (has_psk v.pattern) v.history ts xs (remote_after v.remote ts xs) steps.old
+            BeginsAs (reader v) v.remote v.psks v.state ts xs message.now rest
+            → Fronts S.after result (has_psk v.pattern) v.state ts xs (remote_after v.remote ts xs) steps.old
             steps.new }
         ensures written { (v : Party) (xs : List (List ℕ)) → Matches K.pairs self.now v → Speaks v
             → count ≤ length (tokens_now v) → let ts = take count (tokens_now v) in
             Given (writer v) v.remote v.psks ts xs
-            → Fronts S.after result (has_psk v.pattern) v.history ts xs v.remote steps.old steps.new }
+            → Fronts S.after result (has_psk v.pattern) v.state ts xs v.remote steps.old steps.new }
     {
         if self.speaks() {
             return self.write_front(count, steps);
@@ -165,13 +165,13 @@ impl<K: Keys> Handshake<K> {
     pub fn follow<S: Steps>(&mut self, message: &[u8], steps: &mut S) -> Option<usize>
         ensures accepted { (v : Party) (xs : List (List ℕ)) (payload : List ℕ) → Matches K.pairs self.old v
             → Accepts v message.now xs payload
-            → (result ≡ Some (length (before_payload (has_psk v.pattern) v.history (tokens_now v) xs)))
-            × (steps.new ≡ after_steps S.after (has_psk v.pattern) v.history 0 (tokens_now v) xs steps.old)
+            → (result ≡ Some (length (before_payload (has_psk v.pattern) v.state (tokens_now v) xs)))
+            × (steps.new ≡ after_steps S.after (has_psk v.pattern) v.state 0 (tokens_now v) xs steps.old)
             × Matches K.pairs self.new (after_message v xs payload) }
         ensures written { (v : Party) (xs : List (List ℕ)) (payload : List ℕ) → Matches K.pairs self.old v
             → Writes v payload xs message.now
-            → (result ≡ Some (length (before_payload (has_psk v.pattern) v.history (tokens_now v) xs)))
-            × (steps.new ≡ after_steps S.after (has_psk v.pattern) v.history 0 (tokens_now v) xs steps.old)
+            → (result ≡ Some (length (before_payload (has_psk v.pattern) v.state (tokens_now v) xs)))
+            × (steps.new ≡ after_steps S.after (has_psk v.pattern) v.state 0 (tokens_now v) xs steps.old)
             × Matches K.pairs self.new (after_own v xs payload) }
         ensures unchanged { result ≡ None → self.new ≡ self.old }
     {
@@ -198,9 +198,9 @@ impl<K: Keys> Handshake<K> {
     pub fn follow_before<S: Steps>(&self, message: &[u8], token: u8, steps: &mut S)
         ensures refused { (v : Party) (cause : Cause) → Matches K.pairs self.now v
             → (refused : Refuses v message.now token cause) → steps.new ≡ after_steps S.after (has_psk v.pattern)
-            v.history 0 (take token (tokens_now v)) refused.stops.carried steps.old }
+            v.state 0 (take token (tokens_now v)) refused.stops.carried steps.old }
         ensures lacks { (v : Party) → Matches K.pairs self.now v → (lacks : LacksDhResult v token)
-            → steps.new ≡ after_steps S.after (has_psk v.pattern) v.history 0 (take token (tokens_now v))
+            → steps.new ≡ after_steps S.after (has_psk v.pattern) v.state 0 (take token (tokens_now v))
             lacks.lacks.before steps.old }
     {
         let _ = self.front(message, token as usize, steps);

@@ -58,7 +58,6 @@ impl<K: Keys> Handshake<K> {
     ghost use Rattle.noise_names.specs.Validity.{IsValid};
     ghost use Rattle.noise_names.specs.Plan.{has_psk};
     ghost use Rattle.noise_names.specs.Overhead.{has_key, overhead_of};
-    ghost use Rattle.noise_state.specs.History.{hash};
     ghost use Rattle.noise_handshake.specs.declared.faults.Cause.{Cause};
     ghost use Rattle.noise_handshake.specs.declared.faults.ReadFault.{ReadFault};
     ghost use Rattle.noise_handshake.specs.declared.faults.WriteFault.{WriteFault};
@@ -68,11 +67,11 @@ impl<K: Keys> Handshake<K> {
     ghost use Rattle.noise_handshake.specs.HandshakeValue.{IsAgreement, HasPsks, Advances, ended_as};
     ghost use Rattle.noise_handshake.specs.Calls.{HasBegun, HasNotRead, HasNotWritten, HasRead, HasReadAt, HasWrittenTo, IsPlaceIn, IsSameAround, ReadingWants, WritingWants, speaks_now};
     ghost use Rattle.noise_handshake.specs.Late.{IsLateWhole, LacksPskAt, MatchesWith, late_fault, with_later};
-    ghost use Rattle.noise_handshake.specs.Matching.{Matches, ValueMatches, DoesNotWrite, IsSupplied};
+    ghost use Rattle.noise_handshake.specs.Matching.{Matches, ValueMatches, DoesNotWrite};
     ghost use Rattle.noise_handshake.specs.Opening.{IsOpenedOf};
-    ghost use Rattle.noise_handshake.specs.Parts.{held_of, HasProgress, IsWholeValue};
+    ghost use Rattle.noise_handshake.specs.Parts.{held_of, HasProgress};
     ghost use Rattle.noise_handshake.specs.Setup.{party_at_start, psks_of, setup_fault};
-    ghost use Rattle.noise_handshake.specs.Writing.{Writes, writer};
+    ghost use Rattle.noise_handshake.specs.Writing.{writer};
     ghost use Rattle.noise_handshake.specs.inner.Following.{Leaves, gone_on};
     ghost use Rattle.noise_handshake.specs.inner.Layout.{IsLaid};
     ghost use Rattle.noise_handshake.specs.inner.Listening.{BeginsBefore, StopsBefore};
@@ -249,7 +248,7 @@ impl<K: Keys> Handshake<K> {
 
     /// The handshake that holds these parts, and these psks for the first psk tokens that are still to come, in their
     /// order; or None for what no handshake holds. It matches what the handshake stood for that was taken apart; at
-    /// None the parts are gone. What doesn't show in the parts isn't tested, as whether the keys and the hash come
+    /// None the parts are gone. What doesn't show in the parts isn't tested, as whether the keys and the come.hash
     /// of messages: of other parts it may be a handshake that matches no party. The nonce has to be the number of
     /// texts that the pattern's tokens encrypt under the present key.
     ///
@@ -507,12 +506,12 @@ impl<K: Keys> Handshake<K> {
         )
     }
 
-    /// The handshake hash (Noise, 11.2), 32 bytes, of the start and the messages that passed, also after the handshake
+    /// The handshake (Noise, 11.2).hash, 32 bytes, of the start and the messages that passed, also after the handshake
     /// has ended.
     pub fn hash(&self) -> [u8; 32]
-        ensures hash { (v : Party) → Matches K.pairs self.now v → result ≡ hash v.history }
+        ensures hash { (v : Party) → Matches K.pairs self.now v → result ≡ v.state.hash }
         ensures late { (v : Party) (later : List (List ℕ)) → MatchesWith K.pairs later self.now v
-            → result ≡ hash v.history }
+            → result ≡ v.state.hash }
     {
         self.state.hash()
     }
@@ -678,7 +677,7 @@ impl<K: Keys> Handshake<K> {
         requires psks { count_by is_psk (take k (tokens_at self.now.pattern.messages self.now.passed))
             ≤ length self.now.psks }
         ensures reads { (v : Party) → ValueMatches K.pairs self.now v → MatchResult result
-            (BeginsBefore (reader v) v.remote v.psks v.history (tokens_now v) message.now k)
+            (BeginsBefore (reader v) v.remote v.psks v.state (tokens_now v) message.now k)
             (StopsBefore v message.now k) }
     {
         let psks = &self.psks[self.used..];

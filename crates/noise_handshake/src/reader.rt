@@ -1,13 +1,12 @@
 //! Reading the tokens of a message.
 
-ghost use Rattle.std.specs.Prelude.{◌≡◌, ◌≤◌, ◌<◌, ◌+◌, ◌-◌, ◌*◌, ◌^◌, ℕ, length, take, drop, count_by, is_some, Bool, Option, Some, None, IfOk, IfSome, IfErr, OnOk, OnErr, slice_index_or, nat_lt, if◌then◌else◌, IsTrue, true};
+ghost use Rattle.std.specs.Prelude.{◌≡◌, ◌≤◌, ◌<◌, ◌+◌, ◌-◌, ◌*◌, ◌^◌, ℕ, length, take, drop, count_by, is_some, Bool, Option, Some, None, IfOk, IfSome, IfErr, OnOk, OnErr, slice_index_or, nat_lt, if◌then◌else◌, IsTrue};
 ghost use Rattle.noise_state.specs.Cipher.{next_nonce};
-ghost use Rattle.noise_state.specs.Standing.{StateMatches, keyed, nonce_now};
-ghost use Rattle.noise_state.specs.History.{History, nonce};
+ghost use Rattle.noise_state.specs.Standing.{keyed, nonce_now};
 ghost use Rattle.noise_handshake.specs.inner.Keying.{keying_of, keying_after, keying_after_tokens, keying_after_message};
 ghost use Rattle.noise_handshake.specs.inner.Known.{are_known};
 ghost use Rattle.noise_handshake.specs.Length.{token_width};
-ghost use Rattle.noise_handshake.specs.Party.{Reader, remote_after, Reads, psks_after};
+ghost use Rattle.noise_handshake.specs.Party.{remote_after, psks_after};
 ghost use Rattle.noise_handshake.specs.Calls.{IsPlaceIn, IsSameAround};
 ghost use Rattle.noise_handshake.specs.inner.Means.{reader_of};
 ghost use Rattle.noise_handshake.specs.inner.Listening.{ReaderWants, width_of_key};
@@ -38,8 +37,7 @@ fn read_e(
     ensures keying { OnOk result (keying_of state.new known.new
         ≡ keying_after has_psks (keying_of state.old known.old) Token.E) }
     ensures unchanged { OnErr result (known.new ≡ known.old) }
-    ensures read { (r : History) → StateMatches state.old r
-        → ReadsE has_psks r state.new known.old known.new message.now result }
+    ensures read { ReadsE has_psks state.old state.new known.old known.new message.now result }
 {
     let Some((key, _)) = message.split_first_chunk::<32>() else {
         return Err(Cause::Short);
@@ -56,8 +54,7 @@ fn open_key(state: &mut SymmetricState, buffer: &mut [u8]) -> Option<[u8; 32]>
     requires nonces { nonce_now state.old < 2 ^ 64 - 1 }
     ensures key { keyed state.new ≡ keyed state.old }
     ensures counted { IfSome result (λ _. nonce_now state.new ≡ next_nonce (keyed state.old) (nonce_now state.old)) }
-    ensures opened { (r : History) → StateMatches state.old r → length buffer.old ≡ width_of_key r
-        → OpensKey r state.new buffer.old result }
+    ensures opened { length buffer.old ≡ width_of_key state.old → OpensKey state.old state.new buffer.old result }
 {
     match state.decrypt_and_hash(buffer) {
         Ok(_) => Some(first_32(buffer)),
@@ -89,8 +86,7 @@ fn read_s(
     ensures keying { (has_psks : Bool) → OnOk result (keying_of state.new known.new
         ≡ keying_after has_psks (keying_of state.old known.old) Token.S) }
     ensures unchanged { OnErr result (known.new ≡ known.old) }
-    ensures read { (r : History) → StateMatches state.old r
-        → ReadsS r state.new known.old known.new message.now result }
+    ensures read { ReadsS state.old state.new known.old known.new message.now result }
 {
     if message.len() < width {
         return Err(Cause::Short);
@@ -124,8 +120,7 @@ fn read_token<K: Keys>(
     ensures keying { OnOk result (keying_of state.new known.new
         ≡ keying_after means.now.has_psks (keying_of state.old known.old) placed.token) }
     ensures unchanged { OnErr result (known.new ≡ known.old) }
-    ensures read { (r : History) → StateMatches state.old r
-        → ReadsToken (reader_of K.pairs means.now) r state.new known.old known.new psks.now placed.token
+    ensures read { ReadsToken (reader_of K.pairs means.now) state.old state.new known.old known.new psks.now placed.token
         message.now result }
 {
     match placed.token {
@@ -174,13 +169,14 @@ pub(crate) fn read_tokens<K: Keys, S: Steps>(
     ensures stop { IfErr result (λ stop. stop.0 < length (tokens_of placed.now)) }
     ensures keying { OnOk result (keying_of state.new known.new
         ≡ keying_after_tokens means.now.has_psks (keying_of state.old known.old) (tokens_of placed.now)) }
-    ensures read { (r : History) (place : ℕ) → StateMatches state.old r → place ≤ length message.now →
-        ArePlaced means.now.has_psks (keyed state.old) place placed.now → ReadsTokens (reader_of K.pairs means.now)
-        r state.new known.old known.new psks.now (tokens_of placed.now) message.now place result }
-    ensures told { (r : History) (place : ℕ) → StateMatches state.old r → place ≤ length message.now →
-        ArePlaced means.now.has_psks (keyed state.old) place placed.now → TellsRead S.after
-        (reader_of K.pairs means.now) r known.old psks.now (tokens_of placed.now) message.now place result steps.old
-        steps.new }
+    ensures read { (place : ℕ) → place ≤ length message.now
+        → ArePlaced means.now.has_psks (keyed state.old) place placed.now
+        → ReadsTokens (reader_of K.pairs means.now) state.old state.new known.old known.new psks.now
+        (tokens_of placed.now) message.now place result }
+    ensures told { (place : ℕ) → place ≤ length message.now
+        → ArePlaced means.now.has_psks (keyed state.old) place placed.now
+        → TellsRead S.after (reader_of K.pairs means.now) state.old known.old psks.now (tokens_of placed.now)
+        message.now place result steps.old steps.new }
 {
     let Some((first, later)) = placed.split_first() else {
         return Ok(0);
@@ -246,8 +242,8 @@ pub(crate) fn read_lacking<K: Keys>(
     requires nonces { nonce_now state.now + length (tokens_of placed.now) < 2 ^ 64 - 1 }
     requires known { IsTrue (are_known means.now.role (is_some known.now.e) (is_some known.now.s)
         (tokens_of placed.now)) }
-    ensures wants { (r : History) → StateMatches state.now r
-        → ReaderWants (reader_of K.pairs means.now) known.now psks.now r (tokens_of placed.now) message.now result }
+    ensures wants { ReaderWants (reader_of K.pairs means.now) known.now psks.now state.now (tokens_of placed.now)
+        message.now result }
 {
     let mut trial = state.for_trial();
     let mut remote_after = *known;
@@ -283,8 +279,7 @@ pub(crate) fn read_before<K: Keys>(
         (tokens_of placed.now)) }
     requires within { k ≤ length placed.now }
     requires few { length placed.now ≤ 10 }
-    ensures read { (r : History) → StateMatches state.now r
-        → ReadsBefore (reader_of K.pairs means.now) r known.now psks.now (tokens_of placed.now) k
+    ensures read { ReadsBefore (reader_of K.pairs means.now) state.now known.now psks.now (tokens_of placed.now) k
         message.now result }
 {
     let mut trial = state.for_trial();
@@ -325,9 +320,8 @@ pub(crate) fn read_message<K: Keys>(
     ensures stop { IfErr result (λ stop. stop.0 ≤ length (tokens_of placed.now)) }
     ensures keying { OnOk result (keying_of state.new known.new
         ≡ keying_after_message means.now.has_psks (keying_of state.old known.old) (tokens_of placed.now)) }
-    ensures read { (r : History) → StateMatches state.old r
-        → ReadsMessage (reader_of K.pairs means.now) r
-        state.new known.old known.new psks.now (tokens_of placed.now) message.old message.new result }
+    ensures read { ReadsMessage (reader_of K.pairs means.now) state.old state.new known.old known.new psks.now
+        (tokens_of placed.now) message.old message.new result }
     ensures unchanged { OnErr result (message.new ≡ message.old) }
 {
     let from = match read_tokens(state, known, means, psks, placed, message, &mut NoSteps) {

@@ -3,14 +3,13 @@
 ghost use Rattle.std.specs.Prelude.{◌≡◌, ◌≤◌, ◌*◌, ◌||◌, ◌&&◌, true, not, length, is_some, is_none, None};
 ghost use Rattle.std.specs.List.{list_any};
 ghost use Rattle.noise_names.specs.Limits.{IsPattern};
-ghost use Rattle.noise_names.specs.Tokens.{same_role, same_token};
+ghost use Rattle.noise_names.specs.Tokens.{same_token};
 ghost use Rattle.noise_names.specs.Overhead.{has_key};
 ghost use Rattle.noise_names.specs.declared.token.Token.TheVariants.{E, S};
-ghost use Rattle.noise_state.specs.Standing.{StateMatches, keyed, nonce_now};
+ghost use Rattle.noise_state.specs.Standing.{keyed, nonce_now};
 ghost use Rattle.noise_state.specs.Symmetric.{mix_hash};
-ghost use Rattle.noise_state.specs.History.{History};
 ghost use Rattle.noise_handshake.specs.Party.{with_premessage};
-ghost use Rattle.noise_handshake.specs.Setup.{token_of, psks_of, setup_fault, public_keys, keys_of, lacks_own, start_of};
+ghost use Rattle.noise_handshake.specs.Setup.{token_of, psks_of, setup_fault, keys_of, lacks_own, start_of};
 ghost use Rattle.noise_handshake.specs.inner.PreMessage.{HasPre};
 ghost use Rattle.noise_handshake.specs.Passed.{passed_places};
 
@@ -100,8 +99,7 @@ pub(crate) fn mix_premessage(
     requires e { list_any (λ t. same_token t (token_of Own.Ephemeral)) tokens.now ≡ true → is_some keys.now.e ≡ true }
     requires s { list_any (λ t. same_token t (token_of Own.Static)) tokens.now ≡ true → is_some keys.now.s ≡ true }
     ensures nonce { nonce_now state.new ≤ nonce_now state.old }
-    ensures mixed { (r : History) → StateMatches state.old r
-        → StateMatches state.new (with_premessage has_psks keys.now tokens.now r) }
+    ensures mixed { state.new ≡ with_premessage has_psks keys.now tokens.now state.old }
 {
     let Some((token, later)) = tokens.split_first() else {
         return;
@@ -132,7 +130,7 @@ pub(crate) fn start(
 ) -> SymmetricState
     requires initiator { HasPre pattern.now Role.Initiator (keys_of Role.Initiator role own.now remote.now) }
     requires responder { HasPre pattern.now Role.Responder (keys_of Role.Responder role own.now remote.now) }
-    ensures matches { StateMatches result (start_of pattern.now role prologue.now own.now remote.now) }
+    ensures matches { result ≡ start_of pattern.now role prologue.now own.now remote.now }
     ensures key { keyed result ≡ has_key pattern.now (passed_places pattern.now 0) }
     ensures nonce { nonce_now result ≡ 0 }
 {

@@ -3,9 +3,8 @@
 ghost use Rattle.std.specs.Prelude.{◌≡◌, ◌<◌, ◌≤◌, length, count_by, Some, None, MatchOption};
 ghost use Rattle.noise_names.specs.declared.token.Token.{Token};
 ghost use Rattle.noise_names.specs.Tokens.{is_psk};
-ghost use Rattle.noise_state.specs.Standing.{StateMatches, keyed, nonce_now};
+ghost use Rattle.noise_state.specs.Standing.{keyed, nonce_now};
 ghost use Rattle.noise_handshake.specs.Nonces.{nonce_after};
-ghost use Rattle.noise_state.specs.History.{History};
 ghost use Rattle.noise_handshake.specs.Length.{keyed_after};
 ghost use Rattle.noise_handshake.specs.Message.{with_ephemeral};
 ghost use Rattle.noise_handshake.specs.Party.{dh_result_of, own_at, remote_at, psks_after};
@@ -65,8 +64,7 @@ pub fn dh_result_at<K: Keys>(keys: &K, role: Role, known: &Remote, token: Token)
 
 /// Mixes an ephemeral public key; in a psk pattern it is a key input too (Noise, 9.2).
 pub fn mix_ephemeral(state: &mut SymmetricState, has_psks: bool, key: &[u8; 32])
-    ensures mixed { (r : History) → StateMatches state.old r
-        → StateMatches state.new (with_ephemeral has_psks r key.now) }
+    ensures mixed { state.new ≡ with_ephemeral has_psks state.old key.now }
     ensures keyed { keyed state.new ≡ keyed_after has_psks (keyed state.old) Token.E }
     ensures used { nonce_now state.new ≤ nonce_now state.old }
     ensures counted { nonce_now state.new ≡ nonce_after has_psks (keyed state.old) (nonce_now state.old) Token.E }

@@ -3,13 +3,12 @@
 ghost use Rattle.std.specs.Prelude.{◌≡◌, ◌≤◌, ◌<◌, ◌+◌, ◌-◌, ◌^◌, ℕ, length, take, drop, count_by, IsTrue, MatchResult, IfSome, IfOk, is_some, None};
 ghost use Rattle.std.specs.List.{list_all};
 ghost use Rattle.noise_state.specs.Cipher.{next_nonce};
-ghost use Rattle.noise_state.specs.Standing.{StateMatches, keyed, nonce_now};
+ghost use Rattle.noise_state.specs.Standing.{keyed, nonce_now};
 ghost use Rattle.noise_handshake.specs.Nonces.{nonce_after, nonce_after_message, nonce_after_tokens};
-ghost use Rattle.noise_state.specs.History.{History, Ciphertext, and_then, ciphertext};
+ghost use Rattle.noise_state.specs.Symmetric.{after_ciphertext, ciphertext};
 ghost use Rattle.noise_handshake.specs.Message.{with_ephemeral};
 ghost use Rattle.noise_handshake.specs.inner.Known.{is_known, remote_known};
 ghost use Rattle.noise_handshake.specs.Length.{keyed_after, keyed_after_tokens, tag_width, token_width, tokens_width, added_width};
-ghost use Rattle.noise_handshake.specs.Writing.{Writer};
 ghost use Rattle.noise_handshake.specs.inner.Means.{writer_of};
 ghost use Rattle.noise_handshake.specs.inner.Speaking.{has_own, WriterWants};
 ghost use Rattle.noise_handshake.specs.inner.Writing.{GivesOrNone, WritesMessage, WritesToken, WritesTokens};
@@ -53,8 +52,8 @@ fn write_part(state: &mut SymmetricState, text: &[u8], out: &mut [u8]) -> usize
     ensures beyond { drop result out.new ≡ drop result out.old }
     ensures keyed { keyed state.new ≡ keyed state.old }
     ensures counted { nonce_now state.new ≡ next_nonce (keyed state.old) (nonce_now state.old) }
-    ensures written { (r : History) → StateMatches state.old r → (take result out.new ≡ ciphertext r text.now)
-        × StateMatches state.new (and_then r (Ciphertext (ciphertext r text.now))) }
+    ensures written { (take result out.new ≡ ciphertext state.old text.now)
+        × (state.new ≡ after_ciphertext state.old (ciphertext state.old text.now)) }
 {
     let len = put(text, out);
     let width = len + tag_width(state);
@@ -71,8 +70,7 @@ fn write_e(state: &mut SymmetricState, has_psks: bool, key: &[u8; 32], out: &mut
     ensures beyond { drop result out.new ≡ drop result out.old }
     ensures keyed { keyed state.new ≡ keyed_after has_psks (keyed state.old) Token.E }
     ensures counted { nonce_now state.new ≡ nonce_after has_psks (keyed state.old) (nonce_now state.old) Token.E }
-    ensures written { (r : History) → StateMatches state.old r → (take result out.new ≡ key.now)
-        × StateMatches state.new (with_ephemeral has_psks r key.now) }
+    ensures written { (take result out.new ≡ key.now) × (state.new ≡ with_ephemeral has_psks state.old key.now) }
 {
     mix_ephemeral(state, has_psks, key);
     put(key, out)
@@ -96,9 +94,8 @@ fn write_token<K: Keys>(
     ensures keyed { IfSome result (λ _. keyed state.new ≡ keyed_after means.now.has_psks (keyed state.old) token) }
     ensures counted { IfSome result
         (λ _. nonce_now state.new ≡ nonce_after means.now.has_psks (keyed state.old) (nonce_now state.old) token) }
-    ensures written { (r : History) → StateMatches state.old r
-        → WritesToken (writer_of K.pairs means.now) r state.new known.now psks.now token
-        out.new result }
+    ensures written { WritesToken (writer_of K.pairs means.now) state.old state.new known.now psks.now token out.new
+        result }
 {
     match token {
         Token::E => match means.keys.public(Own::Ephemeral) {
@@ -145,12 +142,11 @@ pub(crate) fn write_tokens<K: Keys, S: Steps>(
     ensures counted { IfOk result
         (λ _. nonce_now state.new ≡ nonce_after_tokens means.now.has_psks (keyed state.old) (nonce_now state.old)
         (tokens_of placed.now)) }
-    ensures written { (r : History) → StateMatches state.old r
-        → WritesTokens (writer_of K.pairs means.now) r state.new known.now psks.now
+    ensures written { WritesTokens (writer_of K.pairs means.now) state.old state.new known.now psks.now
         (tokens_of placed.now) out.new result }
-    ensures told { (r : History) (place : ℕ) → StateMatches state.old r
-        → ArePlaced means.now.has_psks (keyed state.old) place placed.now → TellsWritten S.after
-        (writer_of K.pairs means.now) r known.now psks.now (tokens_of placed.now) place result steps.old steps.new }
+    ensures told { (place : ℕ) → ArePlaced means.now.has_psks (keyed state.old) place placed.now
+        → TellsWritten S.after (writer_of K.pairs means.now) state.old known.now psks.now (tokens_of placed.now) place
+        result steps.old steps.new }
 {
     let Some((first, later)) = placed.split_first() else {
         return Ok(0);
@@ -259,8 +255,7 @@ pub(crate) fn write_message<K: Keys>(
     ensures counted { IfOk result
         (λ _. nonce_now state.new ≡ nonce_after_message means.now.has_psks (keyed state.old) (nonce_now state.old)
         (tokens_of placed.now)) }
-    ensures written { (r : History) → StateMatches state.old r
-        → WritesMessage (writer_of K.pairs means.now) r state.new known.now psks.now
+    ensures written { WritesMessage (writer_of K.pairs means.now) state.old state.new known.now psks.now
         (tokens_of placed.now) payload.now out.new result }
 {
     let from = match write_tokens(state, known, means, psks, placed, out, &mut NoSteps) {

@@ -17,7 +17,8 @@ pub use Rattle.noise_handshake.specs.declared.faults.Cause.{Cause}
 pub use Rattle.noise_names.specs.Tokens.{other, same_role}
 pub use Rattle.noise_names.specs.declared.token.Role.{Role}
 pub use Rattle.noise_names.specs.declared.token.Role.TheVariants.{Initiator, Responder}
-pub use Rattle.noise_state.specs.History.{History, ciphertext_under, hash, rekeyed_times}
+pub use Rattle.noise_state.specs.declared.symmetric.SymmetricState.{SymmetricState}
+pub use Rattle.noise_state.specs.Cipher.{ciphertext_under, rekeyed_times}
 pub use Rattle.noise_session.specs.Datagrams.{AreOnce, AreParties, DatagramReceiverMatches, DatagramReceiverValue, DatagramSenderMatches, DatagramSenderValue, DatagramState, DatagramsMatch, DatagramsValue, IsSealed, Opens, Runs, accepting, datagram, datagram_fault, datagram_receiver_fault, datagram_receiving_half, datagram_sending_half, nonce_named, unsealed}
 pub use Rattle.noise_session.specs.Ends.{EndMatches, EndState, EndValue, EndedMatches, HandshakeMatches, IsReportedBy, OpenMatches, PhaseMatches, ended_session, hash_in, progress_in, progress_of, remote_static_in, session_hash, session_remote_static, transport_in}
 pub use Rattle.noise_session.specs.Frames.{IsPartial, frame, frame_length}

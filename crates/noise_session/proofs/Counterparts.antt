@@ -71,28 +71,28 @@ module _ (accepts : (v w : Party) (payload message : List ℕ) (xs : List (List 
 
   transport-taken : (v w : EndState) (payload : List ℕ) → EndCounterparts v w → refusal (progress_of v) (length payload) ≡ None
       → IsTrue (is_open (progress_of v))
-      → IsReceived (record v { sent = v.sent + 1 }) w payload (frame (transport_message v.party.history v.party.role v.interval v.sent payload))
+      → IsReceived (record v { sent = v.sent + 1 }) w payload (frame (transport_message v.party.state v.party.role v.interval v.sent payload))
   transport-taken v w payload c due opens =
       let p : Plan = v.party.pattern in
       let there : w.party.pattern ≡ p = ap (λ (z : Party). z.pattern) c.parties.there in
       let passed : w.party.passed ≡ v.party.passed = ap (λ (z : Party). z.passed) c.parties.there in
       let role : w.party.role ≡ other v.party.role = ap (λ (z : Party). z.role) c.parties.there in
       let mine : v.party.role ≡ other w.party.role = ap (λ (z : Party). z.role) c.parties.back in
-      let history : w.party.history ≡ v.party.history = ap (λ (z : Party). z.history) c.parties.there in
+      let history : w.party.state ≡ v.party.state = ap (λ (z : Party). z.state) c.parties.there in
       let going : v.party.ended ≡ false = ap (λ (z : Party). z.ended) c.parties.back in
       let going_there : w.party.ended ≡ false = ap (λ (z : Party). z.ended) c.parties.there in
       let all : v.party.passed ≡ length p.messages = open-passed v opens in
       let all_there : w.party.passed ≡ length w.party.pattern.messages = passed ∙ all ∙ ap (λ (q : Plan). length q.messages) (sym there) in
       let is : IsDue (is_one_way p) v.party.role v.sent (length payload) = search rules in
-      let m : List ℕ = transport_message v.party.history v.party.role v.interval v.sent payload in
+      let m : List ℕ = transport_message v.party.state v.party.role v.interval v.sent payload in
       let size : length m ≡ length payload + 16 =
-      length-sealed (transport_key v.party.history v.party.role v.interval v.sent) (nonce_of v.sent) [] payload in
+      length-sealed (transport_key v.party.state v.party.role v.interval v.sent) (nonce_of v.sent) [] payload in
       let short : length payload + 16 ≤ 65535 = not-long (length payload + 16) is.room in
       let q : progress_of w ≡ Open w.party.role (is_one_way w.party.pattern) w.sent w.received = progress-open w going_there all_there in
       let silent : (is_one_way w.party.pattern && same_role w.party.role Initiator) ≡ false = search rules in
       let idle : idle_step (progress_of w) ≡ None = ap idle_step q ∙ rw silent refl in
       let low : w.received ≢ last_nonce = subst (λ (k : ℕ). k ≢ last_nonce) (sym c.there) (not-last v.sent is.low) in
-      let same : m ≡ transport_message w.party.history (other w.party.role) w.interval w.received payload = search in
+      let same : m ≡ transport_message w.party.state (other w.party.role) w.interval w.received payload = search in
       let y : EndState = record w { received = w.received + 1; partial = [] } in
       let whole : w.partial ++ frame m ≡ frame m ++ [] = ap (λ (h : List ℕ). h ++ frame m) c.partial_there ∙ sym (append-nil (frame m)) in (
         y,
@@ -108,14 +108,14 @@ module _ (accepts : (v w : Party) (payload message : List ℕ) (xs : List (List 
         },
       )
 
-  sent-taken : (v w x : EndState) (payload f : List ℕ) (r : Result (List ℕ) SendFault) → r ≡ Ok f → IsValid v.party.pattern → EndCounterparts v w
+  sent-taken : (v w : EndState) (payload f : List ℕ) (x : EndState) (r : Result (List ℕ) SendFault) → r ≡ Ok f → IsValid v.party.pattern → EndCounterparts v w
       → Sends v payload r x → IsReceived x w payload f
-  sent-taken v w x payload f r e valid c (refuses _ _ why _) = absurd (not-ok why f e)
-  sent-taken v w x payload f r e valid c (lacks_dh_result _ _ token _ _) = absurd (not-ok (fault.Agreement token) f e)
-  sent-taken v w x payload f r e valid c (sends_handshake _ _ message xs due writes) =
+  sent-taken v w payload f x r e valid c (refuses _ _ why _) = absurd (not-ok why f e)
+  sent-taken v w payload f x r e valid c (lacks_dh_result _ _ token _ _) = absurd (not-ok (fault.Agreement token) f e)
+  sent-taken v w payload f x r e valid c (sends_handshake _ _ message xs due writes) =
       subst (IsReceived (record v { party = after_own v.party xs payload }) w payload) (ok-same (frame message) f (Ok (frame message)) refl e)
       (handshake-taken v w payload message xs valid c writes)
-  sent-taken v w x payload f r e valid c (sends_transport _ _ due opens) = search (rules, transport-taken)
+  sent-taken v w payload f x r e valid c (sends_transport _ _ due opens) = search (rules, transport-taken)
 
   pub written-received : (v w x : EndState) (payload f : List ℕ) → IsValid v.party.pattern → EndCounterparts v w → Sends v payload (Ok f) x → IsReceived x w payload f
-  written-received v w x payload f valid c sends = sent-taken v w x payload f (Ok f) refl valid c sends
+  written-received v w x payload f valid c sends = sent-taken v w payload f x (Ok f) refl valid c sends

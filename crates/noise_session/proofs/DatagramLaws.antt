@@ -2,7 +2,7 @@
 use Rattle.std.proofs.Common.{rules, ◌≡◌, ◌≢◌, ℕ, ◌+◌, ◌≤◌, ◌<◌, ◌^◌, Bool, true, false, List, [], ◌++◌, length, Option, Some, None, Ok, Err, refl, sym, ◌∙◌, ap, subst, arith, eqb, MatchOption}
 use Rattle.std.specs.Prelude.{◌&&◌, ◌==◌, nat_lt, if◌then◌else◌}
 use Rattle.std.proofs.lemmas.Nat.{from_be_bytes-to_be_bytes_8}
-use Rattle.noise_session.proofs.Common.{nat_le, w64, to_be_bytes, false≢true, or_right, ne_eqb, ltb-false, leb-false, le-ltb, Role, Initiator, Responder, other, same_role, nonce_of, History, SendFault, transport_key, transport_message, last_nonce, is_accepted, window_fault, DatagramState, Opens, Runs, AreOnce, AreParties, IsSealed, datagram, nonce_named, accepting, unsealed, datagram_fault}
+use Rattle.noise_session.proofs.Common.{nat_le, w64, to_be_bytes, false≢true, or_right, ne_eqb, ltb-false, leb-false, le-ltb, Role, Initiator, Responder, other, same_role, nonce_of, SymmetricState, SendFault, transport_key, transport_message, last_nonce, is_accepted, window_fault, DatagramState, Opens, Runs, AreOnce, AreParties, IsSealed, datagram, nonce_named, accepting, unsealed, datagram_fault}
 use Rattle.noise_aead.specs.Sealed.{length-sealed}
 use Rattle.noise_session.specs.declared.datagram_fault.DatagramFault.{DatagramFault}
 use Rattle.noise_session.specs.Datagrams.Opens.{opened, refused, forged}
@@ -70,15 +70,15 @@ reported w bytes payload n (Some why) e is sealed = refused w bytes why e
 
 module _ (v w : DatagramState) (payload : List ℕ) (p : AreParties v w) (d : IsDue v.role v.one_way v.sent (length payload)) where
   bytes : List ℕ
-  bytes = datagram v.history v.role v.sent payload
+  bytes = datagram v.state v.role v.sent payload
 
   is-named : nonce_named bytes ≡ v.sent
   unfolding bytes
-  is-named = let low = d.low in named v.sent (transport_message v.history v.role 0 v.sent payload) (omega arith)
+  is-named = let low = d.low in named v.sent (transport_message v.state v.role 0 v.sent payload) (omega arith)
 
   long : length bytes ≡ length payload + 24
   unfolding bytes
-  long = omega (arith, length-sealed (transport_key v.history v.role 0 v.sent) (nonce_of v.sent) [] payload)
+  long = omega (arith, length-sealed (transport_key v.state v.role 0 v.sent) (nonce_of v.sent) [] payload)
 
   fault-there : datagram_fault w bytes ≡ window_fault w.width w.accepted v.sent
   fault-there =
@@ -101,16 +101,16 @@ module _ (v w : DatagramState) (payload : List ℕ) (p : AreParties v w) (d : Is
   is-sealed : IsSealed w bytes payload
   unfolding bytes
   is-sealed =
-      ap (λ (r : History). transport_message r v.role 0 v.sent payload) (sym p.history)
-      ∙ ap (λ (role : Role). transport_message w.history role 0 v.sent payload) (sym (ap other p.role ∙ other-other v.role))
-      ∙ ap (λ (n : ℕ). transport_message w.history (other w.role) 0 n payload) (sym is-named)
+      ap (λ (r : SymmetricState). transport_message r v.role 0 v.sent payload) (sym p.state)
+      ∙ ap (λ (role : Role). transport_message w.state role 0 v.sent payload) (sym (ap other p.role ∙ other-other v.role))
+      ∙ ap (λ (n : ℕ). transport_message w.state (other w.role) 0 n payload) (sym is-named)
 
   comes : MatchOption (window_fault w.width w.accepted v.sent) (Opens w bytes (Ok payload) (accepting w v.sent)) (λ why. Opens w bytes (Err why) w)
   comes = reported w bytes payload v.sent (window_fault w.width w.accepted v.sent) fault-there is-named is-sealed
 
 pub sealed-opened : (v w : DatagramState) (payload : List ℕ) → AreParties v w → unsealed v.role v.one_way v.sent (length payload) ≡ None
     → MatchOption (window_fault w.width w.accepted v.sent)
-    (Opens w (datagram v.history v.role v.sent payload) (Ok payload) (accepting w v.sent))
-    (λ why. Opens w (datagram v.history v.role v.sent payload) (Err why) w)
+    (Opens w (datagram v.state v.role v.sent payload) (Ok payload) (accepting w v.sent))
+    (λ why. Opens w (datagram v.state v.role v.sent payload) (Err why) w)
 unfolding bytes
 sealed-opened v w payload p none = comes v w payload p (due v.role v.one_way v.sent (length payload) none)

@@ -1,6 +1,6 @@
 -- What sealing and opening make of the bytes of a datagram, and of a state.
 use Rattle.std.proofs.Common.{rules, ◌≡◌, ◌≢◌, ℕ, ◌+◌, ◌-◌, ◌≤◌, Bool, false, List, [], ◌∷◌, ◌++◌, take, Option, Some, None, Ok, Err, refl, sym, ◌∙◌, ap, arith}
-use Rattle.noise_session.proofs.Common.{HalfValue, receiver_fault, w64, to_be_bytes, Role, History, ciphertext_under, Ring, split_key, transport_message, last_nonce, width_of, is_old, Recalls, DatagramState, Opens, nonce_named, accepting, datagram_fault, datagram_receiver_fault, ring_fault, window_fault, other, DatagramReceiverValue, DatagramReceiverMatches}
+use Rattle.noise_session.proofs.Common.{HalfValue, receiver_fault, w64, to_be_bytes, Role, SymmetricState, ciphertext_under, Ring, split_key, transport_message, last_nonce, width_of, is_old, Recalls, DatagramState, Opens, nonce_named, accepting, datagram_fault, datagram_receiver_fault, ring_fault, window_fault, other, DatagramReceiverValue, DatagramReceiverMatches}
 use Rattle.noise_session.specs.declared.datagram_fault.DatagramFault.{DatagramFault}
 use Rattle.noise_session.specs.declared.datagram_fault.DatagramFault.TheVariants as fault
 use Rattle.noise_session.specs.Datagrams.{unopened}
@@ -20,7 +20,7 @@ has-nonce n long = omega arith
 pub payload-there : (n : ℕ) → 8 + n - 8 ≡ n
 payload-there n = omega arith
 
-pub piece-transport_message : (key : Option (List ℕ)) (n m : ℕ) (r : History) (writer : Role) (payload : List ℕ) → key ≡ Some (split_key r writer) → n ≡ m
+pub piece-transport_message : (key : Option (List ℕ)) (n m : ℕ) (r : SymmetricState) (writer : Role) (payload : List ℕ) → key ≡ Some (split_key r writer) → n ≡ m
     → ciphertext_under key n [] payload ≡ transport_message r writer 0 m payload
 piece-transport_message key n m r writer payload keyed same = search rules
 
@@ -38,7 +38,7 @@ pub opened-there : (h : DatagramReceiverValue) (v : DatagramState) (bytes payloa
     → datagram_receiver_fault h bytes ≡ None → IsUnderKey h bytes payload → Opens v bytes (Ok payload) (accepting v (nonce_named bytes))
 opened-there h v bytes payload p none is =
     opened v bytes payload (sym (fault-reported h v bytes p) ∙ none)
-    (is ∙ piece-transport_message h.key (nonce_named bytes) (nonce_named bytes) v.history (other v.role) payload p.key refl)
+    (is ∙ piece-transport_message h.key (nonce_named bytes) (nonce_named bytes) v.state (other v.role) payload p.key refl)
 
 pub refused-there : (h : DatagramReceiverValue) (v : DatagramState) (bytes : List ℕ) (why : DatagramFault) → DatagramReceiverMatches h v
     → Some why ≡ datagram_receiver_fault h bytes → Opens v bytes (Err why) v
@@ -48,7 +48,7 @@ pub forged-there : (h : DatagramReceiverValue) (v : DatagramState) (bytes : List
     → datagram_receiver_fault h bytes ≡ None → ((payload : List ℕ) → IsUnderKey h bytes payload → ⊥) → Opens v bytes (Err fault.Tag) v
 forged-there h v bytes p none never =
     forged v bytes (sym (fault-reported h v bytes p) ∙ none) (λ payload is.
-    never payload (is ∙ sym (piece-transport_message h.key (nonce_named bytes) (nonce_named bytes) v.history (other v.role) payload p.key refl)))
+    never payload (is ∙ sym (piece-transport_message h.key (nonce_named bytes) (nonce_named bytes) v.state (other v.role) payload p.key refl)))
 
 -- the half that opens, at the nonce that a datagram names
 pub half-listens : (h : HalfValue) (d : DatagramReceiverValue) (bytes : List ℕ) → h.role ≡ d.role → h.one_way ≡ d.one_way

@@ -1,6 +1,6 @@
 -- A piece gives one step at an end.
 use Rattle.std.proofs.Common.{rules, ◌≡◌, ℕ, List, length, refl, sym, ◌∙◌, ap, subst, arith}
-use Rattle.noise_session.proofs.Common.{Role, other, History, Cause, Party, Accepts, Refuses, IsPartial, transport_message, StepValue, Payload, Refused, EndState, Judges, Takes, accepted, dropped, exhausted, idles, waits, judges}
+use Rattle.noise_session.proofs.Common.{Role, other, SymmetricState, Cause, Party, Accepts, Refuses, IsPartial, transport_message, StepValue, Payload, Refused, EndState, Judges, Takes, accepted, dropped, exhausted, idles, waits, judges}
 use Rattle.noise_session.specs.Taking.Judges.{refused, opened}
 use Rattle.noise_session.specs.Framing.{frame-whole, frame-same}
 use Rattle.noise_session.proofs.Parties.{closed-yet}
@@ -9,7 +9,7 @@ module _ (accepted-one : (v : Party) (message : List ℕ) (xs ys : List (List �
     → (xs ≡ ys) × (p ≡ q))
     (refused-one : (v : Party) (message : List ℕ) (k j : ℕ) (c d : Cause) → Refuses v message k c → Refuses v message j d → (k ≡ j) × (c ≡ d))
     (apart : (v : Party) (message : List ℕ) (xs : List (List ℕ)) (p : List ℕ) (k : ℕ) (c : Cause) → Accepts v message xs p → Refuses v message k c → ⊥)
-    (transport_message-one : (r : History) (writer : Role) (interval n : ℕ) (p q : List ℕ) → transport_message r writer interval n p ≡ transport_message r writer interval n q → p ≡ q) where
+    (transport_message-one : (r : SymmetricState) (writer : Role) (interval n : ℕ) (p q : List ℕ) → transport_message r writer interval n p ≡ transport_message r writer interval n q → p ≡ q) where
   pub judged-once : (v x y : EndState) (m : List ℕ) (s t : StepValue) → Judges v m s x → Judges v m t y → (s ≡ t) × (x ≡ y)
   judged-once v x y m s t (accepted _ _ p xs a) (accepted _ _ q ys b) = search rules
   judged-once v x y m s t (accepted _ _ p xs a) (refused _ _ k c b) = absurd (apart v.party m xs p k c a b)
@@ -26,7 +26,7 @@ module _ (accepted-one : (v : Party) (message : List ℕ) (xs ys : List (List �
   judged-once v x y m s t (opened _ _ p opens low is) (accepted _ _ q xs a) = absurd (closed-yet v a.listens.more opens)
   judged-once v x y m s t (opened _ _ p opens low is) (refused _ _ k c a) = absurd (closed-yet v a.listens.more opens)
   judged-once v x y m s t (opened _ _ p opens low is) (opened _ _ q other_opens other_low be) =
-      (ap Payload (transport_message-one v.party.history (other v.party.role) v.interval v.received p q (sym is ∙ be)), refl)
+      (ap Payload (transport_message-one v.party.state (other v.party.role) v.interval v.received p q (sym is ∙ be)), refl)
   judged-once v x y m s t (opened _ _ p opens low is) (dropped _ _ other_opens other_low never) = absurd (never p is)
   judged-once v x y m s t (opened _ _ p opens low is) (exhausted _ _ other_opens last) = absurd (low last)
   judged-once v x y m s t (dropped _ _ opens low never) (accepted _ _ q xs a) = absurd (closed-yet v a.listens.more opens)

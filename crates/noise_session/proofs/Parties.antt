@@ -1,8 +1,7 @@
 -- How far an end has come, by the state that it matches.
 use Rattle.std.proofs.Common.{rules, ◌≡◌, ◌≢◌, ℕ, ◌==◌, ◌<◌, ◌≤◌, nat_lt, List, length, Bool, true, false, Option, Some, None, IsTrue, if◌then◌else◌, refl, sym, ◌∙◌, ap, subst, arith}
-use Rattle.noise_session.proofs.Common.{nat_tests, Role, hash, Phase, is_open, idle_step, refusal, StepValue, SendFault, HandshakeValue, Handshaking, Open, HasEnded, EndValue, EndState, EndMatches, IsReportedBy, PhaseMatches, HandshakeMatches, OpenMatches, hash_in, progress_in, progress_of, remote_static_in, session_hash, session_remote_static, ended_session, TransportValue, eqb-true, ne_eqb}
+use Rattle.noise_session.proofs.Common.{nat_tests, Role, Phase, is_open, idle_step, refusal, StepValue, SendFault, HandshakeValue, Handshaking, Open, HasEnded, EndValue, EndState, EndMatches, IsReportedBy, PhaseMatches, HandshakeMatches, OpenMatches, hash_in, progress_in, progress_of, remote_static_in, session_hash, session_remote_static, ended_session, TransportValue, eqb-true, ne_eqb}
 use Rattle.noise_names.specs.Plan.{Plan, is_one_way}
-use Rattle.noise_keys.specs.declared.keys.Own.{Own}
 use Rattle.noise_session.specs.inner.Phases.{ended_in}
 use Rattle.std.proofs.lemmas.Bool.{eq-eqb}
 use Rattle.noise_session.specs.declared.phase.Phase.TheVariants as phase
@@ -23,7 +22,7 @@ progress-ended_session v ended_party = rw ended_party refl
 pub no-hash : (v : EndState) → v.party.passed ≢ length v.party.pattern.messages → session_hash v ≡ None
 no-hash v more = let test = ne_eqb v.party.passed (length v.party.pattern.messages) more in rw test refl
 
-pub whole-hash : (v : EndState) → v.party.passed ≡ length v.party.pattern.messages → session_hash v ≡ Some (hash v.party.history)
+pub whole-hash : (v : EndState) → v.party.passed ≡ length v.party.pattern.messages → session_hash v ≡ Some v.party.state.hash
 whole-hash v all = let test = eq-eqb v.party.passed (length v.party.pattern.messages) all in rw test refl
 
 pub is-open : (v : EndState) (t : TransportValue) → OpenMatches t v → IsTrue (is_open (progress_of v))

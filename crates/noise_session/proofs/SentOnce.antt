@@ -11,20 +11,20 @@ module _ (written-one : (v : Party) (payload m n : List ℕ) (xs ys : List (List
   refused-one : (o : Option SendFault) (a b : SendFault) → o ≡ Some a → o ≡ Some b → a ≡ b
   refused-one o a b e f = cc
 
-  pub sends-once : (v x y : EndState) (payload : List ℕ) (r s : Result (List ℕ) SendFault) → Sends v payload r x → Sends v payload s y → (r ≡ s) × (x ≡ y)
-  sends-once v x y payload r s (refuses _ _ a e) (refuses _ _ b f) = search
-  sends-once v x y payload r s (refuses _ _ a e) (lacks_dh_result _ _ k f lacks) = cc
-  sends-once v x y payload r s (refuses _ _ a e) (sends_handshake _ _ m xs f writes) = cc
-  sends-once v x y payload r s (refuses _ _ a e) (sends_transport _ _ f opens) = cc
-  sends-once v x y payload r s (lacks_dh_result _ _ k e lacks) (refuses _ _ b f) = cc
-  sends-once v x y payload r s (lacks_dh_result _ _ k e lacks) (lacks_dh_result _ _ j f other) = search
-  sends-once v x y payload r s (lacks_dh_result _ _ k e lacks) (sends_handshake _ _ m xs f writes) = absurd (apart v.party payload m xs k writes lacks)
-  sends-once v x y payload r s (lacks_dh_result _ _ k e lacks) (sends_transport _ _ f opens) = absurd (closed-yet v lacks.speaks.more opens)
-  sends-once v x y payload r s (sends_handshake _ _ m xs e writes) (refuses _ _ b f) = cc
-  sends-once v x y payload r s (sends_handshake _ _ m xs e writes) (lacks_dh_result _ _ k f lacks) = absurd (apart v.party payload m xs k writes lacks)
-  sends-once v x y payload r s (sends_handshake _ _ m xs e writes) (sends_handshake _ _ n ys f other) = search rules
-  sends-once v x y payload r s (sends_handshake _ _ m xs e writes) (sends_transport _ _ f opens) = absurd (closed-yet v writes.speaks.more opens)
-  sends-once v x y payload r s (sends_transport _ _ e opens) (refuses _ _ b f) = cc
-  sends-once v x y payload r s (sends_transport _ _ e opens) (lacks_dh_result _ _ k f lacks) = absurd (closed-yet v lacks.speaks.more opens)
-  sends-once v x y payload r s (sends_transport _ _ e opens) (sends_handshake _ _ m xs f writes) = absurd (closed-yet v writes.speaks.more opens)
-  sends-once v x y payload r s (sends_transport _ _ e opens) (sends_transport _ _ f other) = (refl, refl)
+  pub sends-once : (v : EndState) (payload : List ℕ) (x y : EndState) (r s : Result (List ℕ) SendFault) → Sends v payload r x → Sends v payload s y → (r ≡ s) × (x ≡ y)
+  sends-once v payload x y r s (refuses _ _ a e) (refuses _ _ b f) = search
+  sends-once v payload x y r s (refuses _ _ a e) (lacks_dh_result _ _ k f lacks) = cc
+  sends-once v payload x y r s (refuses _ _ a e) (sends_handshake _ _ m xs f writes) = cc
+  sends-once v payload x y r s (refuses _ _ a e) (sends_transport _ _ f opens) = cc
+  sends-once v payload x y r s (lacks_dh_result _ _ k e lacks) (refuses _ _ b f) = cc
+  sends-once v payload x y r s (lacks_dh_result _ _ k e lacks) (lacks_dh_result _ _ j f other) = search
+  sends-once v payload x y r s (lacks_dh_result _ _ k e lacks) (sends_handshake _ _ m xs f writes) = absurd (apart v.party payload m xs k writes lacks)
+  sends-once v payload x y r s (lacks_dh_result _ _ k e lacks) (sends_transport _ _ f opens) = absurd (closed-yet v lacks.speaks.more opens)
+  sends-once v payload x y r s (sends_handshake _ _ m xs e writes) (refuses _ _ b f) = cc
+  sends-once v payload x y r s (sends_handshake _ _ m xs e writes) (lacks_dh_result _ _ k f lacks) = absurd (apart v.party payload m xs k writes lacks)
+  sends-once v payload x y r s (sends_handshake _ _ m xs e writes) (sends_handshake _ _ n ys f other) = search rules
+  sends-once v payload x y r s (sends_handshake _ _ m xs e writes) (sends_transport _ _ f opens) = absurd (closed-yet v writes.speaks.more opens)
+  sends-once v payload x y r s (sends_transport _ _ e opens) (refuses _ _ b f) = cc
+  sends-once v payload x y r s (sends_transport _ _ e opens) (lacks_dh_result _ _ k f lacks) = absurd (closed-yet v lacks.speaks.more opens)
+  sends-once v payload x y r s (sends_transport _ _ e opens) (sends_handshake _ _ m xs f writes) = absurd (closed-yet v writes.speaks.more opens)
+  sends-once v payload x y r s (sends_transport _ _ e opens) (sends_transport _ _ f other) = (refl, refl)

@@ -3,7 +3,7 @@
 use Rattle.std.specs.Prelude.{◌≡◌, ◌+◌, ◌≤◌, ◌++◌, ℕ, List, [], length, take, drop, Option, Some, None, Result, Ok, Err, IfOk}
 use Rattle.std.specs.Prelude.{OnOk, OnErr, MatchResult}
 use Rattle.std.specs.Int.{w64, to_be_bytes}
-use Rattle.noise_state.specs.History.{ciphertext_under}
+use Rattle.noise_state.specs.Cipher.{ciphertext_under}
 use Rattle.noise_session.specs.declared.faults.SendFault.{SendFault}
 use Rattle.noise_session.specs.declared.datagram_fault.DatagramFault.{DatagramFault}
 use Rattle.noise_session.specs.declared.datagram_fault.DatagramFault.TheVariants as fault
@@ -26,7 +26,7 @@ pub record DatagramSenderSeals (h next : DatagramSenderValue) (n : ℕ) (payload
   pub unchanged : OnErr result ((next ≡ h) × (after ≡ out))
   pub sealed : IfOk result (λ k. take k after ≡ datagram_under h payload)
   pub seals : (v : DatagramState) → DatagramSenderMatches h v → IfOk result
-      (λ k. (take k after ≡ datagram v.history v.role v.sent payload)
+      (λ k. (take k after ≡ datagram v.state v.role v.sent payload)
       × DatagramSenderMatches next (record v { sent = v.sent + 1 }))
 
 -- the fault of a datagram that isn't opened: the first, or a wrong tag where there is none

@@ -6,7 +6,7 @@ use Rattle.noise_names.specs.declared.token.Role.{Role}
 use Rattle.noise_names.specs.declared.token.Role.TheVariants.{Initiator, Responder}
 use Rattle.noise_names.specs.Tokens.{same_role, other}
 use Rattle.noise_names.specs.Plan.{is_one_way}
-use Rattle.noise_state.specs.History.{History}
+use Rattle.noise_state.specs.declared.symmetric.SymmetricState.{SymmetricState}
 use Rattle.noise_handshake.specs.Party.{Party}
 use Rattle.noise_session.specs.declared.faults.SendFault.{SendFault}
 use Rattle.noise_session.specs.declared.faults.SendFault.TheVariants as send
@@ -20,7 +20,7 @@ use Rattle.noise_session.specs.Windows.{is_accepted, ring_fault, window_fault, R
 
 -- Datagram n of a writer: the nonce in 8 bytes, the highest first, and the transport message of that nonce. Its key is
 -- never rekeyed.
-abbrev pub datagram : History → Role → ℕ → List ℕ → List ℕ
+abbrev pub datagram : SymmetricState → Role → ℕ → List ℕ → List ℕ
 datagram r writer n payload = to_be_bytes w64 n ++ transport_message r writer 0 n payload
 
 -- the nonce that a datagram names
@@ -36,11 +36,11 @@ pub record DatagramsValue : Type 0 where
   pub receive_key : Option (List ℕ)
   pub recent : Ring
 
--- The datagrams of one party of a handshake with that history, so many sealed, and these opened.
+-- The datagrams of one party of a handshake with that state, so many sealed, and these opened.
 pub record DatagramState : Type 0 where
   pub role : Role
   pub one_way : Bool
-  pub history : History
+  pub state : SymmetricState
   pub width : ℕ  -- of the window
   pub sent : ℕ  -- the nonce of the next
   pub accepted : List ℕ  -- the set of their nonces
@@ -50,7 +50,7 @@ abbrev pub datagrams_of : Party → Window → DatagramState
 datagrams_of v window = record {
   role = v.role;
   one_way = is_one_way v.pattern;
-  history = v.history;
+  state = v.state;
   width = width_of window;
   sent = 0;
   accepted = [];
@@ -83,14 +83,14 @@ datagram_receiving_half d = record { role = d.role; one_way = d.one_way; key = d
 pub record DatagramSenderMatches (h : DatagramSenderValue) (v : DatagramState) : Type 0 where
   pub role : h.role ≡ v.role
   pub one_way : h.one_way ≡ v.one_way
-  pub key : h.key ≡ Some (split_key v.history v.role)
+  pub key : h.key ≡ Some (split_key v.state v.role)
   pub nonce : h.nonce ≡ v.sent
 
 -- The half that opens matches the state.
 pub record DatagramReceiverMatches (h : DatagramReceiverValue) (v : DatagramState) : Type 0 where
   pub role : h.role ≡ v.role
   pub one_way : h.one_way ≡ v.one_way
-  pub key : h.key ≡ Some (split_key v.history (other v.role))
+  pub key : h.key ≡ Some (split_key v.state (other v.role))
   pub width : width_of h.recent.window ≡ v.width
   pub recent : Recalls h.recent v.accepted
 
@@ -126,7 +126,7 @@ datagram_receiver_fault h = unopened h.role h.one_way (ring_fault h.recent)
 
 -- The message of a datagram is that of the other party with the payload, at the nonce that the datagram names.
 abbrev pub IsSealed : DatagramState → List ℕ → List ℕ → Type 0
-IsSealed v bytes payload = drop 8 bytes ≡ transport_message v.history (other v.role) 0 (nonce_named bytes) payload
+IsSealed v bytes payload = drop 8 bytes ≡ transport_message v.state (other v.role) 0 (nonce_named bytes) payload
 
 -- What comes of the bytes of a datagram: its payload, or the fault that is reported. A fault changes nothing.
 pub data Opens : DatagramState → List ℕ → Result (List ℕ) DatagramFault → DatagramState → Type 0 where
@@ -162,4 +162,4 @@ AreOnce (n ∷ ns) = (is_accepted ns n ≡ false) × AreOnce ns
 pub record AreParties (v w : DatagramState) : Type 0 where
   pub role : w.role ≡ other v.role
   pub one_way : w.one_way ≡ v.one_way
-  pub history : w.history ≡ v.history
+  pub state : w.state ≡ v.state

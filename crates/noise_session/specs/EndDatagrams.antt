@@ -22,7 +22,7 @@ abbrev pub datagrams_after : TransportState → Window → DatagramState
 datagrams_after v window = record {
   role = v.role;
   one_way = v.one_way;
-  history = v.history;
+  state = v.state;
   width = width_of window;
   sent = 0;
   accepted = [];

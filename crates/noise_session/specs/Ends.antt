@@ -2,8 +2,6 @@
 use Rattle.std.specs.Prelude.{◌≡◌, ◌≢◌, ℕ, List, [], Option, Some, None, length, Bool, true, false, ◌==◌, if◌then◌else◌}
 use Rattle.noise_names.specs.declared.token.Role.{Role}
 use Rattle.noise_names.specs.Plan.{is_one_way}
-use Rattle.noise_state.specs.History.{hash}
-use Rattle.noise_keys.specs.declared.keys.Own.{Own}
 use Rattle.noise_handshake.specs.HandshakeValue.{HandshakeValue}
 use Rattle.noise_handshake.specs.Party.{Party}
 use Rattle.noise_handshake.specs.Matching.{Matches, ended_party}
@@ -46,7 +44,7 @@ remote_static_in (phase.Handshaking h interval) = h.remote.s
 remote_static_in (phase.Open t) = t.remote_static
 remote_static_in (phase.Ended role hash) = None
 
--- One end of a session: the party that it is, and the history of what it wrote and accepted.
+-- One end of a session: the party that it is, and what it wrote and accepted.
 pub record EndState : Type 0 where
   pub party : Party
   pub interval : ℕ  -- after so many transport messages a key is rekeyed; 0 for never
@@ -71,7 +69,7 @@ ended_session v = record v { party = ended_party v.party; partial = [] }
 
 -- the hash of the whole handshake (Noise 11.2), once all of it has passed
 abbrev pub session_hash : EndState → Option (List ℕ)
-session_hash v = if v.party.passed == length v.party.pattern.messages then Some (hash v.party.history) else None
+session_hash v = if v.party.passed == length v.party.pattern.messages then Some v.party.state.hash else None
 
 -- the other party's static public key, as far as it is known, until the session has ended
 abbrev pub session_remote_static : EndState → Option (List ℕ)

@@ -17,7 +17,7 @@ abbrev pub Encodes : EndState → List ℕ → List ℕ → Type 0
 Encodes v message payload =
     MatchBool (is_open (progress_of v))
     ((v.received ≢ last_nonce)
-    × (message ≡ transport_message v.party.history (other v.party.role) v.interval v.received payload))
+    × (message ≡ transport_message v.party.state (other v.party.role) v.interval v.received payload))
     ((xs : List (List ℕ)) × Accepts v.party message xs payload)
 
 -- What is reported of a whole message that comes to an end that listens.

@@ -2,7 +2,7 @@
 -- transport say the same of its halves.
 use Rattle.std.specs.Prelude.{◌≡◌, ◌≢◌, ◌+◌, ◌≤◌, ◌<◌, ℕ, List, [], length, take, drop, Option, None, Result, Err, IsOk, IfOk, IfErr}
 use Rattle.std.specs.Prelude.{OnOk, OnErr, MatchOption, MatchResult}
-use Rattle.noise_state.specs.History.{ciphertext_under}
+use Rattle.noise_state.specs.Cipher.{ciphertext_under}
 use Rattle.noise_session.specs.declared.faults.SendFault.{SendFault}
 use Rattle.noise_session.specs.declared.faults.OpenFault.{OpenFault}
 use Rattle.noise_session.specs.Frames.{frame}

@@ -1,6 +1,5 @@
 -- What an end makes of a payload (Noise 5.3, 11.3 and 13).
-use Rattle.std.specs.Prelude.{◌≡◌, ℕ, ◌+◌, ◌≤◌, ⊤, List, length, take, drop, Option, Some, None, Result, Ok, Err, IsTrue, IfOk, MatchOption, if◌then◌else◌}
-use Rattle.noise_keys.specs.declared.keys.Own.{Own}
+use Rattle.std.specs.Prelude.{◌≡◌, ℕ, ◌+◌, ◌≤◌, ⊤, List, length, take, drop, Some, None, Result, Ok, Err, IsTrue, IfOk, MatchOption, if◌then◌else◌}
 use Rattle.noise_handshake.specs.Writing.{Writes, LacksDhResult}
 use Rattle.noise_handshake.specs.Matching.{after_own}
 use Rattle.noise_session.specs.declared.faults.SendFault.{SendFault}
@@ -29,7 +28,7 @@ pub data Sends : EndState → List ℕ → Result (List ℕ) SendFault → EndSt
       → Sends v payload (Ok (frame message)) (record v { party = after_own v.party xs payload })
   sends_transport : (v : EndState) (payload : List ℕ) → refusal (progress_of v) (length payload) ≡ None
       → IsTrue (is_open (progress_of v))
-      → Sends v payload (Ok (frame (transport_message v.party.history v.party.role v.interval v.sent payload)))
+      → Sends v payload (Ok (frame (transport_message v.party.state v.party.role v.interval v.sent payload)))
       (record v { sent = v.sent + 1 })
 
 -- the frame that a call left in the first bytes of a buffer, or its fault

@@ -1,5 +1,5 @@
 -- What bytes make of an end (Noise 5.3, 11.3 and 13).
-use Rattle.std.specs.Prelude.{◌≡◌, ◌≢◌, ℕ, ◌+◌, ◌≤◌, List, [], ◌++◌, length, Option, Some, None, IsTrue, nat_lt, if◌then◌else◌}
+use Rattle.std.specs.Prelude.{◌≡◌, ◌≢◌, ℕ, ◌+◌, ◌≤◌, List, [], ◌++◌, length, Some, None, IsTrue, nat_lt, if◌then◌else◌}
 use Rattle.noise_names.specs.Tokens.{other}
 use Rattle.noise_handshake.specs.declared.faults.Cause.{Cause}
 use Rattle.noise_handshake.specs.declared.faults.Cause.TheVariants.{Short, Tag}
@@ -10,7 +10,6 @@ use Rattle.noise_session.specs.Transport.{transport_message, last_nonce}
 use Rattle.noise_session.specs.Steps.{StepValue}
 use Rattle.noise_session.specs.Steps.StepValue.{More, Payload, Dropped, Refused, Exhausted}
 use Rattle.noise_session.specs.Progress.{is_open, idle_step}
-use Rattle.noise_keys.specs.declared.keys.Own.{Own}
 use Rattle.noise_session.specs.Ends.{EndValue, EndState, EndMatches, progress_of, ended_session}
 use Rattle.noise_keys.specs.Keys.{KeyPairs}
 
@@ -22,11 +21,11 @@ pub data Judges : EndState → List ℕ → StepValue → EndState → Type 0 wh
   refused : (v : EndState) (message : List ℕ) (token : ℕ) (cause : Cause) → Refuses v.party message token cause
       → Judges v message (Refused token cause) (ended_session v)
   opened : (v : EndState) (message payload : List ℕ) → IsTrue (is_open (progress_of v)) → v.received ≢ last_nonce
-      → message ≡ transport_message v.party.history (other v.party.role) v.interval v.received payload
+      → message ≡ transport_message v.party.state (other v.party.role) v.interval v.received payload
       → Judges v message (Payload payload) (record v { received = v.received + 1; partial = [] })
   dropped : (v : EndState) (message : List ℕ) → IsTrue (is_open (progress_of v)) → v.received ≢ last_nonce
       → ((payload : List ℕ)
-      → message ≢ transport_message v.party.history (other v.party.role) v.interval v.received payload)
+      → message ≢ transport_message v.party.state (other v.party.role) v.interval v.received payload)
       → Judges v message (Dropped (if nat_lt (length message) 16 then Short else Tag)) (record v { partial = [] })
   exhausted : (v : EndState) (message : List ℕ) → IsTrue (is_open (progress_of v)) → v.received ≡ last_nonce
       → Judges v message Exhausted (ended_session v)

@@ -4,7 +4,7 @@ use Rattle.noise_aead.specs.Sealing.{rekeyed}
 use Rattle.noise_names.specs.declared.token.Role.{Role}
 use Rattle.noise_names.specs.Tokens.{other}
 use Rattle.noise_names.specs.Plan.{is_one_way}
-use Rattle.noise_state.specs.History.{History, hash}
+use Rattle.noise_state.specs.declared.symmetric.SymmetricState.{SymmetricState}
 use Rattle.noise_handshake.specs.Party.{Party}
 use Rattle.noise_session.specs.declared.faults.SendFault.{SendFault}
 use Rattle.noise_session.specs.declared.faults.OpenFault.{OpenFault}
@@ -24,11 +24,11 @@ pub record TransportValue : Type 0 where
   pub receive_key : Option (List ℕ)
   pub receive_nonce : ℕ
 
--- The transport of one party of a handshake with that history, so many messages on.
+-- The transport of one party of a handshake with that state, so many messages on.
 pub record TransportState : Type 0 where
   pub role : Role
   pub one_way : Bool
-  pub history : History
+  pub state : SymmetricState
   pub remote_static : Option (List ℕ)
   pub interval : ℕ  -- after so many messages of a direction its key is rekeyed; 0 for never
   pub sent : ℕ  -- messages: the nonce of the next
@@ -39,7 +39,7 @@ abbrev pub transport_of : Party → ℕ → TransportState
 transport_of v interval = record {
   role = v.role;
   one_way = is_one_way v.pattern;
-  history = v.history;
+  state = v.state;
   remote_static = v.remote.s;
   interval = interval;
   sent = 0;
@@ -48,11 +48,11 @@ transport_of v interval = record {
 
 -- what this party makes of a payload now
 abbrev pub next_message : TransportState → List ℕ → List ℕ
-next_message v payload = transport_message v.history v.role v.interval v.sent payload
+next_message v payload = transport_message v.state v.role v.interval v.sent payload
 
 -- what the other party makes of a payload that is to come now
 abbrev pub due_message : TransportState → List ℕ → List ℕ
-due_message v payload = transport_message v.history (other v.role) v.interval v.received payload
+due_message v payload = transport_message v.state (other v.role) v.interval v.received payload
 
 -- The key of the message at this nonce, after that of the message before: a new one where the nonce is a multiple of
 -- the interval (11.3). An interval of 0 means never.
@@ -74,7 +74,7 @@ pub record SenderMatches (h : HalfValue) (v : TransportState) : Type 0 where
   pub role : h.role ≡ v.role
   pub one_way : h.one_way ≡ v.one_way
   pub interval : h.interval ≡ v.interval
-  pub key : h.key ≡ Some (transport_key v.history v.role v.interval v.sent)
+  pub key : h.key ≡ Some (transport_key v.state v.role v.interval v.sent)
   pub nonce : h.nonce ≡ v.sent
 
 -- The half that opens matches the state.
@@ -82,12 +82,12 @@ pub record ReceiverMatches (h : HalfValue) (v : TransportState) : Type 0 where
   pub role : h.role ≡ v.role
   pub one_way : h.one_way ≡ v.one_way
   pub interval : h.interval ≡ v.interval
-  pub key : h.key ≡ Some (transport_key v.history (other v.role) v.interval v.received)
+  pub key : h.key ≡ Some (transport_key v.state (other v.role) v.interval v.received)
   pub nonce : h.nonce ≡ v.received
 
 -- The transport matches the state.
 pub record TransportMatches (t : TransportValue) (v : TransportState) : Type 0 where
-  pub hash : t.hash ≡ hash v.history
+  pub hash : t.hash ≡ v.state.hash
   pub remote_static : t.remote_static ≡ v.remote_static
   pub sender : SenderMatches (sending_half t) v
   pub receiver : ReceiverMatches (receiving_half t) v
@@ -107,6 +107,6 @@ unopened_fault message = if nat_lt message 16 then unopened.Short else unopened.
 -- The second is the other party of the first, and expects the message that the first writes next.
 pub record Faces (v w : TransportState) : Type 0 where
   pub role : w.role ≡ other v.role
-  pub history : w.history ≡ v.history
+  pub state : w.state ≡ v.state
   pub interval : w.interval ≡ v.interval
   pub received : w.received ≡ v.sent

@@ -3,7 +3,7 @@
 ghost use Rattle.std.specs.Prelude.{◌≡◌, ◌+◌, ◌++◌, ℕ, List, length, None, Result, Ok};
 ghost use Rattle.noise_names.specs.declared.token.Role.{Role};
 ghost use Rattle.noise_names.specs.Validity.{IsValid};
-ghost use Rattle.noise_state.specs.History.{History};
+ghost use Rattle.noise_state.specs.declared.symmetric.SymmetricState.{SymmetricState};
 ghost use Rattle.noise_session.specs.declared.faults.SendFault.{SendFault};
 ghost use Rattle.noise_session.specs.Transport.{transport_message};
 ghost use Rattle.noise_session.specs.TransportValue.{TransportState, Faces, next_message, due_message};
@@ -22,7 +22,7 @@ use noise_handshake::laws::{accepted_once, refused_once, written_is_accepted, wr
 
 /// Two payloads with one message at one nonce of a writer are equal.
 pub fn transport_message_same()
-    ensures { (r : History) (writer : Role) (interval n : ℕ) (payload other : List ℕ)
+    ensures { (r : SymmetricState) (writer : Role) (interval n : ℕ) (payload other : List ℕ)
         → transport_message r writer interval n payload ≡ transport_message r writer interval n other
         → payload ≡ other }
 {
@@ -98,5 +98,5 @@ pub fn opened_once()
 pub fn sealed_is_opened()
     ensures { (v w : DatagramState) (payload : List ℕ) → AreParties v w
         → unsealed v.role v.one_way v.sent (length payload) ≡ None
-        → OpensInWindow w (datagram v.history v.role v.sent payload) v.sent payload }
+        → OpensInWindow w (datagram v.state v.role v.sent payload) v.sent payload }
 {}

@@ -2,7 +2,7 @@
 
 ghost use Rattle.std.specs.Prelude.{◌≡◌, ◌+◌, ℕ, List, Some, IsSome};
 ghost use Rattle.noise_state.specs.Cipher.{key_in, nonce_in};
-ghost use Rattle.noise_state.specs.History.{rekeyed_times};
+ghost use Rattle.noise_state.specs.Cipher.{rekeyed_times};
 ghost use Rattle.noise_session.specs.Transport.{rekeys};
 ghost use Rattle.noise_session.specs.TransportValue.{rekeyed_if_due};
 

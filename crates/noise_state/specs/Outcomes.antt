@@ -5,7 +5,7 @@ use Rattle.noise_state.specs.declared.symmetric.SymmetricState.{SymmetricState}
 use Rattle.noise_state.specs.declared.cipher.CipherFault.{CipherFault}
 use Rattle.noise_state.specs.declared.cipher.CipherFault.TheVariants.{Exhausted, Tag, Short, TooLong}
 use Rattle.noise_state.specs.Cipher.{HasNonce, EncryptRefused, sealed_len}
-use Rattle.noise_state.specs.Symmetric.{DecryptsAndHashes, ciphertext_now}
+use Rattle.noise_state.specs.Symmetric.{DecryptsAndHashes, ciphertext}
 use Rattle.noise_state.specs.Ciphertexts.{tagged}
 
 -- with a nonce left, no text is refused whose ciphertext has at most 65535 bytes
@@ -18,7 +18,7 @@ encrypts-not s len Tag h left fits = h
 
 -- with a nonce left, no text travels as at most 65535 bytes that are refused
 pub decrypts-not : (s t : SymmetricState) (buf new : List ℕ) (fault : CipherFault) → DecryptsAndHashes s buf (Err fault) t new
-    → HasNonce (is_some s.cipher.key) s.cipher.nonce → length buf ≤ 65535 → (text : List ℕ) → buf ≡ ciphertext_now s text → ⊥
+    → HasNonce (is_some s.cipher.key) s.cipher.nonce → length buf ≤ 65535 → (text : List ℕ) → buf ≡ ciphertext s text → ⊥
 decrypts-not s t buf new Exhausted h left fits text e = omega (arith, h.0.1, left h.0.0)
 decrypts-not s t buf new TooLong h left fits text e = omega (arith, h.0.1)
 decrypts-not s t buf new Tag h left fits text e = h.1 refl text e

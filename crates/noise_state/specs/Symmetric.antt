@@ -33,8 +33,8 @@ mix_key_and_hash s input = record {
 }
 
 -- how a text travels now: as it is without a key, else sealed at the nonce with the hash as associated data
-abbrev pub ciphertext_now : SymmetricState → List ℕ → List ℕ
-ciphertext_now s text = ciphertext_under s.cipher.key s.cipher.nonce s.hash text
+abbrev pub ciphertext : SymmetricState → List ℕ → List ℕ
+ciphertext s text = ciphertext_under s.cipher.key s.cipher.nonce s.hash text
 
 -- the state after EncryptAndHash or DecryptAndHash of a text that travels as these bytes
 abbrev pub after_ciphertext : SymmetricState → List ℕ → SymmetricState
@@ -49,8 +49,8 @@ abbrev pub EncryptsAndHashes : SymmetricState → ℕ → List ℕ → Result �
 EncryptsAndHashes s len buf (Ok n) t new =
     HasNonce (is_some s.cipher.key) s.cipher.nonce
     × (n ≡ sealed_len (is_some s.cipher.key) len) × (n ≤ 65535) × (n ≤ length new)
-    × (take n new ≡ ciphertext_now s (take len buf)) × (drop n new ≡ drop n buf)
-    × (t ≡ after_ciphertext s (ciphertext_now s (take len buf)))
+    × (take n new ≡ ciphertext s (take len buf)) × (drop n new ≡ drop n buf)
+    × (t ≡ after_ciphertext s (ciphertext s (take len buf)))
 EncryptsAndHashes s len buf (Err fault) t new =
     EncryptRefused (is_some s.cipher.key) s.cipher.nonce len fault × (t ≡ s) × (new ≡ buf)
 
@@ -60,13 +60,20 @@ abbrev pub DecryptsAndHashes : SymmetricState → List ℕ → Result ℕ Cipher
 DecryptsAndHashes s buf (Ok n) t new =
     HasNonce (is_some s.cipher.key) s.cipher.nonce × (length buf ≤ 65535)
     × (sealed_len (is_some s.cipher.key) n ≡ length buf) × (n ≤ length new)
-    × (buf ≡ ciphertext_now s (take n new)) × (drop n new ≡ drop n buf)
+    × (buf ≡ ciphertext s (take n new)) × (drop n new ≡ drop n buf)
     × (t ≡ after_ciphertext s buf)
 DecryptsAndHashes s buf (Err fault) t new =
     DecryptRefused (is_some s.cipher.key) s.cipher.nonce (length buf) fault
-    × (fault ≡ Tag → (text : List ℕ) → buf ≡ ciphertext_now s text → ⊥)
+    × (fault ≡ Tag → (text : List ℕ) → buf ≡ ciphertext s text → ⊥)
     × (t ≡ s) × (new ≡ buf)
+
+-- the keys of Split: of the initiator's messages, and of the responder's
+abbrev pub initiator_key : SymmetricState → List ℕ
+initiator_key s = first_output s.chaining_key []
+
+abbrev pub responder_key : SymmetricState → List ℕ
+responder_key s = second_output s.chaining_key []
 
 -- Split: the cipher state of the initiator's messages, and that of the responder's
 abbrev pub split : SymmetricState → CipherState × CipherState
-split s = (cipher_of (Some (first_output s.chaining_key [])) 0, cipher_of (Some (second_output s.chaining_key [])) 0)
+split s = (cipher_of (Some (initiator_key s)) 0, cipher_of (Some (responder_key s)) 0)

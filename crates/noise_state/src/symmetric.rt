@@ -56,7 +56,7 @@ pub struct SymmetricState {
 
 impl SymmetricState {
     ghost use Rattle.noise_state.specs.Symmetric.{initialize, mix_hash, mix_key, mix_key_and_hash, EncryptsAndHashes, DecryptsAndHashes, split};
-    ghost use Rattle.noise_state.specs.Standing.{keyed, hash_now, state_of};
+    ghost use Rattle.noise_state.specs.Standing.{keyed, state_of};
     ghost use Rattle.noise_state.specs.Cipher.{sealed_len};
 
     /// The state of a protocol name, with nothing mixed and no key (InitializeSymmetric).
@@ -191,7 +191,7 @@ impl SymmetricState {
 
     /// The handshake hash (GetHandshakeHash, Noise 11.2).
     pub fn hash(&self) -> [u8; 32]
-        ensures { result ≡ hash_now self.now }
+        ensures { result ≡ self.now.hash }
     {
         self.hash
     }

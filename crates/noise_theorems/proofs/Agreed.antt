@@ -15,10 +15,10 @@ use Rattle.noise_keys.specs.Keys.{KeyPairs}
 
 module _ {K : Type 0} (pairs : K → KeyPairs) where
   pub all-agreed : (p : Plan) (a b : Start) (interval : ℕ) (events : List Event) (duel : DuelValue K K) (report : Report) (last : Sides)
-      → (HaveOneHistory last ⊎ HaveClash p a b last) → (PayloadsAgree interval last ⊎ HaveClash p a b last)
+      → (HaveOneHistory p a b last ⊎ HaveClash p a b last) → (PayloadsAgree interval last ⊎ HaveClash p a b last)
       → (EntriesAgree p interval events (notes_of report.entries.items) (bytes_of report.initiator.items) (bytes_of report.responder.items) last
       ⊎ HaveClash p a b last) → (KeysMeet events (notes_of report.entries.items) duel ⊎ HaveClash p a b last)
-      → HaveAgreed pairs p interval events duel report last ⊎ HaveClash p a b last
+      → HaveAgreed pairs p a b interval events duel report last ⊎ HaveClash p a b last
   all-agreed p a b interval events duel report last (inl one) (inl same) (inl all) (inl keys) =
       inl (record { history = one; payloads = same; entries = all; keys = keys })
   all-agreed p a b interval events duel report last (inr clash) f g h = inr clash

@@ -7,7 +7,7 @@ pub use Rattle.std.specs.Global.{Global}
 pub use Rattle.std.specs.Prelude.{Bool, IsOk, IsSome, IsTrue, MatchOption, Vec, false, if◌then◌else◌, is_some, nat_le, slice_range, true, ◌==◌, IfSome, MatchBool, decimal, nat_lt, not, slice_get, unwrap_or, ⊤, ◌↔◌}
 pub use Rattle.noise_duel.specs.Acts.{roles_and_payloads}
 pub use Rattle.noise_duel.specs.Clash.{ClashFound, FoundIsClash, first_clash}
-pub use Rattle.noise_duel.specs.Conversation.{HaveParts, InTurn, end_after, notes_of_messages, sides_at_start, KeyMaterial, MessagesComeThrough, MessagesLeave, MessagesRun, after_conversation, conversation, frames_by, history_in, in_turn, messages_by, payloads_in, say_events, start_in, transcript, transport_messages_of}
+pub use Rattle.noise_duel.specs.Conversation.{HaveParts, InTurn, end_after, notes_of_messages, sides_at_start, KeyMaterial, MessagesComeThrough, MessagesLeave, MessagesRun, after_conversation, conversation, frames_by, state_after_lines, in_turn, messages_by, payloads_in, say_events, start_in, transcript, transport_messages_of}
 pub use Rattle.noise_duel.specs.Forgery.{ForgedMessage, PrefixOrForgedMessage, contents, in_stream}
 pub use Rattle.noise_duel.specs.Messages.{HandshakeMessage, Start, begun_as, messages_of}
 pub use Rattle.noise_duel.specs.Networks.{HaveOneHistory, HaveSamePsks, HaveClash, PayloadsAgree, PayloadsCome, PsksMakeOne}
@@ -26,10 +26,11 @@ pub use Rattle.noise_session.specs.Ends.{EndMatches, EndState, EndValue, IsRepor
 pub use Rattle.noise_session.specs.Progress.{idle_step, is_open, role_of}
 pub use Rattle.noise_session.specs.Steps.{StepValue, step_value}
 pub use Rattle.noise_session.specs.Taking.{Judges, Takes}
-pub use Rattle.noise_state.specs.History.{Ciphertext, Entry, History, MixHash, MixKey, MixKeyAndHash, and_then, hash, hash_of}
+pub use Rattle.noise_state.specs.declared.symmetric.SymmetricState.{SymmetricState}
+pub use Rattle.noise_state.specs.History.{Ciphertext, Entry, History, MixHash, MixKey, MixKeyAndHash, and_then, hash_of, state_of_history}
 pub use Rattle.noise_theorems.specs.FittingMessages.{bytes_not_received, message_fits, messages_fit_from}
 pub use Rattle.noise_theorems.specs.Payloads.{PayloadsAreReported, done_of, notes_about, own_payloads, payload_given, payload_reported, reported_to, was_written, written_by}
-pub use Rattle.noise_theorems.specs.Setup.{IsReportedFault, XorKeysHaveDhResults, history_of_lines, or_next, start_by}
+pub use Rattle.noise_theorems.specs.Setup.{IsReportedFault, XorKeysHaveDhResults, state_of_lines, or_next, start_by}
 pub use Rattle.noise_handshake.specs.Counterparts.{is_dh, shown_before}
 pub use Rattle.noise_lines.specs.Lines.{line_of, lines_text}
 pub use Rattle.noise_names.specs.Validity.{IsFirstFault, IsValid, is_among, occurs}

@@ -3,7 +3,7 @@ use Rattle.std.proofs.Common.{rules, ◌≡◌, ◌≢◌, ◌≤◌, ◌<◌, �
 use Rattle.std.specs.Int.{w64, to_be_bytes}
 use Rattle.std.proofs.lemmas.Bool.Decides.{eqb_tells}
 use Rattle.std.proofs.lemmas.Nat.{from_be_bytes-to_be_bytes_8}
-use Rattle.noise_theorems.proofs.Common.{Bool, true, false, ◌==◌, false≢true, or_left, or_right, ne_eqb, eq-eqb, Role, Initiator, Responder, other, Plan, Start, History, ForgedMessage, Sides, TransportMessage, ClashFound, FoundIsClash, HaveOneHistory, HaveClash, same_Some, get-front, get-last}
+use Rattle.noise_theorems.proofs.Common.{Bool, true, false, ◌==◌, false≢true, or_left, or_right, ne_eqb, eq-eqb, Role, Initiator, Responder, other, Plan, Start, SymmetricState, ForgedMessage, Sides, TransportMessage, ClashFound, FoundIsClash, HaveOneHistory, HaveClash, same_Some, get-front, get-last, History}
 use Rattle.noise_session.specs.Transport.{transport_message, last_nonce}
 use Rattle.noise_session.specs.Windows.{is_accepted}
 use Rattle.noise_session.specs.Datagrams.{DatagramState, Opens, accepting, datagram, nonce_named, unsealed}
@@ -75,7 +75,7 @@ data OneStep : Role → DatagramSide → DatagramSide → DatagramEvent → Role
       → ((n : ℕ) (bytes : List ℕ) → note ≢ (role, Sealed n bytes)) → ((payload : List ℕ) → note ≢ (role, Payload payload))
       → OneStep role theirs s event note s
   has_sealed : (role : Role) (theirs s : DatagramSide) (payload : List ℕ) → unsealed s.state.role s.state.one_way s.state.sent (length payload) ≡ None
-      → OneStep role theirs s (Seal role payload) (role, Sealed (length s.sealed) (datagram s.state.history s.state.role s.state.sent payload))
+      → OneStep role theirs s (Seal role payload) (role, Sealed (length s.sealed) (datagram s.state.state s.state.role s.state.sent payload))
       (sealing s payload)
   has_opened : (role : Role) (theirs s : DatagramSide) (event : DatagramEvent) (bytes payload : List ℕ) → Came role theirs event bytes
       → is_accepted s.state.accepted (nonce_named bytes) ≡ false → OneStep role theirs s event (role, Payload payload) (opening s bytes payload)
@@ -129,7 +129,7 @@ numbered-step : (role : Role) (theirs s : DatagramSide) (event : DatagramEvent) 
     → OneStep role theirs s event note t → Numbered s → Numbered t
 numbered-step role theirs s event note t (stays _ _ _ _ _ _ _) h = h
 numbered-step role theirs s event note t (has_sealed _ _ _ payload e) h =
-    let m : NonceMessage = at_nonce s.state.sent (transport_message s.state.history s.state.role 0 s.state.sent payload) payload in
+    let m : NonceMessage = at_nonce s.state.sent (transport_message s.state.state s.state.role 0 s.state.sent payload) payload in
     let low = low-nonce s.state.role s.state.one_way s.state.sent (length payload) e in
     let long = length-append s.sealed (m ∷ []) in
     let before = h.sending in
@@ -147,7 +147,7 @@ numbered-step role theirs s event note t (has_opened _ _ _ _ bytes payload came 
 unchanged-step : (role : Role) (theirs s : DatagramSide) (event : DatagramEvent) (note : Role × DatagramNote) (t : DatagramSide)
     → OneStep role theirs s event note t → (n : ℕ) (m : NonceMessage) → slice_get s.sealed n ≡ Some m → slice_get t.sealed n ≡ Some m
 unchanged-step role theirs s event note t (has_sealed _ _ _ payload _) n m e =
-    get-front s.sealed (at_nonce s.state.sent (transport_message s.state.history s.state.role 0 s.state.sent payload) payload ∷ []) n m e
+    get-front s.sealed (at_nonce s.state.sent (transport_message s.state.state s.state.role 0 s.state.sent payload) payload ∷ []) n m e
 unchanged-step role theirs s event note t _ n m e = e
 
 -- a nonce that was opened, with its message
@@ -209,7 +209,7 @@ sealed-now : (role : Role) (theirs s : DatagramSide) (event : DatagramEvent) (no
     → OneStep role theirs s event note t → (n : ℕ) (bytes : List ℕ) → note ≡ (role, Sealed n bytes) → SealedAs role t (Some event) n bytes
 sealed-now role theirs s event note t (stays _ _ _ _ _ never _) n bytes e = absurd (never n bytes e)
 sealed-now role theirs s event note t (has_sealed _ _ _ payload _) n bytes e =
-    let m : NonceMessage = at_nonce s.state.sent (transport_message s.state.history s.state.role 0 s.state.sent payload) payload in
+    let m : NonceMessage = at_nonce s.state.sent (transport_message s.state.state s.state.role 0 s.state.sent payload) payload in
     let same = number-same (length s.sealed) n (datagram_bytes m) bytes (ap (λ (z : Role × DatagramNote). z.1) e) in
     record {
       message = m;
@@ -424,7 +424,7 @@ datagrams-are-reported v w events notes last b run = (
 
 -- ---- one direction
 
-counted-of : (r : History) (writer : Role) (n k : ℕ) (ms : List NonceMessage) (m : NonceMessage) → AreCounted r writer n ms → slice_get ms k ≡ Some m
+counted-of : (r : SymmetricState) (writer : Role) (n k : ℕ) (ms : List NonceMessage) (m : NonceMessage) → AreCounted r writer n ms → slice_get ms k ≡ Some m
     → of_nonce ms (n + k) ≡ Some m.message
 counted-of r writer n k [] m h e = cc
 counted-of r writer n zero (x ∷ ms) m h e =
@@ -435,7 +435,7 @@ counted-of r writer n (suc k) (x ∷ ms) m h e =
     let step : n + suc k ≡ (n + 1) + k = omega arith in
     later-of x ms (n + suc k) apart ∙ ap (of_nonce ms) step ∙ counted-of r writer (n + 1) k ms m h.2 e
 
-at-nonce : (r : History) (writer : Role) (ms : List NonceMessage) (n : ℕ) (m : TransportMessage) → AreAtNonces r writer ms → of_nonce ms n ≡ Some m
+at-nonce : (r : SymmetricState) (writer : Role) (ms : List NonceMessage) (n : ℕ) (m : TransportMessage) → AreAtNonces r writer ms → of_nonce ms n ≡ Some m
     → m.message ≡ transport_message r writer 0 n m.payload
 at-nonce r writer [] n m h e = cc
 at-nonce r writer (x ∷ ms) n m h e = elim (eqb_tells x.nonce n) [
@@ -444,7 +444,7 @@ at-nonce r writer (x ∷ ms) n m h e = elim (eqb_tells x.nonce n) [
   | inr y ↦ at-nonce r writer ms n m h.1 (sym (later-of x ms n y.1) ∙ e)
 ]
 
-module _ (r : History) (writer : Role) (d last : DatagramSides) (events : List DatagramEvent) (notes : List (Role × DatagramNote))
+module _ (r : SymmetricState) (writer : Role) (d last : DatagramSides) (events : List DatagramEvent) (notes : List (Role × DatagramNote))
     (run : DatagramRun d events notes last) (reads : Numbered (party d (other (other writer)))) (empty : (party d writer).sealed ≡ [])
     (back : party last (other (other writer)) ≡ party last writer)
     (counted : AreCounted r writer 0 (party last writer).sealed) (placed : AreAtNonces r writer (party last (other writer)).opened)
@@ -511,8 +511,8 @@ module _ (agree : DatagramRunsAgree) where
 -- ---- with equal hashes
 
 -- what follows of one history, or the position of a clash
-pub or-clash : {A : Type 0} → FoundIsClash → ClashFound → (p : Plan) (a b : Start) (d : Sides) → (HaveOneHistory d → A)
-    → HaveOneHistory d ⊎ HaveClash p a b d → A ⊎ HistoriesClash p a b d
+pub or-clash : {A : Type 0} → FoundIsClash → ClashFound → (p : Plan) (a b : Start) (d : Sides) → (HaveOneHistory p a b d → A)
+    → HaveOneHistory p a b d ⊎ HaveClash p a b d → A ⊎ HistoriesClash p a b d
 or-clash matches first p a b d one (inl same) = inl (one same)
 or-clash matches first p a b d one (inr (i, c)) =
     let r : History = history_of p Initiator a d.initiator.passed in

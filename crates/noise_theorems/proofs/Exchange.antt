@@ -4,7 +4,7 @@ use Rattle.std.specs.Prelude.{Option, Some}
 use Rattle.std.proofs.lemmas.Bool.Decides.{nat_tests}
 use Rattle.std.proofs.lemmas.List.{length-map, length_push, take-append-drop}
 use Rattle.noise_theorems.proofs.Common.{⊤, Bool, true, false, nat_lt, MatchBool, slice_get, unwrap_or, Role, Initiator, Responder, Plan, KeyMaterial, InTurn, after_conversation, conversation, frames_by, in_turn, notes_of_messages, transport_messages_of, payloads_in, start_in, transcript, HandshakeMessage, messages_of, Sides, note_line, exchange_lines, payload_line, wrote_line}
-use Rattle.noise_state.specs.History.{History}
+use Rattle.noise_state.specs.declared.symmetric.SymmetricState.{SymmetricState}
 use Rattle.noise_session.specs.Frames.{frame}
 
 -- ---- each message has the writer of its line
@@ -21,7 +21,7 @@ same-append [] ys (m ∷ ms) ns f g = absurd f
 same-append (x ∷ xs) ys [] ns f g = absurd f
 same-append (x ∷ xs) ys (m ∷ ms) ns f g = (f.0, same-append xs ys ms ns f.1 g)
 
-same-transport_messages : (r : History) (interval i j : ℕ) (lines : List (Role × List ℕ)) → SameWriters lines (transport_messages_of r interval i j lines)
+same-transport_messages : (r : SymmetricState) (interval i j : ℕ) (lines : List (Role × List ℕ)) → SameWriters lines (transport_messages_of r interval i j lines)
 same-transport_messages r interval i j [] = tt
 same-transport_messages r interval i j ((Initiator, payload) ∷ lines) = (refl, same-transport_messages r interval (i + 1) j lines)
 same-transport_messages r interval i j ((Responder, payload) ∷ lines) = (refl, same-transport_messages r interval i (j + 1) lines)
@@ -47,7 +47,7 @@ same-turns p n (suc k) (x ∷ lines) (m ∷ ms) e h l =
     let rest : length ms ≡ length (take k lines) = omega (arith, l) in
     (sym fits.0, same-turns p (n + 1) k lines ms more h.1 rest)
 
-many-messages : (w : KeyMaterial) (p : Plan) (n : ℕ) (psks : List (List ℕ)) (r : History) (payloads : List (List ℕ))
+many-messages : (w : KeyMaterial) (p : Plan) (n : ℕ) (psks : List (List ℕ)) (r : SymmetricState) (payloads : List (List ℕ))
     → length (conversation w p n psks r payloads) ≡ length payloads
 many-messages w p n psks r [] = refl
 many-messages w p n psks r (payload ∷ payloads) = ap suc (many-messages w p (n + 1) _ _ payloads)
@@ -57,7 +57,7 @@ pub same-writers : (w : KeyMaterial) (p : Plan) (prologue : List ℕ) (interval 
 same-writers w p prologue interval lines h =
     let k : ℕ = length p.messages in
     let ms : List HandshakeMessage = conversation w p 0 w.psks (start_in w p prologue) (payloads_in k lines) in
-    let last : History = after_conversation w p 0 w.psks (start_in w p prologue) (payloads_in k lines) in
+    let last : SymmetricState = after_conversation w p 0 w.psks (start_in w p prologue) (payloads_in k lines) in
     let many : length (messages_of ms) ≡ length (take k lines) =
     length-map ms (λ (m : HandshakeMessage). m.message)
     ∙ many-messages w p 0 w.psks (start_in w p prologue) (payloads_in k lines)

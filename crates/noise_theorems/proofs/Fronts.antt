@@ -2,7 +2,7 @@
 use Rattle.std.proofs.Common.{rules, ◌≡◌, ℕ, ◌+◌, List, ◌∷◌, ◌++◌, length, map, take, drop, refl, ap, sym, subst, ◌∙◌, arith, inl, inr, append_assoc, length-append, Option, Some, None, []}
 use Rattle.std.proofs.Math.Seq.{take-append-add}
 use Rattle.std.specs.Prelude.{suc, slice_get, option_map}
-use Rattle.noise_theorems.proofs.Common.{length-map, slice_get-map, Bool, true, false, if◌then◌else◌, ◌==◌, Role, Initiator, Responder, other, same_role, turn_from, Plan, Own, History, hash, EndState, PhaseMatches, session_hash, ForgedMessage, PrefixOrForgedMessage, contents, in_stream, HandshakeMessage, HaveOneHistory, PayloadsAgree, PayloadsCome, PsksMakeOne, Note, Side, TransportMessage, own_payloads, reported_to, written_by, eqb-true}
+use Rattle.noise_theorems.proofs.Common.{length-map, slice_get-map, Bool, true, false, if◌then◌else◌, ◌==◌, Role, Initiator, Responder, other, same_role, turn_from, Plan, SymmetricState, EndState, PhaseMatches, session_hash, ForgedMessage, PrefixOrForgedMessage, contents, in_stream, HandshakeMessage, HaveOneHistory, PayloadsAgree, PayloadsCome, PsksMakeOne, Note, Side, TransportMessage, own_payloads, reported_to, written_by, eqb-true}
 use Rattle.noise_session.specs.declared.phase.Phase.{Phase}
 use Rattle.noise_session.specs.Frames.{frame}
 use Rattle.noise_session.specs.Transport.{transport_message, transport_key}
@@ -80,7 +80,7 @@ frame-after mine sent frames h n bytes e same is =
 abbrev with_message : List ℕ → List ℕ → TransportMessage
 with_message message payload = record { message = message; payload = payload }
 
-module _ (r : History) (writer : Role) (interval opening : ℕ) (frames mine own written : List (List ℕ)) (notes : List (Role × Note))
+module _ (r : SymmetricState) (writer : Role) (interval opening : ℕ) (frames mine own written : List (List ℕ)) (notes : List (Role × Note))
     (sent received : List TransportMessage) where
   front-or-forged : frames ≡ map frame (mine ++ map (λ (m : TransportMessage). m.message) sent) → opening ≡ length mine → opening ≡ length own
       → written ≡ own ++ contents sent → reported_to (other writer) notes ≡ own ++ contents received → PrefixOrForgedMessage r writer interval sent received
@@ -130,7 +130,7 @@ module _ (r : History) (writer : Role) (interval opening : ℕ) (frames mine own
 hashed : (v : EndState) (h : List ℕ) → session_hash v ≡ Some h → v.party.passed ≡ length v.party.pattern.messages
 hashed v h e = by (v.party.passed == length v.party.pattern.messages) refl e
   where
-    by : (b : Bool) → (v.party.passed == length v.party.pattern.messages) ≡ b → (if b then Some (hash v.party.history) else None) ≡ Some h
+    by : (b : Bool) → (v.party.passed == length v.party.pattern.messages) ≡ b → (if b then Some v.party.state.hash else None) ≡ Some h
         → v.party.passed ≡ length v.party.pattern.messages
     by true f g = eqb-true v.party.passed (length v.party.pattern.messages) f
     by false f g = absurd (cc)
@@ -149,7 +149,7 @@ module _ (framed : EndsFrame) (one : PsksMakeOne) (come : PayloadsCome) where
         ]
       ]
     where
-      entries : HaveOneHistory d → PayloadsAgree interval d
+      entries : HaveOneHistory p a b d → PayloadsAgree interval d
           → EntriesAgree p interval events notes d.initiator.frames d.responder.frames d
       entries history agree =
           let k = ends-unchanged p a b interval interval events notes d run in
@@ -160,7 +160,7 @@ module _ (framed : EndsFrame) (one : PsksMakeOne) (come : PayloadsCome) where
           let all : length ps ≡ length p.messages = all-passed p Initiator d.initiator hashes.hash k.0 hashes.initiator in
           let also : length qs ≡ length p.messages = all-passed p Responder d.responder hashes.hash k.1 hashes.responder in
           record {
-            there = front-or-forged d.initiator.state.party.history Initiator interval (turns_of Initiator (length p.messages)) d.initiator.frames
+            there = front-or-forged d.initiator.state.party.state Initiator interval (turns_of Initiator (length p.messages)) d.initiator.frames
                 (own_messages Initiator 0 ps) (own_payloads Initiator 0 ps) (written_by Initiator events notes) notes
                 d.initiator.sent d.responder.received
                 (f.0 ∙ ap (λ (r : Role). map frame (own_messages r 0 ps ++ map (λ (m : TransportMessage). m.message) d.initiator.sent)) k.0.role_is)
@@ -168,27 +168,27 @@ module _ (framed : EndsFrame) (one : PsksMakeOne) (come : PayloadsCome) where
                 t.0.written
                 (t.1.reported ∙ ap (λ (ms : List HandshakeMessage). own_payloads Initiator 0 ms ++ contents d.responder.received) (sym history.passed))
                 agree.there;
-            back = front-or-forged d.initiator.state.party.history Responder interval (turns_of Responder (length p.messages)) d.responder.frames
+            back = front-or-forged d.initiator.state.party.state Responder interval (turns_of Responder (length p.messages)) d.responder.frames
                 (own_messages Responder 0 qs) (own_payloads Responder 0 qs) (written_by Responder events notes) notes
                 d.responder.sent d.initiator.received
                 (f.1 ∙ ap (λ (r : Role). map frame (own_messages r 0 qs ++ map (λ (m : TransportMessage). m.message) d.responder.sent)) k.1.role_is)
                 (own-count Responder qs (length p.messages) also ∙ sym (own-as-many Responder 0 qs)) (own-count Responder qs (length p.messages) also)
                 t.1.written
                 (t.0.reported ∙ ap (λ (ms : List HandshakeMessage). own_payloads Responder 0 ms ++ contents d.initiator.received) history.passed)
-                (let P : History → Type 0 = λ r. PrefixOrForgedMessage r Responder interval d.responder.sent d.initiator.received in
-                subst P (sym history.history) agree.back);
+                (let P : SymmetricState → Type 0 = λ r. PrefixOrForgedMessage r Responder interval d.responder.sent d.initiator.received in
+                subst P (sym history.state) agree.back);
           }
 
 -- ---- keys
 
 module _ {K : Type 0} (pairs : K → KeyPairs) where
   sending-key : (x : Phase K) (v : EndState) (k : List ℕ) → PhaseMatches pairs x v → send_key_in x ≡ Some k
-      → k ≡ transport_key v.party.history v.party.role v.interval v.sent
+      → k ≡ transport_key v.party.state v.party.role v.interval v.sent
   sending-key (phase.Open t) v k s e = let is = s.transport.sender.key in cc
   sending-key _ v k s e = absurd (cc)
 
   receiving-key : (x : Phase K) (v : EndState) (k : List ℕ) → PhaseMatches pairs x v → receive_key_in x ≡ Some k
-      → k ≡ transport_key v.party.history (other v.party.role) v.interval v.received
+      → k ≡ transport_key v.party.state (other v.party.role) v.interval v.received
   receiving-key (phase.Open t) v k s e = let is = s.transport.receiver.key in cc
   receiving-key _ v k s e = absurd (cc)
 
@@ -197,9 +197,9 @@ as-many : (own written reported : List (List ℕ)) (sent received : List Transpo
     → reported ≡ own ++ contents received → length reported ≡ length written → n ≡ length sent → m ≡ length received → m ≡ n
 as-many own written reported sent received n m w t e f g = search (rules, length-append, length-map)
 
-keys-same : (v w : EndState) (k l : List ℕ) → k ≡ transport_key v.party.history v.party.role v.interval v.sent
-    → l ≡ transport_key w.party.history (other w.party.role) w.interval w.received
-    → w.party.history ≡ v.party.history → other w.party.role ≡ v.party.role → w.interval ≡ v.interval → w.received ≡ v.sent → l ≡ k
+keys-same : (v w : EndState) (k l : List ℕ) → k ≡ transport_key v.party.state v.party.role v.interval v.sent
+    → l ≡ transport_key w.party.state (other w.party.role) w.interval w.received
+    → w.party.state ≡ v.party.state → other w.party.role ≡ v.party.role → w.interval ≡ v.interval → w.received ≡ v.sent → l ≡ k
 keys-same v w k l e f history role interval count = cc
 
 module _ {A B : Type 0} (pairs_a : A → KeyPairs)
@@ -211,7 +211,7 @@ module _ {A B : Type 0} (pairs_a : A → KeyPairs)
         | inl history ↦ inl (keys history)
       ]
     where
-      keys : HaveOneHistory d → KeysMeet events notes duel
+      keys : HaveOneHistory p a b d → KeysMeet events notes duel
       keys history =
           let n = ends-unchanged p a b interval interval events notes d run in
           let t = payloads-are-reported p a b interval interval events notes d run in
@@ -221,7 +221,7 @@ module _ {A B : Type 0} (pairs_a : A → KeyPairs)
             there = λ e k l f g. keys-same d.initiator.state d.responder.state k l
                 (sending-key pairs_a duel.initiator.phase d.initiator.state k matches.initiator.phase f)
                 (receiving-key pairs_b duel.responder.phase d.responder.state l matches.responder.phase g)
-                (sym history.history) (ap other n.1.role_is ∙ sym n.0.role_is) same
+                (sym history.state) (ap other n.1.role_is ∙ sym n.0.role_is) same
                 (as-many (own_payloads Initiator 0 d.initiator.passed) (written_by Initiator events notes) (reported_to Responder notes)
                 d.initiator.sent d.responder.received d.initiator.state.sent d.responder.state.received t.0.written
                 (t.1.reported ∙ ap (λ (ms : List HandshakeMessage). own_payloads Initiator 0 ms ++ contents d.responder.received) (sym history.passed))
@@ -229,7 +229,7 @@ module _ {A B : Type 0} (pairs_a : A → KeyPairs)
             back = λ e k l f g. keys-same d.responder.state d.initiator.state k l
                 (sending-key pairs_b duel.responder.phase d.responder.state k matches.responder.phase f)
                 (receiving-key pairs_a duel.initiator.phase d.initiator.state l matches.initiator.phase g)
-                history.history (ap other n.0.role_is ∙ sym n.1.role_is) (sym same)
+                history.state (ap other n.0.role_is ∙ sym n.1.role_is) (sym same)
                 (as-many (own_payloads Responder 0 d.responder.passed) (written_by Responder events notes) (reported_to Initiator notes)
                 d.responder.sent d.initiator.received d.responder.state.sent d.initiator.state.received t.1.written
                 (t.0.reported ∙ ap (λ (ms : List HandshakeMessage). own_payloads Responder 0 ms ++ contents d.initiator.received) history.passed)

@@ -69,20 +69,20 @@ coming-more v x y bytes others ps qs (comes _ z _ m p rest more listens short j 
 
 -- ---- what is written is to come
 
-record HasSent (s next : Side) (payload : List ℕ) : Type 0 where
+record HasSent (s : Side) (payload : List ℕ) (next : Side) : Type 0 where
   pub bytes : List ℕ
   pub sends : Sends s.state payload (Ok bytes) next.state
   pub frames : next.frames ≡ s.frames ++ bytes ∷ []
   pub pattern : next.state.party.pattern ≡ s.state.party.pattern
 
-sent : (s next : Side) (payload : List ℕ) (n : ℕ) → SideWrites s payload (Wrote n) next → HasSent s next payload
-sent s next payload n (writes_handshake _ message _ xs due writes) = record {
+sent : (s : Side) (payload : List ℕ) (next : Side) (n : ℕ) → SideWrites s payload (Wrote n) next → HasSent s payload next
+sent s payload next n (writes_handshake _ message _ xs due writes) = record {
   bytes = frame message;
   sends = sends_handshake s.state payload message xs due writes;
   frames = refl;
   pattern = refl;
 }
-sent s next payload n (writes_transport _ message _ due opens is) = record {
+sent s payload next n (writes_transport _ message _ due opens is) = record {
   bytes = frame message;
   sends = subst (λ (m : List ℕ). Sends s.state payload (Ok (frame m)) (record (s.state) { sent = s.state.sent + 1 })) (sym is)
       (sends_transport s.state payload due opens);
@@ -143,7 +143,7 @@ to-come law s last v payloads valid c (writes_no_more _) = record {
   ends = c;
 }
 to-come law s last v payloads valid c (writes_on _ next _ payload n more here on) =
-    let w = sent s next payload n here in
+    let w = sent s payload next n here in
     let t = law s.state v next.state payload w.bytes valid c w.sends in
     let first = taken-comes v t.0 w.bytes payload (length w.bytes) (Payload payload) refl refl c.partial_there t.1 in
     let r = to-come law next last t.0 more (subst IsValid (sym w.pattern) valid) t.2 on in

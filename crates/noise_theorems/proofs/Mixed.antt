@@ -2,10 +2,10 @@
 use Rattle.std.proofs.Common.{rules, ◌≡◌, ◌<◌, ℕ, List, ◌∷◌, ◌++◌, length, reverse, refl, ap, sym, subst, ◌∙◌, inl, inr, Option, Some, get_or, []}
 use Rattle.std.specs.Option.{option_map}
 use Rattle.std.specs.Prelude.{slice_get}
-use Rattle.noise_theorems.proofs.Common.{map-append, reverse-append, same_Some, slice_get-map, slice_get_cases, slice_get_read, Global, Vec, History, Entry, MixHash, Ciphertext, MixKey, MixKeyAndHash, and_then, hash, hash_of, FoundIsClash, first_clash, bytes_of}
+use Rattle.noise_theorems.proofs.Common.{map-append, reverse-append, same_Some, slice_get-map, slice_get_cases, slice_get_read, Global, Vec, History, Entry, MixHash, Ciphertext, MixKey, MixKeyAndHash, state_of_history, hash_of, FoundIsClash, first_clash, bytes_of}
 use Rattle.sha2.specs.Sha256.{sha256}
+use Rattle.noise_state.specs.Symmetric.{mix_hash}
 use Rattle.noise_state.specs.declared.symmetric.SymmetricState.{SymmetricState}
-use Rattle.noise_state.specs.Standing.{StateMatches}
 use Rattle.noise_duel.specs.Clash.{clash_position}
 use Rattle.noise_duel.specs.HashedTexts.{hash_texts, hash_texts_of, hashed, hashed_of}
 use Rattle.noise_theorems.specs.declared.clash.HashClash.{HashClash}
@@ -45,19 +45,19 @@ has-mixed name xs = record { named = refl; mixed = hashed-mixing name (reverse x
 
 -- After these pieces the state and the texts are those of the history that mixed them.
 pub record Mixes (name : List ℕ) (pieces : List (Vec ℕ Global)) (state : SymmetricState) (texts : List (Vec ℕ Global)) : Type 0 where
-  pub matches : StateMatches state (mixing name (reverse (bytes_of pieces)))
+  pub matches : state ≡ state_of_history (mixing name (reverse (bytes_of pieces)))
   pub texts_are : bytes_of texts ≡ hash_texts (mixing name (reverse (bytes_of pieces)))
 
 pub mixes-more : (name : List ℕ) (pieces texts : List (Vec ℕ Global)) (piece text : Vec ℕ Global) (old new : SymmetricState) (h : List ℕ)
-    → Mixes name pieces old texts → h ≡ hash (mixing name (reverse (bytes_of pieces))) → text.items ≡ h ++ piece.items
-    → StateMatches new (and_then (mixing name (reverse (bytes_of pieces))) (MixHash piece.items))
+    → Mixes name pieces old texts → h ≡ (state_of_history (mixing name (reverse (bytes_of pieces)))).hash → text.items ≡ h ++ piece.items
+    → new ≡ mix_hash (state_of_history (mixing name (reverse (bytes_of pieces)))) piece.items
     → Mixes name (pieces ++ piece ∷ []) new (texts ++ text ∷ [])
 mixes-more name pieces texts piece text old new h mixes is-hash is-text matches =
     let items : Vec ℕ Global → List ℕ = λ f. f.items in
     let more : reverse (bytes_of (pieces ++ piece ∷ [])) ≡ piece.items ∷ reverse (bytes_of pieces) =
     ap (λ (xs : List (List ℕ)). reverse xs) (map-append items pieces (piece ∷ [])) ∙ reverse-append (bytes_of pieces) (piece.items ∷ []) in
     record {
-      matches = subst (λ (xs : List (List ℕ)). StateMatches new (mixing name xs)) (sym more) matches;
+      matches = subst (λ (xs : List (List ℕ)). new ≡ state_of_history (mixing name xs)) (sym more) matches;
       texts_are =
           map-append items texts (text ∷ [])
           ∙ ap (λ (ts : List (List ℕ)). ts ++ text.items ∷ []) mixes.texts_are

@@ -2,7 +2,7 @@
 use Rattle.std.proofs.Common.{◌≡◌, ◌∙◌, refl, ap, ap₂, sym, ℕ, ◌==◌, min, List, [], ◌∷◌, codes, length, drop, arith}
 use Rattle.std.proofs.lemmas.Bool.Decides.{nat_tests}
 use Rattle.noise_theorems.proofs.Common.{Bool, true, false, not, nat_lt, decimal, if◌then◌else◌, Role, Initiator, Responder, Plan, is_one_way, other, end_after, messages_by, Start, Sides, role_word, line_of, progress_words, state_line, state_lines, reached_line}
-use Rattle.noise_state.specs.History.{History, hash}
+use Rattle.noise_state.specs.declared.symmetric.SymmetricState.{SymmetricState}
 use Rattle.noise_session.specs.Ends.{EndState}
 use Rattle.noise_session.specs.Progress.Progress.{Handshaking, Open, HasEnded}
 use Rattle.noise_vectors.specs.HexWord.{hex_of}
@@ -16,7 +16,7 @@ record IsThere (p : Plan) (lines : List (Role × List ℕ)) (h : List ℕ) (role
   passed : v.party.passed ≡ min (length p.messages) (length lines)
   sent : v.sent ≡ messages_by role (drop (length p.messages) lines)
   received : v.received ≡ messages_by (other role) (drop (length p.messages) lines)
-  hash_is : hash v.party.history ≡ h
+  hash_is : v.party.state.hash ≡ h
 
 abbrev transport_words : ℕ → ℕ → List ℕ → List (List ℕ)
 transport_words sent received h = codes "transport" ∷ decimal sent ∷ decimal received ∷ hex_of h ∷ []
@@ -50,25 +50,25 @@ line-there p lines h role v is =
     let all : Bool = v.party.passed == length v.party.pattern.messages in
     let same : all ≡ (v.party.passed == k) = ap (λ (q : Plan). v.party.passed == length q.messages) is.pattern in
     let less : nat_lt n k ≡ not all = less-than-all n k v.party.passed is.passed ∙ ap not (sym same) in
-    let T : List (List ℕ) = transport_words v.sent v.received (hash v.party.history) in
+    let T : List (List ℕ) = transport_words v.sent v.received v.party.state.hash in
     let U : List (List ℕ) = transport_words (messages_by role (drop k lines)) (messages_by (other role) (drop k lines)) h in
     let sent : T ≡ U =
-    ap₂ (λ (i j : ℕ). transport_words i j (hash v.party.history)) is.sent is.received
+    ap₂ (λ (i j : ℕ). transport_words i j v.party.state.hash) is.sent is.received
     ∙ ap (λ (x : List ℕ). transport_words (messages_by role (drop k lines)) (messages_by (other role) (drop k lines)) x) is.hash_is in
     ap (λ (ws : List (List ℕ)). line_of (codes "state" ∷ role_word role ∷ ws))
-    (going-words v.party.ended all (is_one_way v.party.pattern) v.party.pattern v.party.role v.party.passed v.sent v.received (hash v.party.history) is.going
+    (going-words v.party.ended all (is_one_way v.party.pattern) v.party.pattern v.party.role v.party.passed v.sent v.received v.party.state.hash is.going
     ∙ either (nat_lt n k) all T U (handshake_words v.party.passed) (handshake_words n) less sent
     (λ (e : all ≡ false). ap handshake_words (all-of-them n k v.party.passed is.passed (sym same ∙ e))))
 
 -- ---- both ends
 
-module _ (p : Plan) (a b : Start) (interval : ℕ) (r : History) (lines : List (Role × List ℕ)) (d : Sides)
+module _ (p : Plan) (a b : Start) (interval : ℕ) (r : SymmetricState) (lines : List (Role × List ℕ)) (d : Sides)
     (there : d.initiator.state ≡ end_after p Initiator a b interval r lines) (back : d.responder.state ≡ end_after p Responder b a interval r lines) where
-  is-there : (role : Role) (s theirs : Start) → IsThere p lines (hash r) role (end_after p role s theirs interval r lines)
+  is-there : (role : Role) (s theirs : Start) → IsThere p lines r.hash role (end_after p role s theirs interval r lines)
   is-there role s theirs = record { going = refl; pattern = refl; passed = refl; sent = refl; received = refl; hash_is = refl }
 
-  pub both-there : state_lines d ≡ reached_line p lines (hash r) Initiator ∷ reached_line p lines (hash r) Responder ∷ []
+  pub both-there : state_lines d ≡ reached_line p lines r.hash Initiator ∷ reached_line p lines r.hash Responder ∷ []
   both-there =
       ap₂ (λ (x y : List ℕ). x ∷ y ∷ [])
-      (ap (state_line Initiator) there ∙ line-there p lines (hash r) Initiator (end_after p Initiator a b interval r lines) (is-there Initiator a b))
-      (ap (state_line Responder) back ∙ line-there p lines (hash r) Responder (end_after p Responder b a interval r lines) (is-there Responder b a))
+      (ap (state_line Initiator) there ∙ line-there p lines r.hash Initiator (end_after p Initiator a b interval r lines) (is-there Initiator a b))
+      (ap (state_line Responder) back ∙ line-there p lines r.hash Responder (end_after p Responder b a interval r lines) (is-there Responder b a))

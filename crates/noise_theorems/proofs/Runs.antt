@@ -1,6 +1,6 @@
 -- The run of a file whose lines fit.
 use Rattle.std.proofs.Common.{◌≡◌, ◌∙◌, refl, ap, sym, subst, ℕ, List, [], ◌++◌, length, map, Option, None}
-use Rattle.noise_theorems.proofs.Common.{true, is_some, Role, Initiator, Responder, Plan, places_of, IsValid, is_among, occurs, is_dh, public_keys, setup_fault, token_of, Event, HaveParts, KeyMaterial, MessagesComeThrough, MessagesLeave, MessagesRun, history_in, transcript, Start, Sides, VectorFile, sides_of_file, file_start, note_line, state_lines, AreLast, HasFittingMessages, FittingMessagesRun, exchange_lines}
+use Rattle.noise_theorems.proofs.Common.{true, is_some, Role, Initiator, Responder, Plan, places_of, IsValid, is_among, occurs, is_dh, public_keys, setup_fault, token_of, Event, HaveParts, KeyMaterial, MessagesComeThrough, MessagesLeave, MessagesRun, state_after_lines, transcript, Start, Sides, VectorFile, sides_of_file, file_start, note_line, state_lines, AreLast, HasFittingMessages, FittingMessagesRun, exchange_lines}
 use Rattle.noise_names.specs.declared.token.Token.{Token}
 use Rattle.noise_keys.specs.declared.keys.Own.{Own}
 use Rattle.noise_handshake.specs.RemoteKeys.{remote-own}
@@ -83,7 +83,7 @@ fitting-messages-run laws file p lines fits =
     let exchanged : map (note_line last) notes ≡ exchange_lines 0 0 lines said =
     ap (λ (ns : List (Role × Note)). map (note_line last) ns) come.0
     ∙ noted-lines last 0 0 [] [] lines said (same-writers w p text i lines turns) refl refl (come.1.frames Initiator) (come.1.frames Responder) in
-    let reached = both-there p a b i (history_in w p text lines) lines last left.0 left.1 in
+    let reached = both-there p a b i (state_after_lines w p text lines) lines last left.0 left.1 in
     record {
       plan = p;
       of_file = record { pattern = fits.named; valid = fits.valid; set_up = fits.set_up };

@@ -9,6 +9,7 @@ use Rattle.noise_duel.specs.Conversation.{sides_at_start}
 use Rattle.noise_names.specs.Lists.{bytes_of}
 use Rattle.noise_duel.specs.Entries.{notes_of}
 use Rattle.noise_duel.specs.DuelValue.{DuelValue, DuelMatches}
+use Rattle.noise_duel.specs.Messages.{Start}
 use Rattle.noise_duel.specs.Networks.{HaveOneHash, HaveOneHistory, HaveClash, PayloadsAgree, SharePsks}
 use Rattle.noise_duel.specs.Reports.{Reports}
 use Rattle.noise_duel.specs.Sides.{Sides}
@@ -22,9 +23,9 @@ module _ {K : Type 0} (pairs : K → KeyPairs) where
   -- Two ends have one history after a run; what each accepted is the first of what the other wrote, up to a forged
   -- message, in the run and by the report's own entries and frames; and the ends left hold the keys of the next
   -- messages.
-  pub record HaveAgreed (p : Plan) (interval : ℕ) (events : List Event) (duel : DuelValue K K) (report : Report)
-      (last : Sides) : Type 0 where
-    pub history : HaveOneHistory last
+  pub record HaveAgreed (p : Plan) (a b : Start) (interval : ℕ) (events : List Event) (duel : DuelValue K K)
+      (report : Report) (last : Sides) : Type 0 where
+    pub history : HaveOneHistory p a b last
     pub payloads : PayloadsAgree interval last
     pub entries : EntriesAgree p interval events (notes_of report.entries.items) (bytes_of report.initiator.items)
         (bytes_of report.responder.items) last
@@ -43,7 +44,8 @@ module _ {K : Type 0} (pairs : K → KeyPairs) where
     -- the psks are the same, and the keys' DH results are alike
     pub psks : SharePsks p s.initiator s.responder reports.last
     pub agreed : (hash : List ℕ) → hash_in duel.initiator.phase ≡ Some hash → hash_in duel.responder.phase ≡ Some hash
-        → HaveAgreed p interval events duel report reports.last ⊎ HaveClash p s.initiator s.responder reports.last
+        → HaveAgreed p s.initiator s.responder interval events duel report reports.last
+        ⊎ HaveClash p s.initiator s.responder reports.last
 
   -- What `run_events` returns: the setup has no fault and all this holds; else the fault, or lack of memory.
   abbrev pub RunsOverNetwork : Plan → BothStarts → ℕ → List Event

@@ -5,7 +5,7 @@ use Rattle.noise_names.specs.declared.token.Role.{Role}
 use Rattle.noise_names.specs.declared.token.Role.TheVariants.{Initiator, Responder}
 use Rattle.noise_names.specs.Tokens.{other}
 use Rattle.noise_names.specs.Plan.{Plan}
-use Rattle.noise_state.specs.History.{History}
+use Rattle.noise_state.specs.declared.symmetric.SymmetricState.{SymmetricState}
 use Rattle.noise_session.specs.Transport.{transport_message}
 use Rattle.noise_session.specs.Datagrams.{DatagramState, datagram, datagrams_of, nonce_named}
 use Rattle.noise_session.specs.Ends.{EndState, hash_in}
@@ -76,7 +76,7 @@ DatagramsAreReported =
 
 -- Event i put in a forged datagram: bytes that name nonce n, and hold the message that the writer has there for this
 -- payload, though no entry says that the writer sealed that datagram (Noise 5.2, 12.3).
-pub record ForgedDatagram (r : History) (writer : Role) (events : List DatagramEvent)
+pub record ForgedDatagram (r : SymmetricState) (writer : Role) (events : List DatagramEvent)
     (notes : List (Role × DatagramNote)) (i n : ℕ)
     (payload : List ℕ) : Type 0 where
   pub bytes : List ℕ
@@ -87,7 +87,7 @@ pub record ForgedDatagram (r : History) (writer : Role) (events : List DatagramE
 
 -- In one direction: at most one entry says that a nonce was opened, and its payload is the one that the writer sealed
 -- as its datagram of that number, as an entry says, or the datagram is forged.
-pub record EntriesArrive (r : History) (writer : Role) (events : List DatagramEvent)
+pub record EntriesArrive (r : SymmetricState) (writer : Role) (events : List DatagramEvent)
     (notes : List (Role × DatagramNote)) : Type 0 where
   pub once : (i j n : ℕ) (p q : List ℕ) → OpenedAt events notes i (other writer) n p
       → OpenedAt events notes j (other writer) n q → i ≡ j
@@ -100,7 +100,7 @@ abbrev pub DatagramEntriesAgree : Type 0
 DatagramEntriesAgree =
     (v w : DatagramState) (events : List DatagramEvent) (notes : List (Role × DatagramNote)) (last : DatagramSides)
     → HaveOneBeginning v w → DatagramRun (datagram_sides v w) events notes last
-    → EntriesArrive v.history Initiator events notes × EntriesArrive v.history Responder events notes
+    → EntriesArrive v.state Initiator events notes × EntriesArrive v.state Responder events notes
 
 -- each opens by the key that the other seals by
 pub record DatagramKeysMeet (duel : DatagramDuelValue) : Type 0 where
@@ -121,8 +121,8 @@ pub record DatagramsOverNetwork (v w : DatagramState) (events : List DatagramEve
   pub reports : DatagramReports (datagram_sides v w) events duel report
   pub initiator : IsReportedOfDatagrams Initiator events (datagram_notes_of report.entries.items) reports.last.initiator
   pub responder : IsReportedOfDatagrams Responder events (datagram_notes_of report.entries.items) reports.last.responder
-  pub there : EntriesArrive v.history Initiator events (datagram_notes_of report.entries.items)
-  pub back : EntriesArrive v.history Responder events (datagram_notes_of report.entries.items)
+  pub there : EntriesArrive v.state Initiator events (datagram_notes_of report.entries.items)
+  pub back : EntriesArrive v.state Responder events (datagram_notes_of report.entries.items)
   pub keys : DatagramKeysMeet duel
 
 -- ---- the ends of a duel that go over to datagrams
@@ -142,7 +142,7 @@ module _ {A B : Type 0} (pairs_a : A → KeyPairs)
   OneHistoryAgrees window events duel result =
       (p : Plan) (a b : Start) (i j : ℕ) (opening : List Event) (notes : List (Role × Note)) (d : Sides)
       → Run (sides_at_start p a b i j) opening notes d → DuelMatches pairs_a pairs_b duel d
-      → HaveOneHistory d
+      → HaveOneHistory p a b d
       → IfOk result (λ r. DatagramsOverNetwork (datagrams_of d.initiator.state.party window)
       (datagrams_of d.responder.state.party window) events r.0 r.1)
 

@@ -4,7 +4,7 @@ use Rattle.noise_names.specs.declared.token.Role.{Role}
 use Rattle.noise_names.specs.declared.token.Role.TheVariants.{Initiator, Responder}
 use Rattle.noise_names.specs.Tokens.{other, same_role, turn_from}
 use Rattle.noise_names.specs.Plan.{Plan}
-use Rattle.noise_state.specs.History.{History}
+use Rattle.noise_state.specs.declared.symmetric.SymmetricState.{SymmetricState}
 use Rattle.noise_session.specs.Frames.{frame}
 use Rattle.noise_session.specs.Steps.StepValue.{Payload}
 use Rattle.noise_session.specs.Transport.{transport_message}
@@ -35,7 +35,7 @@ pub record IsPayloadAt (role : Role) (notes : List (Role × Note)) (i place : �
 -- transport message of a nonce, which is the number after the handshake messages of the writer. That message is the
 -- writer's transport message of the payload there, and the writer's frame number i isn't that transport message's, or
 -- there is none (Noise 5.2, 12.3).
-pub record ForgedFrame (r : History) (writer : Role) (interval opening : ℕ) (frames : List (List ℕ))
+pub record ForgedFrame (r : SymmetricState) (writer : Role) (interval opening : ℕ) (frames : List (List ℕ))
     (accepted : List TransportMessage)
     (notes : List (Role × Note)) (i : ℕ) : Type 0 where
   pub payload : List ℕ
@@ -50,7 +50,7 @@ pub record ForgedFrame (r : History) (writer : Role) (interval opening : ℕ) (f
 
 -- the payloads that the other role received are the first of those that the writer wrote, in order, or the first that
 -- isn't came in a forged frame
-abbrev pub PrefixOrForgedFrame : History → Role → ℕ → ℕ → List (List ℕ) → List TransportMessage → List (List ℕ)
+abbrev pub PrefixOrForgedFrame : SymmetricState → Role → ℕ → ℕ → List (List ℕ) → List TransportMessage → List (List ℕ)
     → List (Role × Note) → Type 0
 PrefixOrForgedFrame r writer interval opening frames accepted written notes =
     ((rest : List (List ℕ)) × (written ≡ reported_to (other writer) notes ++ rest))
@@ -58,14 +58,14 @@ PrefixOrForgedFrame r writer interval opening frames accepted written notes =
     × ForgedFrame r writer interval opening frames accepted notes i)
 
 -- In each direction, over all of the session, the handshake too: the frames are those that the two roles wrote, the
--- messages those of the transport that the two ends accepted, the history is the one of both.
+-- messages those of the transport that the two ends accepted, the state is the one of both.
 pub record EntriesAgree (p : Plan) (interval : ℕ) (events : List Event) (notes : List (Role × Note))
     (initiator responder : List (List ℕ))
     (d : Sides) : Type 0 where
-  pub there : PrefixOrForgedFrame d.initiator.state.party.history Initiator interval
+  pub there : PrefixOrForgedFrame d.initiator.state.party.state Initiator interval
       (turns_of Initiator (length p.messages)) initiator d.responder.received
       (written_by Initiator events notes) notes
-  pub back : PrefixOrForgedFrame d.initiator.state.party.history Responder interval
+  pub back : PrefixOrForgedFrame d.initiator.state.party.state Responder interval
       (turns_of Responder (length p.messages)) responder d.initiator.received
       (written_by Responder events notes) notes
 

@@ -6,7 +6,7 @@ use Rattle.noise_names.specs.declared.token.Token.{Token}
 use Rattle.noise_names.specs.Tokens.{other}
 use Rattle.noise_names.specs.Plan.{Plan, places_of}
 use Rattle.noise_names.specs.Validity.{occurs}
-use Rattle.noise_state.specs.History.{History, hash}
+use Rattle.noise_state.specs.declared.symmetric.SymmetricState.{SymmetricState}
 use Rattle.noise_keys.specs.declared.faults.SetupFault.{SetupFault}
 use Rattle.noise_keys.specs.declared.xor_keys.XorKeys.{XorKeys}
 use Rattle.noise_keys.specs.Keys.{key_of, xor_dh_result}
@@ -15,7 +15,7 @@ use Rattle.noise_handshake.specs.Setup.{public_keys, setup_fault}
 use Rattle.noise_handshake.specs.Party.{dh_result_of, own_at, remote_at}
 use Rattle.noise_session.specs.Ends.{EndMatches}
 use Rattle.noise_duel.specs.Messages.{Start}
-use Rattle.noise_duel.specs.Conversation.{end_after, history_in, transcript}
+use Rattle.noise_duel.specs.Conversation.{end_after, state_after_lines, transcript}
 use Rattle.noise_duel.specs.DuelValue.{DuelValue}
 use Rattle.noise_duel.specs.SetUpAlike.{material_of}
 use Rattle.noise_theorems.specs.declared.fault.ConversationFault.{ConversationFault}
@@ -60,24 +60,24 @@ abbrev pub transcript_of : Plan → BothStarts → ℕ → List (Role × List �
 transcript_of p s interval lines =
     transcript (material_of s.initiator s.responder) p s.initiator.prologue interval lines
 
--- the history after those of them that are handshake messages
-abbrev pub history_of_lines : Plan → BothStarts → List (Role × List ℕ) → History
-history_of_lines p s lines = history_in (material_of s.initiator s.responder) p s.initiator.prologue lines
+-- the state after those of them that are handshake messages
+abbrev pub state_of_lines : Plan → BothStarts → List (Role × List ℕ) → SymmetricState
+state_of_lines p s lines = state_after_lines (material_of s.initiator s.responder) p s.initiator.prologue lines
 
 -- the handshake hash (Noise 11.2), if there is a line for each handshake message
 abbrev pub hash_of_messages : Plan → BothStarts → List (Role × List ℕ) → Option (List ℕ)
 hash_of_messages p s lines =
-    if nat_le (length p.messages) (length lines) then Some (hash (history_of_lines p s lines)) else None
+    if nat_le (length p.messages) (length lines) then Some ((state_of_lines p s lines).hash) else None
 
 module _ {K : Type 0} (pairs : K → KeyPairs) where
   -- The two ends are those after the lines: they hold the pattern, the roles, the keys and the psks to come, the
-  -- counts, the interval and the history.
+  -- counts, the interval and the state.
   pub record AreAfter (p : Plan) (s : BothStarts) (interval : ℕ) (lines : List (Role × List ℕ))
       (duel : DuelValue K K) : Type 0 where
     pub initiator : EndMatches pairs duel.initiator
-        (end_after p Initiator s.initiator s.responder interval (history_of_lines p s lines) lines)
+        (end_after p Initiator s.initiator s.responder interval (state_of_lines p s lines) lines)
     pub responder : EndMatches pairs duel.responder
-        (end_after p Responder s.responder s.initiator interval (history_of_lines p s lines) lines)
+        (end_after p Responder s.responder s.initiator interval (state_of_lines p s lines) lines)
 
 -- the first of two faults
 abbrev pub or_next : Option SetupFault → Option SetupFault → Option SetupFault

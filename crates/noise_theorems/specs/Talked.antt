@@ -4,9 +4,8 @@ use Rattle.noise_names.specs.declared.token.Role.{Role}
 use Rattle.noise_names.specs.declared.token.Role.TheVariants.{Initiator, Responder}
 use Rattle.noise_names.specs.Plan.{Plan}
 use Rattle.noise_names.specs.Tokens.{other}
-use Rattle.noise_state.specs.History.{hash}
 use Rattle.noise_session.specs.Frames.{frame}
-use Rattle.noise_duel.specs.Conversation.{KeyMaterial, history_in, messages_by}
+use Rattle.noise_duel.specs.Conversation.{KeyMaterial, state_after_lines, messages_by}
 use Rattle.noise_duel.specs.SetUpAlike.{material_of}
 use Rattle.noise_theorems.specs.Setup.{BothStarts, transcript_of}
 use Rattle.noise_vectors.specs.HexWord.{hex_of}
@@ -55,7 +54,7 @@ material_in file p = material_of (file_start file p Initiator) (file_start file 
 
 -- the hash of the handshake messages that have passed
 abbrev pub hash_after : KeyMaterial → Plan → List ℕ → List (Role × List ℕ) → List ℕ
-hash_after w p prologue lines = hash (history_in w p prologue lines)
+hash_after w p prologue lines = (state_after_lines w p prologue lines).hash
 
 -- All lines that are printed of a file's lines: each message of the transcript, with its payload at the other end, and
 -- then one for each end.

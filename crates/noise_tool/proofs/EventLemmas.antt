@@ -24,7 +24,7 @@ pub record Wrote-only (selection : Selection) (d next : Sides) (role : Role) (pa
   pub w : SideWrites (side d role) payload note after
   pub notes_are : notes ≡ (role, note) ∷ []
   pub next_is : next ≡ with_side d role after
-  pub traces_are : traces ≡ written_trace selection role (side d role) after payload note w ∷ []
+  pub traces_are : traces ≡ written_trace selection role (side d role) payload after note w ∷ []
 
 pub of-write : (selection : Selection) (d next : Sides) (role : Role) (payload : List ℕ) (notes : List (Role × Note)) (h : Happens d (Write role payload) notes next)
     → Wrote-only selection d next role payload notes (happened_traces selection d next (Write role payload) notes h)
@@ -63,7 +63,7 @@ pub record Said-all (selection : Selection) (d next : Sides) (role : Role) (payl
   pub x : SideReceives (side d (other role)) bytes heard reader
   pub notes_are : notes ≡ (role, Wrote number) ∷ noted_by (other role) (heard ++ held_note (length reader.state.partial))
   pub next_is : next ≡ with_side (with_side d role after) (other role) reader
-  pub traces_are : traces ≡ written_trace selection role (side d role) after payload (Wrote number) w
+  pub traces_are : traces ≡ written_trace selection role (side d role) payload after (Wrote number) w
       ∷ came_traces selection (other role) (side d (other role)) reader bytes heard x
 
 pub record Said-none (selection : Selection) (d next : Sides) (role : Role) (payload : List ℕ) (notes : List (Role × Note)) (traces : Traces) : Type 0 where
@@ -72,7 +72,7 @@ pub record Said-none (selection : Selection) (d next : Sides) (role : Role) (pay
   pub w : SideWrites (side d role) payload (WriteFault why) after
   pub notes_are : notes ≡ (role, WriteFault why) ∷ []
   pub next_is : next ≡ with_side d role after
-  pub traces_are : traces ≡ written_trace selection role (side d role) after payload (WriteFault why) w ∷ []
+  pub traces_are : traces ≡ written_trace selection role (side d role) payload after (WriteFault why) w ∷ []
 
 pub of-say : (selection : Selection) (d next : Sides) (role : Role) (payload : List ℕ) (notes : List (Role × Note)) (h : Happens d (Say role payload) notes next)
     → Said-all selection d next role payload notes (happened_traces selection d next (Say role payload) notes h)
@@ -149,13 +149,13 @@ of-missing selection d next role n notes (misses _ _ _ gone) none = (refl, refl)
 
 -- ---- the frame of a write
 
-pub written-frame : (s next last : Side) (payload : List ℕ) (note : Note) (w : SideWrites s payload note next) → last.frames ≡ next.frames
-    → entry_frame last note ≡ written_frame s next payload note w
-written-frame s next last payload note (writes_nothing _ _ why after sends) same = refl
-written-frame s next last payload note (writes_handshake _ message _ xs free w) same =
+pub written-frame : (s : Side) (payload : List ℕ) (next last : Side) (note : Note) (w : SideWrites s payload note next) → last.frames ≡ next.frames
+    → entry_frame last note ≡ written_frame s payload next note w
+written-frame s payload next last note (writes_nothing _ _ why after sends) same = refl
+written-frame s payload next last note (writes_handshake _ message _ xs free w) same =
     ap (λ (fs : List (List ℕ)). unwrap_or (slice_get fs (length s.frames)) []) same
     ∙ ap (λ (o : Option (List ℕ)). unwrap_or o []) (get-last s.frames (frame message))
-written-frame s next last payload note (writes_transport _ message _ free opens is) same =
+written-frame s payload next last note (writes_transport _ message _ free opens is) same =
     ap (λ (fs : List (List ℕ)). unwrap_or (slice_get fs (length s.frames)) []) same
     ∙ ap (λ (o : Option (List ℕ)). unwrap_or o []) (get-last s.frames (frame message))
 
@@ -177,7 +177,7 @@ say-none selection d next role payload notes h none = at (of-say selection d nex
 abbrev Writes-on : Selection → Sides → Sides → Role → Note → Traces → Traces → TracedEnds → TracedEnds → Type 0
 Writes-on selection d last role given old one before between = (next : Side) (payload : List ℕ) (note : Note) (w : SideWrites (side d role) payload note next)
     → EndsTraced before d → (side last role).frames ≡ next.frames → given ≡ note
-    → (one ≡ old ++ written_trace selection role (side d role) next payload note w ∷ []) × EndsTraced between (with_side d role next)
+    → (one ≡ old ++ written_trace selection role (side d role) payload next note w ∷ []) × EndsTraced between (with_side d role next)
 
 -- nothing was written
 pub say-fault : (selection : Selection) (d next : Sides) (role by : Role) (payload : List ℕ) (notes more : List (Role × Note))
@@ -245,7 +245,7 @@ say-frame {E = E} selection d next role by payload notes more h number frame old
         × EndsTraced after (with_side (with_side d role s.after) (other role) reader))) text read in
         on_ok r _ _ (λ both. (
           both.0 ∙ ap (λ (x : Traces). x ++ came_traces selection (other role) (side d (other role)) s.reader s.bytes s.heard s.x) done.0
-              ∙ append_assoc old (written_trace selection role (side d role) s.after payload (Wrote s.number) s.w ∷ [])
+              ∙ append_assoc old (written_trace selection role (side d role) payload s.after (Wrote s.number) s.w ∷ [])
               (came_traces selection (other role) (side d (other role)) s.reader s.bytes s.heard s.x)
               ∙ ap (λ (x : Traces). old ++ x) (sym s.traces_are),
           subst (λ (z : Sides). EndsTraced after z) (sym s.next_is) both.1,

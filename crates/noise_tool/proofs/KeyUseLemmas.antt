@@ -11,7 +11,7 @@ use Rattle.noise_session.specs.Progress.Progress.{Handshaking, Open, HasEnded}
 use Rattle.noise_session.specs.Sending.{Sends}
 use Rattle.noise_session.specs.Sending.Sends.{refuses, lacks_dh_result, sends_handshake, sends_transport}
 use Rattle.noise_session.specs.Steps.StepValue.{Payload, Dropped, Refused, Exhausted}
-use Rattle.noise_state.specs.History.{History}
+use Rattle.noise_state.specs.declared.symmetric.SymmetricState.{SymmetricState}
 use Rattle.noise_session.specs.Transport.{last_nonce, transport_key}
 use Rattle.noise_trace.specs.declared.key_use.KeyUse.{KeyUse}
 use Rattle.noise_trace.specs.declared.end_trace.EndTrace.{EndTrace}
@@ -30,7 +30,7 @@ counted : (n : ℕ) (key : List ℕ) (renewed : Option (List ℕ)) → n ≢ las
 counted n key None more = tt
 counted n key (Some next) more = more
 
-counted-passed : (r : History) (writer : Role) (interval n : ℕ) → n ≢ last_nonce → HasLaterNonce (counted_use r writer interval n)
+counted-passed : (r : SymmetricState) (writer : Role) (interval n : ℕ) → n ≢ last_nonce → HasLaterNonce (counted_use r writer interval n)
 counted-passed r writer interval n more = counted n (transport_key r writer interval n) (rekeyed_after r writer interval n) more
 
 -- the first of three faults
@@ -67,17 +67,17 @@ module _ (old new : Trace) (m : KeyUse) where
       → (use_value m ≡ message_use v xs payload) × Follow new (record v { party = after_own v.party xs payload }))
       → ((v : EndState) (payload : List ℕ) → Follow old v → refusal (progress_of v) (length payload) ≡ None → IsTrue (is_open (progress_of v))
       → (use_value m ≡ sent_use v) × Follow new (record v { sent = v.sent + 1 }))
-      → (s next : Side) (payload : List ℕ) (note : Note) (w : SideWrites s payload note next) → Follow old s.state → Wrote number ≡ note
-      → message ≡ written_message s next payload note w → Used (use_value m) (written_use s next payload note w) new next.state
-  wrote-shown message number handshake transport s next payload note (writes_nothing _ _ why after sends) follows reported is = absurd (cc reported)
-  wrote-shown message number handshake transport s next payload note (writes_handshake _ text _ xs free w) follows reported is =
+      → (s : Side) (payload : List ℕ) (next : Side) (note : Note) (w : SideWrites s payload note next) → Follow old s.state → Wrote number ≡ note
+      → message ≡ written_message s payload next note w → Used (use_value m) (written_use s payload next note w) new next.state
+  wrote-shown message number handshake transport s payload next note (writes_nothing _ _ why after sends) follows reported is = absurd (cc reported)
+  wrote-shown message number handshake transport s payload next note (writes_handshake _ text _ xs free w) follows reported is =
       let done = handshake s.state xs payload follows (subst (λ (z : List ℕ). Writes s.state.party payload xs z) (sym is) w) in
       (done.0, subst HasLaterNonce (sym done.0) tt, done.1)
-  wrote-shown message number handshake transport s next payload note (writes_transport _ text _ free opens spelled) follows reported is =
+  wrote-shown message number handshake transport s payload next note (writes_transport _ text _ free opens spelled) follows reported is =
       let done = transport s.state payload follows free opens in (
         done.0,
         subst HasLaterNonce (sym done.0)
-            (counted-passed s.state.party.history s.state.party.role s.state.interval s.state.sent (sent-free s.state (length payload) free opens)),
+            (counted-passed s.state.party.state s.state.party.role s.state.interval s.state.sent (sent-free s.state (length payload) free opens)),
         done.1,
       )
 
@@ -100,50 +100,50 @@ module _ (t : Trace) (closes : Closes t) where
   after-closes v false follows = follows
 
   -- a payload for which there is no DH result
-  unsent-lacking : (m : KeyUse) (v next : EndState) (payload : List ℕ) (reported : Result (List ℕ) SendFault) (sends : Sends v payload reported next) (token : ℕ)
+  unsent-lacking : (m : KeyUse) (v : EndState) (payload : List ℕ) (next : EndState) (reported : Result (List ℕ) SendFault) (sends : Sends v payload reported next) (token : ℕ)
       → reported ≡ Err (fault.Agreement token) → Follow t v
       → ((w : EndState) → Follow t w → (lacks : LacksDhResult w.party token) → use_value m ≡ stopped_use w token lacks.lacks.before)
-      → Used (use_value m) (unsent_use v next payload reported sends) t next
-  unsent-lacking m v next payload reported (refuses _ _ why declined) token is follows clause = search rules
-  unsent-lacking m v next payload reported (lacks_dh_result _ _ actual free lacks) token is follows clause =
+      → Used (use_value m) (unsent_use v payload next reported sends) t next
+  unsent-lacking m v payload next reported (refuses _ _ why declined) token is follows clause = search rules
+  unsent-lacking m v payload next reported (lacks_dh_result _ _ actual free lacks) token is follows clause =
       let same : fault.Agreement token ≡ fault.Agreement actual = cc in
       let here : use_value m ≡ stopped_use v actual lacks.lacks.before =
       subst (λ (k : ℕ). (l : LacksDhResult v.party k) → use_value m ≡ stopped_use v k l.lacks.before) (token-same token actual same) (clause v follows) lacks in
       (here, subst HasLaterNonce (sym here) tt, closes v follows)
-  unsent-lacking m v next payload reported (sends_handshake _ _ text xs free w) token is follows clause = absurd (cc is)
-  unsent-lacking m v next payload reported (sends_transport _ _ free opens) token is follows clause = absurd (cc is)
+  unsent-lacking m v payload next reported (sends_handshake _ _ text xs free w) token is follows clause = absurd (cc is)
+  unsent-lacking m v payload next reported (sends_transport _ _ free opens) token is follows clause = absurd (cc is)
 
   -- a payload that is refused for another cause
-  unsent-refused : (v next : EndState) (payload : List ℕ) (reported : Result (List ℕ) SendFault) (sends : Sends v payload reported next) (why : SendFault)
-      → reported ≡ Err why → ((token : ℕ) → why ≢ fault.Agreement token) → Follow t v → Used Nothing (unsent_use v next payload reported sends) t next
-  unsent-refused v next payload reported (refuses _ _ given declined) why is not_lacking follows = (refl, tt, after-closes v (ends given) follows)
-  unsent-refused v next payload reported (lacks_dh_result _ _ token free lacks) why is not_lacking follows = search rules
-  unsent-refused v next payload reported (sends_handshake _ _ text xs free w) why is not_lacking follows = absurd (cc is)
-  unsent-refused v next payload reported (sends_transport _ _ free opens) why is not_lacking follows = absurd (cc is)
+  unsent-refused : (v : EndState) (payload : List ℕ) (next : EndState) (reported : Result (List ℕ) SendFault) (sends : Sends v payload reported next) (why : SendFault)
+      → reported ≡ Err why → ((token : ℕ) → why ≢ fault.Agreement token) → Follow t v → Used Nothing (unsent_use v payload next reported sends) t next
+  unsent-refused v payload next reported (refuses _ _ given declined) why is not_lacking follows = (refl, tt, after-closes v (ends given) follows)
+  unsent-refused v payload next reported (lacks_dh_result _ _ token free lacks) why is not_lacking follows = search rules
+  unsent-refused v payload next reported (sends_handshake _ _ text xs free w) why is not_lacking follows = absurd (cc is)
+  unsent-refused v payload next reported (sends_transport _ _ free opens) why is not_lacking follows = absurd (cc is)
 
   pub withheld-shown : (m : KeyUse) (token : ℕ)
       → ((w : EndState) → Follow t w → (lacks : LacksDhResult w.party token) → use_value m ≡ stopped_use w token lacks.lacks.before)
-      → (s next : Side) (payload : List ℕ) (note : Note) (w : SideWrites s payload note next) → Follow t s.state
-      → WriteFault (fault.Agreement token) ≡ note → Used (use_value m) (written_use s next payload note w) t next.state
-  withheld-shown m token clause s next payload note (writes_nothing _ _ why after sends) follows reported =
-      unsent-lacking m s.state after payload (Err why) sends token (ap (λ (f : SendFault). Err f) (sym (fault-same _ _ reported))) follows clause
-  withheld-shown m token clause s next payload note (writes_handshake _ text _ xs free w) follows reported = absurd (cc reported)
-  withheld-shown m token clause s next payload note (writes_transport _ text _ free opens spelled) follows reported = absurd (cc reported)
+      → (s : Side) (payload : List ℕ) (next : Side) (note : Note) (w : SideWrites s payload note next) → Follow t s.state
+      → WriteFault (fault.Agreement token) ≡ note → Used (use_value m) (written_use s payload next note w) t next.state
+  withheld-shown m token clause s payload next note (writes_nothing _ _ why after sends) follows reported =
+      unsent-lacking m s.state payload after (Err why) sends token (ap (λ (f : SendFault). Err f) (sym (fault-same _ _ reported))) follows clause
+  withheld-shown m token clause s payload next note (writes_handshake _ text _ xs free w) follows reported = absurd (cc reported)
+  withheld-shown m token clause s payload next note (writes_transport _ text _ free opens spelled) follows reported = absurd (cc reported)
 
   pub unwritten-shown : (why : SendFault) → ((token : ℕ) → why ≢ fault.Agreement token)
-      → (s next : Side) (payload : List ℕ) (note : Note) (w : SideWrites s payload note next) → Follow t s.state
-      → WriteFault why ≡ note → Used Nothing (written_use s next payload note w) t next.state
-  unwritten-shown fault not_lacking s next payload note (writes_nothing _ _ why after sends) follows reported =
-      unsent-refused s.state after payload (Err why) sends fault (ap (λ (f : SendFault). Err f) (sym (fault-same _ _ reported))) not_lacking follows
-  unwritten-shown fault not_lacking s next payload note (writes_handshake _ text _ xs free w) follows reported = absurd (cc reported)
-  unwritten-shown fault not_lacking s next payload note (writes_transport _ text _ free opens spelled) follows reported = absurd (cc reported)
+      → (s : Side) (payload : List ℕ) (next : Side) (note : Note) (w : SideWrites s payload note next) → Follow t s.state
+      → WriteFault why ≡ note → Used Nothing (written_use s payload next note w) t next.state
+  unwritten-shown fault not_lacking s payload next note (writes_nothing _ _ why after sends) follows reported =
+      unsent-refused s.state payload after (Err why) sends fault (ap (λ (f : SendFault). Err f) (sym (fault-same _ _ reported))) not_lacking follows
+  unwritten-shown fault not_lacking s payload next note (writes_handshake _ text _ xs free w) follows reported = absurd (cc reported)
+  unwritten-shown fault not_lacking s payload next note (writes_transport _ text _ free opens spelled) follows reported = absurd (cc reported)
 
 -- what a write is noted as
-pub wrote-or-not : (s next : Side) (payload : List ℕ) (note : Note) → SideWrites s payload note next
+pub wrote-or-not : (s : Side) (payload : List ℕ) (next : Side) (note : Note) → SideWrites s payload note next
     → ((n : ℕ) → Wrote n ≢ note) → ((why : SendFault) → WriteFault why ≢ note) → ⊥
-wrote-or-not s next payload note (writes_nothing _ _ why after sends) no_number no_fault = no_fault why refl
-wrote-or-not s next payload note (writes_handshake _ text _ xs free w) no_number no_fault = no_number (length s.frames) refl
-wrote-or-not s next payload note (writes_transport _ text _ free opens spelled) no_number no_fault = no_number (length s.frames) refl
+wrote-or-not s payload next note (writes_nothing _ _ why after sends) no_number no_fault = no_fault why refl
+wrote-or-not s payload next note (writes_handshake _ text _ xs free w) no_number no_fault = no_number (length s.frames) refl
+wrote-or-not s payload next note (writes_transport _ text _ free opens spelled) no_number no_fault = no_number (length s.frames) refl
 
 -- ---- reading
 
@@ -225,10 +225,10 @@ module _ (t : Trace) (closes : Closes t) (holds : Holds t) where
 
 -- an entry of a write
 pub neither-written : (x : Entry) → ((n : ℕ) → x ≡ entry.Wrote n → ⊥) → ((why : SendFault) → x ≡ entry.WriteFault why → ⊥)
-    → (s next : Side) (payload : List ℕ) (note : Note) → SideWrites s payload note next → note_of x ≡ note → ⊥
-neither-written (entry.Wrote n) p q s next payload note w reported = p n refl
-neither-written (entry.WriteFault why) p q s next payload note w reported = q why refl
-neither-written _ p q s next payload note w reported = search (rules, wrote-or-not)
+    → (s : Side) (payload : List ℕ) (next : Side) (note : Note) → SideWrites s payload note next → note_of x ≡ note → ⊥
+neither-written (entry.Wrote n) p q s payload next note w reported = p n refl
+neither-written (entry.WriteFault why) p q s payload next note w reported = q why refl
+neither-written _ p q s payload next note w reported = search (rules, wrote-or-not)
 
 -- another fault than that of a DH result
 pub six-others : (f : SendFault)

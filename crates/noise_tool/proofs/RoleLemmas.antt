@@ -42,6 +42,6 @@ module _ {E : Type 0} (selection : Selection) (ends : TracedEnds) (t : TracedEnd
   pub wrote : (noted : Note) (r : Result (Vec (Vec ℕ Global) Global) E) → TracesWrite selection (end-at ends role) t bytes noted r
       → TracesWriteOf selection role bytes noted ends (end-on ends role t) r
   wrote noted r clause = λ d next payload note w traced reported framed. IfOk-weaker r _ _ (λ lines h. (
-    h.0 ∙ ap (λ (z : Role). written_trace selection z (side d role) next payload note w) (role-at ends d role traced),
+    h.0 ∙ ap (λ (z : Role). written_trace selection z (side d role) payload next note w) (role-at ends d role traced),
     matches-on ends d role traced t next same h.1,
-  )) (clause (side d role) next payload note w (matches-at ends d role traced) reported framed)
+  )) (clause (side d role) payload next note w (matches-at ends d role traced) reported framed)

@@ -3,7 +3,6 @@ use Rattle.std.specs.Prelude.{◌≡◌, ℕ, List, [], ◌∷◌, ◌++◌, Vec
 use Rattle.std.specs.Global.{Global}
 use Rattle.noise_names.specs.declared.token.Role.{Role}
 use Rattle.noise_names.specs.declared.token.Role.TheVariants.{Initiator, Responder}
-use Rattle.noise_state.specs.History.{hash}
 use Rattle.noise_handshake.specs.declared.faults.Cause.{Cause}
 use Rattle.noise_handshake.specs.declared.faults.Cause.TheVariants as cause
 use Rattle.noise_session.specs.declared.faults.SendFault.{SendFault}
@@ -88,7 +87,7 @@ stage_words (stage.Transport sent received) hash =
 stage_words stage.Ended hash = codes "ended" ∷ []
 
 abbrev pub state_line : Role → EndState → List ℕ
-state_line role v = line_of (codes "state" ∷ role_word role ∷ progress_words (progress_of v) (hash v.party.history))
+state_line role v = line_of (codes "state" ∷ role_word role ∷ progress_words (progress_of v) v.party.state.hash)
 
 -- the states of both ends
 abbrev pub state_lines : Sides → List (List ℕ)

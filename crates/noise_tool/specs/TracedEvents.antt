@@ -37,9 +37,9 @@ AreOfBytes role reader notes entries =
 abbrev pub TracesWrite : {E : Type 0} → Selection → TracedEnd → TracedEnd → List ℕ → Note
     → Result (Vec (Vec ℕ Global) Global) E → Type 0
 TracesWrite selection old new bytes noted result =
-    (s next : Side) (payload : List ℕ) (note : Note) (w : SideWrites s payload note next)
-    → TracedMatches old s.state → noted ≡ note → bytes ≡ written_frame s next payload note w
-    → IfOk result (λ lines. (bytes_of lines.items ≡ written_trace selection old.role s next payload note w)
+    (s : Side) (payload : List ℕ) (next : Side) (note : Note) (w : SideWrites s payload note next)
+    → TracedMatches old s.state → noted ≡ note → bytes ≡ written_frame s payload next note w
+    → IfOk result (λ lines. (bytes_of lines.items ≡ written_trace selection old.role s payload next note w)
     × TracedMatches new next.state)
 
 -- the lines of a message that came, by its note, and the end after it
@@ -81,8 +81,8 @@ abbrev pub TracesWriteOf : {E : Type 0} → Selection → Role → List ℕ → 
     → Result (Vec (Vec ℕ Global) Global) E → Type 0
 TracesWriteOf selection role bytes noted old new result =
     (d : Sides) (next : Side) (payload : List ℕ) (note : Note) (w : SideWrites (side d role) payload note next)
-    → EndsTraced old d → noted ≡ note → bytes ≡ written_frame (side d role) next payload note w
-    → IfOk result (λ lines. (bytes_of lines.items ≡ written_trace selection role (side d role) next payload note w)
+    → EndsTraced old d → noted ≡ note → bytes ≡ written_frame (side d role) payload next note w
+    → IfOk result (λ lines. (bytes_of lines.items ≡ written_trace selection role (side d role) payload next note w)
     × EndsTraced new (with_side d role next))
 
 -- the same, by a report that has the frame
@@ -92,7 +92,7 @@ TracesEntry selection role report noted old new before after result =
     (d last : Sides) (next : Side) (payload : List ℕ) (note : Note) (w : SideWrites (side d role) payload note next)
     → EndsTraced old d → HasFrames report last → (side last role).frames ≡ next.frames → noted ≡ note
     → OnOk result (AreTraced new (with_side d role next) before after
-    (written_trace selection role (side d role) next payload note w ∷ []))
+    (written_trace selection role (side d role) payload next note w ∷ []))
 
 -- the lines of bytes that came to this role, by their entries
 abbrev pub TracesBytes : {A E : Type 0} → Selection → Role → List ℕ → Entries → TracedEnds → TracedEnds → Traces

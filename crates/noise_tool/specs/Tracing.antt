@@ -19,7 +19,7 @@ use Rattle.noise_session.specs.Taking.Judges.{accepted, refused, opened, dropped
 use Rattle.noise_lines.specs.TracedLines.{with_traces, with_traces_to}
 use Rattle.noise_trace.specs.KeyUses.{KeyUseValue, message_use, opened_use, sent_use, stopped_use, tried_use}
 use Rattle.noise_trace.specs.KeyUses.KeyUseValue.{Nothing}
-use Rattle.noise_state.specs.History.{initiator_key, responder_key}
+use Rattle.noise_state.specs.Symmetric.{initiator_key, responder_key}
 use Rattle.noise_duel.specs.Notes.{Note, held_note, left_note}
 use Rattle.noise_duel.specs.Runs.{Happens, Run, SideReads, SideReceives, SideWrites}
 use Rattle.noise_duel.specs.Runs.SideWrites.{writes_nothing, writes_handshake, writes_transport}
@@ -47,29 +47,29 @@ use Rattle.noise_tool.specs.declared.trace_lines.Act.TheVariants.{Writes as Writ
 -- ---- the keys of a write
 
 -- of what isn't sent: the steps up to the token for which there is no DH result
-abbrev pub unsent_use : (v next : EndState) (payload : List ℕ) (reported : Result (List ℕ) SendFault)
+abbrev pub unsent_use : (v : EndState) (payload : List ℕ) (next : EndState) (reported : Result (List ℕ) SendFault)
     → Sends v payload reported next → KeyUseValue
-unsent_use v next payload reported (refuses _ _ why refusal) = Nothing
-unsent_use v next payload reported (lacks_dh_result _ _ token free lacks) = stopped_use v token lacks.lacks.before
-unsent_use v next payload reported (sends_handshake _ _ message xs free w) = Nothing
-unsent_use v next payload reported (sends_transport _ _ free opens) = Nothing
+unsent_use v payload next reported (refuses _ _ why refusal) = Nothing
+unsent_use v payload next reported (lacks_dh_result _ _ token free lacks) = stopped_use v token lacks.lacks.before
+unsent_use v payload next reported (sends_handshake _ _ message xs free w) = Nothing
+unsent_use v payload next reported (sends_transport _ _ free opens) = Nothing
 
-abbrev pub written_use : (s next : Side) (payload : List ℕ) (note : Note) → SideWrites s payload note next → KeyUseValue
-written_use s next payload note (writes_nothing _ _ why after sends) = unsent_use s.state after payload _ sends
-written_use s next payload note (writes_handshake _ message _ xs free w) = message_use s.state xs payload
-written_use s next payload note (writes_transport _ message _ free opens is) = sent_use s.state
+abbrev pub written_use : (s : Side) (payload : List ℕ) (next : Side) (note : Note) → SideWrites s payload note next → KeyUseValue
+written_use s payload next note (writes_nothing _ _ why after sends) = unsent_use s.state payload after _ sends
+written_use s payload next note (writes_handshake _ message _ xs free w) = message_use s.state xs payload
+written_use s payload next note (writes_transport _ message _ free opens is) = sent_use s.state
 
 -- the message, if there is one
-abbrev pub written_message : (s next : Side) (payload : List ℕ) (note : Note) → SideWrites s payload note next → List ℕ
-written_message s next payload note (writes_nothing _ _ why after sends) = []
-written_message s next payload note (writes_handshake _ message _ xs free w) = message
-written_message s next payload note (writes_transport _ message _ free opens is) = message
+abbrev pub written_message : (s : Side) (payload : List ℕ) (next : Side) (note : Note) → SideWrites s payload note next → List ℕ
+written_message s payload next note (writes_nothing _ _ why after sends) = []
+written_message s payload next note (writes_handshake _ message _ xs free w) = message
+written_message s payload next note (writes_transport _ message _ free opens is) = message
 
 -- its frame
-abbrev pub written_frame : (s next : Side) (payload : List ℕ) (note : Note) → SideWrites s payload note next → List ℕ
-written_frame s next payload note (writes_nothing _ _ why after sends) = []
-written_frame s next payload note (writes_handshake _ message _ xs free w) = frame message
-written_frame s next payload note (writes_transport _ message _ free opens is) = frame message
+abbrev pub written_frame : (s : Side) (payload : List ℕ) (next : Side) (note : Note) → SideWrites s payload note next → List ℕ
+written_frame s payload next note (writes_nothing _ _ why after sends) = []
+written_frame s payload next note (writes_handshake _ message _ xs free w) = frame message
+written_frame s payload next note (writes_transport _ message _ free opens is) = frame message
 
 -- ---- the keys of a message that comes
 
@@ -103,10 +103,10 @@ blanks notes = map (λ note. []) notes
 
 -- of what is selected
 module _ (selection : Selection) where
-  abbrev pub written_trace : Role → (s next : Side) (payload : List ℕ) (note : Note) → SideWrites s payload note next
+  abbrev pub written_trace : Role → (s : Side) (payload : List ℕ) (next : Side) (note : Note) → SideWrites s payload note next
       → List (List ℕ)
-  written_trace role s next payload note w = key_use_lines selection (about role s.state Writing)
-      (written_message s next payload note w) (written_use s next payload note w)
+  written_trace role s payload next note w = key_use_lines selection (about role s.state Writing)
+      (written_message s payload next note w) (written_use s payload next note w)
 
   abbrev pub read_trace : Role → (s next : Side) (message : List ℕ) (step : StepValue) → SideReads s message step next
       → List (List ℕ)
@@ -128,11 +128,11 @@ module _ (selection : Selection) where
 
   abbrev pub happened_traces : (d last : Sides) (event : Event) (notes : List (Role × Note))
       → Happens d event notes last → List (List (List ℕ))
-  happened_traces d last event notes (writes _ role payload note next w) = written_trace role _ next payload note w ∷ []
+  happened_traces d last event notes (writes _ role payload note next w) = written_trace role _ payload next note w ∷ []
   happened_traces d last event notes (says_nothing _ role payload why next w) =
-      written_trace role _ next payload _ w ∷ []
+      written_trace role _ payload next _ w ∷ []
   happened_traces d last event notes (says _ role payload bytes n heard next reader w got x) =
-      written_trace role _ next payload _ w ∷ came_traces (other role) _ reader bytes heard x
+      written_trace role _ payload next _ w ∷ came_traces (other role) _ reader bytes heard x
   happened_traces d last event notes (delivers _ role n bytes heard reader got x) =
       came_traces role _ reader bytes heard x
   happened_traces d last event notes (misses _ role n none) = [] ∷ []
@@ -163,7 +163,7 @@ module _ (selection : Selection) where
   -- the keys of datagrams of each end
   abbrev pub datagram_keys_of : Role → EndState → List (List ℕ)
   datagram_keys_of role v = if_selected (selects_transport selection role)
-      (datagram_key_lines role (initiator_key v.party.history) (responder_key v.party.history))
+      (datagram_key_lines role (initiator_key v.party.state) (responder_key v.party.state))
 
   -- after the first of the last lines, where both ends have gone over to datagrams
   abbrev pub last_traces : (datagrams : Option FileDatagrams) (d : Sides) (after : List (List ℕ))

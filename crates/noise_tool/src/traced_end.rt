@@ -195,9 +195,9 @@ fn message_in(frame: &[u8]) -> &[u8]
 
 // What is shown of what came of a payload, by its entry.
 fn written_use(end: &mut EndTrace<FileKeys>, message: &[u8], entry: &Entry) -> KeyUse
-    ensures { (s next : Side) (payload : List ℕ) (note : Note) (w : SideWrites s payload note next)
-        → Follow end.old s.state → note_of entry.now ≡ note → message.now ≡ written_message s next payload note w
-        → Used (use_value result) (written_use s next payload note w) end.new next.state }
+    ensures { (s : Side) (payload : List ℕ) (next : Side) (note : Note) (w : SideWrites s payload note next)
+        → Follow end.old s.state → note_of entry.now ≡ note → message.now ≡ written_message s payload next note w
+        → Used (use_value result) (written_use s payload next note w) end.new next.state }
 {
     end_is_followed::<FileKeys>();
     match entry {
@@ -209,9 +209,9 @@ fn written_use(end: &mut EndTrace<FileKeys>, message: &[u8], entry: &Entry) -> K
 
 // What is shown of a payload that wasn't written.
 fn unsent_use(end: &EndTrace<FileKeys>, fault: SendFault) -> KeyUse
-    ensures { (s next : Side) (payload : List ℕ) (note : Note) (w : SideWrites s payload note next)
+    ensures { (s : Side) (payload : List ℕ) (next : Side) (note : Note) (w : SideWrites s payload note next)
         → Follow end.now s.state → WriteFault fault ≡ note
-        → Used (use_value result) (written_use s next payload note w) end.now next.state }
+        → Used (use_value result) (written_use s payload next note w) end.now next.state }
 {
     end_is_followed::<FileKeys>();
     match fault {

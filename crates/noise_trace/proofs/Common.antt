@@ -14,10 +14,10 @@ pub use Rattle.noise_names.specs.declared.token.Role.TheVariants.{Initiator, Res
 pub use Rattle.noise_names.specs.declared.token.Token.{Token}
 pub use Rattle.noise_names.specs.declared.token.Token.TheVariants.{E, Ee, Es, Psk, S, Se, Ss}
 pub use Rattle.noise_session.specs.Ends.{EndState}
-pub use Rattle.noise_state.specs.History.{History, MixHash, and_then, ciphertext, rekeyed_times}
-pub use Rattle.noise_state.specs.Symmetric.{mix_hash}
-pub use Rattle.noise_state.specs.Standing.{StateMatches}
 pub use Rattle.noise_state.specs.declared.symmetric.SymmetricState.{SymmetricState}
+pub use Rattle.noise_state.specs.Symmetric.{ciphertext}
+pub use Rattle.noise_state.specs.Cipher.{rekeyed_times}
+pub use Rattle.noise_state.specs.Symmetric.{mix_hash}
 pub use Rattle.noise_trace.specs.Following.{Follows, going}
 pub use Rattle.noise_trace.specs.KeyUses.{opening_in, rekeyed_after}
 pub use Rattle.noise_trace.specs.KeyUses.KeyUseValue.{Message}

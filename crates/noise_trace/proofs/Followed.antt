@@ -74,6 +74,6 @@ module _ {K : Type 0} (pairs : K → KeyPairs) (h : HandshakeValue K) (keys : K)
       remote = s.remote;
       passed = s.passed;
       ended = refl;
-      history = s.history;
+      state = s.state;
       supplied = s.supplied;
     }

@@ -1,7 +1,8 @@
 -- The steps of the start.
-use Rattle.std.proofs.Common.{rules, ◌≡◌, ℕ, List, [], ◌∷◌, ◌++◌, refl, sym, ◌∙◌, append_assoc}
+use Rattle.std.proofs.Common.{rules, arith, ◌≡◌, ◌≤◌, length, ℕ, List, [], ◌∷◌, ◌++◌, refl, sym, ◌∙◌, append_assoc}
 use Rattle.std.specs.Prelude.{Some}
-use Rattle.noise_trace.proofs.Common.{Bool, true, false, not, ◌↔◌, IsTrue, IsFalse, Option, is_some, unwrap_or, Token, E, S, Ee, Es, Se, Ss, Psk, Role, Initiator, Responder, other, same_token, Plan, pre_of, has_psk, places_of, SymmetricState, History, MixHash, and_then, StateMatches, Remote, has_before, has_token, keys_of, public_keys, start_of, token_of, with_premessage, with_ephemeral, values_of}
+use Rattle.noise_trace.proofs.Common.{Bool, true, false, not, ◌↔◌, IsTrue, IsFalse, Option, is_some, unwrap_or, Token, E, S, Ee, Es, Se, Ss, Psk, Role, Initiator, Responder, other, same_token, Plan, pre_of, has_psk, places_of, SymmetricState, Remote, has_before, has_token, keys_of, public_keys, start_of, token_of, with_premessage, with_ephemeral, values_of}
+use Rattle.noise_names.specs.Limits.{is_pre_message}
 use Rattle.noise_names.specs.Names.{name_bytes}
 use Rattle.noise_names.specs.Validity.{is_among}
 use Rattle.noise_keys.specs.declared.keys.Own.{Own}
@@ -11,20 +12,29 @@ use Rattle.noise_trace.specs.declared.values.StateValues.{StateValues}
 use Rattle.noise_trace.specs.inner.PreMessages.{Mixes}
 use Rattle.noise_trace.specs.Start.{start_step, key_steps, pre_steps, after_name, after_prologue, start_steps, values_after}
 use Rattle.noise_trace.specs.declared.start_step.StartPart.TheVariants as part
+use Rattle.noise_state.specs.Symmetric.{initialize, mix_hash}
 
 pub flips : (b x : Bool) → (IsTrue b ↔ IsFalse x) → not b ≡ x
 flips true x e = sym (e.0 refl)
 flips false true e = refl
 flips false false e = absurd (let h : false ≡ true = e.1 refl in cc)
 
+-- a pre-message has at most two tokens
+pub few-keys : (ts : List Token) → IsTrue (is_pre_message ts) → length ts ≤ 2
+few-keys [] h = omega arith
+few-keys (E ∷ []) h = omega arith
+few-keys (S ∷ []) h = omega arith
+few-keys (E ∷ S ∷ []) h = omega arith
+few-keys _ h = cc
+
 -- a static key
-pub mixes-s : (has_psks : Bool) (party : Role) (keys : Remote) (t : Token) (r : History) (key : List ℕ) (state : SymmetricState) (old new : List StartStep)
-    → t ≡ S → keys.s ≡ Some key → StateMatches state (and_then r (MixHash key))
-    → new ≡ old ++ start_step (part.Key party t) (and_then r (MixHash key)) ∷ [] → Mixes has_psks party keys (t ∷ []) r state old new
+pub mixes-s : (has_psks : Bool) (party : Role) (keys : Remote) (t : Token) (r : SymmetricState) (key : List ℕ) (state : SymmetricState) (old new : List StartStep)
+    → t ≡ S → keys.s ≡ Some key → state ≡ mix_hash r key
+    → new ≡ old ++ start_step (part.Key party t) (mix_hash r key) ∷ [] → Mixes has_psks party keys (t ∷ []) r state old new
 mixes-s has_psks party keys t r key state old new e k s n = search rules
 
 -- the first token, and then the others
-pub mixes-on : (has_psks : Bool) (party : Role) (keys : Remote) (tokens : List Token) (t : Token) (ts : List Token) (r : History) (state : SymmetricState)
+pub mixes-on : (has_psks : Bool) (party : Role) (keys : Remote) (tokens : List Token) (t : Token) (ts : List Token) (r : SymmetricState) (state : SymmetricState)
     (old mid new : List StartStep) → tokens ≡ t ∷ ts → mid ≡ old ++ key_steps has_psks party keys (t ∷ []) r
     → Mixes has_psks party keys ts (with_premessage has_psks keys (t ∷ []) r) state mid new → Mixes has_psks party keys tokens r state old new
 mixes-on has_psks party keys tokens t ts r state old mid new split first m = search (rules, append_assoc)
@@ -52,8 +62,8 @@ module _ (p : Plan) (own : Own → Option (List ℕ)) (known : Remote)
 -- the steps as the code makes them
 abbrev pub made : Bool → List Token → List Token → List ℕ → List ℕ → Remote → Remote → List StartStep
 made has_psks first second name prologue initiator responder =
-    let r0 : History = record { name = name; entries = [] } in
-    let r1 : History = and_then r0 (MixHash prologue) in
+    let r0 : SymmetricState = initialize name in
+    let r1 : SymmetricState = mix_hash r0 prologue in
     start_step part.Name r0 ∷ start_step part.Prologue r1
     ∷ (key_steps has_psks Initiator initiator first r1
     ++ key_steps has_psks Responder responder second (with_premessage has_psks initiator first r1))
@@ -68,11 +78,11 @@ made-is p has_psks first second name prologue initiator responder i r eb ef es e
 
 -- one after another
 pub in-turn : (has_psks : Bool) (first second : List Token) (name prologue : List ℕ) (initiator responder : Remote) (none one two three four : List StartStep)
-    → none ≡ [] → one ≡ none ++ start_step part.Name (record { name = name; entries = [] }) ∷ []
-    → two ≡ one ++ start_step part.Prologue (and_then (record { name = name; entries = [] }) (MixHash prologue)) ∷ []
-    → three ≡ two ++ key_steps has_psks Initiator initiator first (and_then (record { name = name; entries = [] }) (MixHash prologue))
+    → none ≡ [] → one ≡ none ++ start_step part.Name (initialize name) ∷ []
+    → two ≡ one ++ start_step part.Prologue (mix_hash (initialize name) prologue) ∷ []
+    → three ≡ two ++ key_steps has_psks Initiator initiator first (mix_hash (initialize name) prologue)
     → four ≡ three ++ key_steps has_psks Responder responder second
-    (with_premessage has_psks initiator first (and_then (record { name = name; entries = [] }) (MixHash prologue)))
+    (with_premessage has_psks initiator first (mix_hash (initialize name) prologue))
     → four ≡ made has_psks first second name prologue initiator responder
 in-turn has_psks first second name prologue initiator responder none one two three four e0 e1 e2 e3 e4 = search rules
 
@@ -80,11 +90,11 @@ after-append : (before : StateValues) (a b : List StartStep) → values_after be
 after-append before [] b = refl
 after-append before (s ∷ a) b = after-append s.state a b
 
-after-keys : (has_psks : Bool) (party : Role) (keys : Remote) (ts : List Token) (r : History)
+after-keys : (has_psks : Bool) (party : Role) (keys : Remote) (ts : List Token) (r : SymmetricState)
     → values_after (values_of r) (key_steps has_psks party keys ts r) ≡ values_of (with_premessage has_psks keys ts r)
 after-keys has_psks party keys [] r = refl
 after-keys has_psks party keys (E ∷ ts) r = after-keys has_psks party keys ts (with_ephemeral has_psks r (unwrap_or keys.e []))
-after-keys has_psks party keys (S ∷ ts) r = after-keys has_psks party keys ts (and_then r (MixHash (unwrap_or keys.s [])))
+after-keys has_psks party keys (S ∷ ts) r = after-keys has_psks party keys ts (mix_hash r (unwrap_or keys.s []))
 after-keys has_psks party keys (Ee ∷ ts) r = after-keys has_psks party keys ts r
 after-keys has_psks party keys (Es ∷ ts) r = after-keys has_psks party keys ts r
 after-keys has_psks party keys (Se ∷ ts) r = after-keys has_psks party keys ts r

@@ -2,7 +2,7 @@
 use Rattle.std.proofs.Common.{rules, ◌≡◌, ◌≢◌, ℕ, suc, ◌+◌, ◌%◌, List, inl, inr, arith}
 use Rattle.std.proofs.lemmas.Bool.{cases_lt}
 use Rattle.std.specs.Prelude.{Some, None}
-use Rattle.noise_trace.proofs.Common.{◌⊎◌, nat_lt, Option, unwrap_or, if◌then◌else◌, Role, History, rekeyed_times, rekeyed_after}
+use Rattle.noise_trace.proofs.Common.{◌⊎◌, nat_lt, Option, unwrap_or, if◌then◌else◌, Role, SymmetricState, rekeyed_times, rekeyed_after}
 use Rattle.noise_aead.specs.Sealing.{rekeyed}
 use Rattle.noise_session.specs.Transport.{rekeys, split_key, transport_key}
 use Rattle.noise_session.specs.Rekeying.{rekeys-turned, rekeys-unchanged, rekeys-never}
@@ -29,12 +29,12 @@ grown-next : (a b : ℕ) (key : List ℕ) → (b ≡ suc a) ⊎ (b ≡ a) → un
 grown-next a b key (inl more) = search rules
 grown-next a b key (inr same) = search rules
 
-pub key-rekeyed : (r : History) (writer : Role) (i n : ℕ) → i ≢ 0 → (n + 1) % i ≡ 0
+pub key-rekeyed : (r : SymmetricState) (writer : Role) (i n : ℕ) → i ≢ 0 → (n + 1) % i ≡ 0
     → rekeyed_after r writer i n ≡ Some (rekeyed (transport_key r writer i n))
 key-rekeyed r writer i n some none =
     grown-more (rekeys i n) (rekeys i (n + 1)) (split_key r writer) (rekeys-turned i n some none)
 
 -- the key of the next message
-pub key-next : (r : History) (writer : Role) (i n : ℕ)
+pub key-next : (r : SymmetricState) (writer : Role) (i n : ℕ)
     → unwrap_or (rekeyed_after r writer i n) (transport_key r writer i n) ≡ transport_key r writer i (n + 1)
 key-next r writer i n = grown-next (rekeys i n) (rekeys i (n + 1)) (split_key r writer) (rekeys-next i n)

@@ -1,7 +1,7 @@
 -- The steps that the tokens of a message are told as.
 use Rattle.std.proofs.Common.{◌≡◌, ℕ, ◌+◌, ◌<◌, ◌≤◌, List, [], ◌∷◌, ◌++◌, length, sym, ap, ◌∙◌, arith, append_assoc, append-nil, length-append}
 use Rattle.std.proofs.lemmas.Bool.Decides.{nat_tests}
-use Rattle.noise_trace.proofs.Common.{Bool, true, nat_lt, if◌then◌else◌, Token, History, token_bytes, after_token, after_payload, before_payload, message_bytes, Step, StepList, step, token_steps, message_steps, payload_step, values_of, with_step, with_token}
+use Rattle.noise_trace.proofs.Common.{Bool, true, nat_lt, if◌then◌else◌, Token, SymmetricState, token_bytes, after_token, after_payload, before_payload, message_bytes, Step, StepList, step, token_steps, message_steps, payload_step, values_of, with_step, with_token}
 use Rattle.noise_handshake.specs.Steps.{after_steps}
 use Rattle.noise_trace.specs.declared.step.Part.TheVariants as part
 use Rattle.noise_trace.specs.declared.values.StateValues.{StateValues}
@@ -14,13 +14,13 @@ room-for list s h =
     let e : nat_lt (length list.steps.items) 11 ≡ true = grind (arith, nat_tests) in
     ap (λ (b : Bool). if b then list_of (list.steps.items ++ s ∷ []) else list) e
 
-told-items : (has_psks : Bool) (r : History) (from : ℕ) (ts : List Token) (xs : List (List ℕ)) (old : List Step) → length old + length ts ≤ 11
+told-items : (has_psks : Bool) (r : SymmetricState) (from : ℕ) (ts : List Token) (xs : List (List ℕ)) (old : List Step) → length old + length ts ≤ 11
     → after_steps with_token has_psks r from ts xs (list_of old) ≡ list_of (old ++ token_steps has_psks r from ts xs)
 told-items has_psks r from [] xs old h = ap list_of (sym (append-nil old))
 told-items has_psks r from (t ∷ ts) [] old h = ap list_of (sym (append-nil old))
 told-items has_psks r from (t ∷ ts) (x ∷ xs) old h =
     let s : Step = step (part.Token t) from (length (token_bytes r t x)) (after_token has_psks r t x) in
-    let next : History = after_token has_psks r t x in
+    let next : SymmetricState = after_token has_psks r t x in
     let to : ℕ = from + length (token_bytes r t x) in
     let here : with_step (list_of old) s ≡ list_of (old ++ s ∷ []) = room-for (list_of old) s (omega (arith, h)) in
     ap (after_steps with_token has_psks next to ts xs) here
@@ -28,20 +28,20 @@ told-items has_psks r from (t ∷ ts) (x ∷ xs) old h =
     ∙ ap list_of (append_assoc old (s ∷ []) (token_steps has_psks next to ts xs))
 
 -- the steps of tokens that were told to an empty list
-pub told-tokens : (has_psks : Bool) (r : History) (ts : List Token) (xs : List (List ℕ)) (list told : StepList) → list.steps.items ≡ [] → length ts ≤ 10
+pub told-tokens : (has_psks : Bool) (r : SymmetricState) (ts : List Token) (xs : List (List ℕ)) (list told : StepList) → list.steps.items ≡ [] → length ts ≤ 10
     → told ≡ after_steps with_token has_psks r 0 ts xs list → told.steps.items ≡ token_steps has_psks r 0 ts xs
 told-tokens has_psks r ts xs list told empty h e =
     ap (λ (l : StepList). l.steps.items)
     (e ∙ ap (λ (old : List Step). after_steps with_token has_psks r 0 ts xs (list_of old)) empty ∙ told-items has_psks r 0 ts xs [] (omega (arith, h)))
 
-steps-few : (has_psks : Bool) (r : History) (from : ℕ) (ts : List Token) (xs : List (List ℕ)) → length (token_steps has_psks r from ts xs) ≤ length ts
+steps-few : (has_psks : Bool) (r : SymmetricState) (from : ℕ) (ts : List Token) (xs : List (List ℕ)) → length (token_steps has_psks r from ts xs) ≤ length ts
 steps-few has_psks r from [] xs = omega arith
 steps-few has_psks r from (t ∷ ts) [] = omega arith
 steps-few has_psks r from (t ∷ ts) (x ∷ xs) =
     let i = steps-few has_psks (after_token has_psks r t x) (from + length (token_bytes r t x)) ts xs in omega (arith, i)
 
 -- and then the step of the payload
-pub told-message : (has_psks : Bool) (r : History) (ts : List Token) (xs : List (List ℕ)) (payload m : List ℕ) (list told all : StepList) (from : ℕ)
+pub told-message : (has_psks : Bool) (r : SymmetricState) (ts : List Token) (xs : List (List ℕ)) (payload m : List ℕ) (list told all : StepList) (from : ℕ)
     (values : StateValues) → list.steps.items ≡ [] → length ts ≤ 10 → told ≡ after_steps with_token has_psks r 0 ts xs list
     → from ≡ length (before_payload has_psks r ts xs) → m ≡ message_bytes has_psks r ts xs payload
     → values ≡ values_of (after_payload has_psks r ts xs payload)

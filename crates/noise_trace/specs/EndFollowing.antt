@@ -14,8 +14,8 @@ use Rattle.noise_keys.specs.Keys.{KeyPairs}
 -- the directions of an end: that of the messages that it writes, and that of those that it opens
 abbrev pub directions_of : EndState → Directions
 directions_of v = record {
-  sending = direction v.party.history v.party.role v.interval v.sent;
-  receiving = direction v.party.history (other v.party.role) v.interval v.received;
+  sending = direction v.party.state v.party.role v.interval v.sent;
+  receiving = direction v.party.state (other v.party.role) v.interval v.received;
 }
 
 -- those of a session whose handshake messages have all passed

@@ -2,7 +2,8 @@
 use Rattle.std.specs.Prelude.{ℕ, ◌+◌, nat_lt, List, Option, Some, None, if◌then◌else◌}
 use Rattle.noise_names.specs.declared.token.Role.{Role}
 use Rattle.noise_names.specs.Tokens.{other}
-use Rattle.noise_state.specs.History.{History, initiator_key, responder_key}
+use Rattle.noise_state.specs.declared.symmetric.SymmetricState.{SymmetricState}
+use Rattle.noise_state.specs.Symmetric.{initiator_key, responder_key}
 use Rattle.noise_handshake.specs.Party.{Party}
 use Rattle.noise_handshake.specs.Matching.{after_own}
 use Rattle.noise_trace.specs.declared.step.Step.{Step}
@@ -28,13 +29,13 @@ use_value (key_use.Transport nonce key renewed) = Transport nonce key renewed
 
 -- ---- the handshake
 
--- the keys of Split, after a history
-abbrev pub opening_of : History → Opening
+-- the keys of Split, of a state
+abbrev pub opening_of : SymmetricState → Opening
 opening_of r = record { state = values_of r; initiator = initiator_key r; responder = responder_key r }
 
 -- those of a party, once all handshake messages have passed
 abbrev pub opening_in : Party → Option Opening
-opening_in v = if is_complete v then Some (opening_of v.history) else None
+opening_in v = if is_complete v then Some (opening_of v.state) else None
 
 -- a handshake message, written or accepted, whose tokens carry these texts; with the opening, if it is the last one
 abbrev pub message_use : EndState → List (List ℕ) → List ℕ → KeyUseValue
@@ -47,29 +48,29 @@ stopped_use v token xs = Message (steps_before v.party token xs) None
 -- ---- transport
 
 -- the key from the message after message n on, where it is rekeyed between the two
-abbrev pub rekeyed_after : History → Role → ℕ → ℕ → Option (List ℕ)
+abbrev pub rekeyed_after : SymmetricState → Role → ℕ → ℕ → Option (List ℕ)
 rekeyed_after r writer interval n = if nat_lt (rekeys interval n) (rekeys interval (n + 1))
     then Some (transport_key r writer interval (n + 1)) else None
 
 -- message n of a writer
-abbrev pub counted_use : History → Role → ℕ → ℕ → KeyUseValue
+abbrev pub counted_use : SymmetricState → Role → ℕ → ℕ → KeyUseValue
 counted_use r writer interval n = Transport n (transport_key r writer interval n) (rekeyed_after r writer interval n)
 
 -- a message at nonce n that doesn't count: the nonce and the key stay
-abbrev pub uncounted_use : History → Role → ℕ → ℕ → KeyUseValue
+abbrev pub uncounted_use : SymmetricState → Role → ℕ → ℕ → KeyUseValue
 uncounted_use r writer interval n = Transport n (transport_key r writer interval n) None
 
 -- the message that an end writes next, and the one that it opens next
 abbrev pub sent_use : EndState → KeyUseValue
-sent_use v = counted_use v.party.history v.party.role v.interval v.sent
+sent_use v = counted_use v.party.state v.party.role v.interval v.sent
 
 abbrev pub opened_use : EndState → KeyUseValue
-opened_use v = counted_use v.party.history (other v.party.role) v.interval v.received
+opened_use v = counted_use v.party.state (other v.party.role) v.interval v.received
 
 -- a message that an end was to open next, and dropped
 abbrev pub tried_use : EndState → KeyUseValue
-tried_use v = uncounted_use v.party.history (other v.party.role) v.interval v.received
+tried_use v = uncounted_use v.party.state (other v.party.role) v.interval v.received
 
 -- the keys that the session of a party opened with, the initiator's first, once it has
 abbrev pub keys_in : Party → Option (List ℕ × List ℕ)
-keys_in v = if is_complete v then Some (initiator_key v.history, responder_key v.history) else None
+keys_in v = if is_complete v then Some (initiator_key v.state, responder_key v.state) else None

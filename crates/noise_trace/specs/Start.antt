@@ -6,7 +6,8 @@ use Rattle.noise_names.specs.declared.token.Role.{Role}
 use Rattle.noise_names.specs.declared.token.Role.TheVariants.{Initiator, Responder}
 use Rattle.noise_names.specs.Plan.{Plan, pre_of, has_psk}
 use Rattle.noise_names.specs.Names.{name_bytes}
-use Rattle.noise_state.specs.History.{History, MixHash, and_then}
+use Rattle.noise_state.specs.declared.symmetric.SymmetricState.{SymmetricState}
+use Rattle.noise_state.specs.Symmetric.{initialize, mix_hash}
 use Rattle.noise_handshake.specs.declared.remote.Remote.{Remote}
 use Rattle.noise_handshake.specs.Message.{with_ephemeral}
 use Rattle.noise_handshake.specs.Setup.{keys_of}
@@ -17,31 +18,31 @@ use Rattle.noise_trace.specs.declared.start_step.StartStep.{StartStep}
 use Rattle.noise_trace.specs.declared.values.StateValues.{StateValues}
 use Rattle.noise_trace.specs.Values.{values_of}
 
--- a part of the start, with the history after it
-abbrev pub start_step : StartPart → History → StartStep
+-- a part of the start, with the state after it
+abbrev pub start_step : StartPart → SymmetricState → StartStep
 start_step which r = record { part = which; state = values_of r }
 
 -- the steps of the keys of a party's pre-message
-abbrev pub key_steps : Bool → Role → Remote → List Token → History → List StartStep
+abbrev pub key_steps : Bool → Role → Remote → List Token → SymmetricState → List StartStep
 key_steps has_psks party keys [] r = []
 key_steps has_psks party keys (E ∷ ts) r =
     start_step (part.Key party E) (with_ephemeral has_psks r (unwrap_or keys.e []))
     ∷ key_steps has_psks party keys ts (with_ephemeral has_psks r (unwrap_or keys.e []))
 key_steps has_psks party keys (S ∷ ts) r =
-    start_step (part.Key party S) (and_then r (MixHash (unwrap_or keys.s [])))
-    ∷ key_steps has_psks party keys ts (and_then r (MixHash (unwrap_or keys.s [])))
+    start_step (part.Key party S) (mix_hash r (unwrap_or keys.s []))
+    ∷ key_steps has_psks party keys ts (mix_hash r (unwrap_or keys.s []))
 key_steps has_psks party keys (_ ∷ ts) r = key_steps has_psks party keys ts r
 
--- the history of a pattern's name alone
-abbrev pub after_name : Plan → History
-after_name p = record { name = name_bytes (record { base = p.base; places = p.places }); entries = [] }
+-- the state after a pattern's name alone
+abbrev pub after_name : Plan → SymmetricState
+after_name p = initialize (name_bytes (record { base = p.base; places = p.places }))
 
--- the history after the prologue
-abbrev pub after_prologue : Plan → List ℕ → History
-after_prologue p prologue = and_then (after_name p) (MixHash prologue)
+-- the state after the prologue
+abbrev pub after_prologue : Plan → List ℕ → SymmetricState
+after_prologue p prologue = mix_hash (after_name p) prologue
 
 -- the steps of the keys of both pre-messages, the initiator's first
-abbrev pub pre_steps : Plan → Remote → Remote → History → List StartStep
+abbrev pub pre_steps : Plan → Remote → Remote → SymmetricState → List StartStep
 pre_steps p initiator responder r =
     key_steps (has_psk p) Initiator initiator (pre_of Initiator p) r
     ++ key_steps (has_psk p) Responder responder (pre_of Responder p)

@@ -2,7 +2,7 @@
 use Rattle.std.specs.Prelude.{ℕ, ◌+◌, List, [], ◌∷◌, ◌++◌, length, take, Bool, slice_range}
 use Rattle.noise_names.specs.declared.token.Token.{Token}
 use Rattle.noise_names.specs.Plan.{has_psk}
-use Rattle.noise_state.specs.History.{History}
+use Rattle.noise_state.specs.declared.symmetric.SymmetricState.{SymmetricState}
 use Rattle.noise_handshake.specs.Message.{token_bytes, after_token, before_payload, message_bytes, after_payload}
 use Rattle.noise_handshake.specs.Party.{Party, tokens_now}
 use Rattle.noise_trace.specs.declared.step.Part.{Part}
@@ -11,12 +11,12 @@ use Rattle.noise_trace.specs.declared.step.Step.{Step}
 use Rattle.noise_trace.specs.declared.values.StateValues.{StateValues}
 use Rattle.noise_trace.specs.Values.{values_of}
 
--- a part of so many bytes, from this place on, with the history after it
-abbrev pub step : Part → ℕ → ℕ → History → Step
+-- a part of so many bytes, from this place on, with the state after it
+abbrev pub step : Part → ℕ → ℕ → SymmetricState → Step
 step which from width r = record { part = which; from = from; to = from + width; state = values_of r }
 
 -- the steps of tokens that carry these texts, from this place on
-abbrev pub token_steps : Bool → History → ℕ → List Token → List (List ℕ) → List Step
+abbrev pub token_steps : Bool → SymmetricState → ℕ → List Token → List (List ℕ) → List Step
 token_steps has_psks r from [] xs = []
 token_steps has_psks r from (t ∷ ts) [] = []
 token_steps has_psks r from (t ∷ ts) (x ∷ xs) =
@@ -24,7 +24,7 @@ token_steps has_psks r from (t ∷ ts) (x ∷ xs) =
     ∷ token_steps has_psks (after_token has_psks r t x) (from + length (token_bytes r t x)) ts xs
 
 -- the step of the payload
-abbrev pub payload_step : Bool → History → List Token → List (List ℕ) → List ℕ → Step
+abbrev pub payload_step : Bool → SymmetricState → List Token → List (List ℕ) → List ℕ → Step
 payload_step has_psks r ts xs payload = record {
   part = part.Payload;
   from = length (before_payload has_psks r ts xs);
@@ -33,20 +33,20 @@ payload_step has_psks r ts xs payload = record {
 }
 
 -- the steps of the whole message
-abbrev pub message_steps : Bool → History → List Token → List (List ℕ) → List ℕ → List Step
+abbrev pub message_steps : Bool → SymmetricState → List Token → List (List ℕ) → List ℕ → List Step
 message_steps has_psks r ts xs payload = token_steps has_psks r 0 ts xs ++ payload_step has_psks r ts xs payload ∷ []
 
 -- the steps of a party's next message, whose tokens carry these texts
 abbrev pub next_steps : Party → List (List ℕ) → List ℕ → List Step
-next_steps v xs payload = message_steps (has_psk v.pattern) v.history (tokens_now v) xs payload
+next_steps v xs payload = message_steps (has_psk v.pattern) v.state (tokens_now v) xs payload
 
 -- those of its tokens before this one
 abbrev pub steps_before : Party → ℕ → List (List ℕ) → List Step
-steps_before v token xs = token_steps (has_psk v.pattern) v.history 0 (take token (tokens_now v)) xs
+steps_before v token xs = token_steps (has_psk v.pattern) v.state 0 (take token (tokens_now v)) xs
 
 -- the state after the payload of that message
 abbrev pub values_after_payload : Party → List (List ℕ) → List ℕ → StateValues
-values_after_payload v xs payload = (payload_step (has_psk v.pattern) v.history (tokens_now v) xs payload).state
+values_after_payload v xs payload = (payload_step (has_psk v.pattern) v.state (tokens_now v) xs payload).state
 
 -- the bytes of the steps, joined
 abbrev pub joined : List ℕ → List Step → List ℕ

@@ -2,7 +2,7 @@
 
 ghost use Rattle.std.specs.Prelude.{◌≡◌, ◌≢◌, ◌+◌, ℕ};
 ghost use Rattle.noise_names.specs.declared.token.Role.{Role};
-ghost use Rattle.noise_state.specs.History.{History};
+ghost use Rattle.noise_state.specs.declared.symmetric.SymmetricState.{SymmetricState};
 ghost use Rattle.noise_session.specs.Transport.{last_nonce, transport_key};
 ghost use Rattle.noise_trace.specs.Directions.{direction};
 ghost use Rattle.noise_trace.specs.KeyUses.{use_value, counted_use, uncounted_use, rekeyed_after};
@@ -20,7 +20,7 @@ pub(crate) struct Direction {
 
 // The key from this nonce on, if it is rekeyed before it.
 fn rekeyed_at(nonce: u64, key: &[u8; 32], interval: u64) -> Option<[u8; 32]>
-    ensures { (r : History) (writer : Role) (n : ℕ) → key.now ≡ transport_key r writer interval n → nonce ≡ n + 1
+    ensures { (r : SymmetricState) (writer : Role) (n : ℕ) → key.now ≡ transport_key r writer interval n → nonce ≡ n + 1
         → result ≡ rekeyed_after r writer interval n }
 {
     if interval != 0 && nonce % interval == 0 {
@@ -40,9 +40,9 @@ impl Direction {
 
     // Counts a message, and shows its key; at the last nonce, which no message has, nothing.
     pub(crate) fn pass(&mut self, interval: u64) -> KeyUse
-        ensures shown { (r : History) (writer : Role) (n : ℕ) → self.old ≡ direction r writer interval n
+        ensures shown { (r : SymmetricState) (writer : Role) (n : ℕ) → self.old ≡ direction r writer interval n
             → n ≢ last_nonce → use_value result ≡ counted_use r writer interval n }
-        ensures next { (r : History) (writer : Role) (n : ℕ) → self.old ≡ direction r writer interval n → n ≢ last_nonce
+        ensures next { (r : SymmetricState) (writer : Role) (n : ℕ) → self.old ≡ direction r writer interval n → n ≢ last_nonce
             → self.new ≡ direction r writer interval (n + 1) }
         ensures last { self.old.nonce ≡ last_nonce → (use_value result ≡ Nothing) × (self.new ≡ self.old) }
     {
@@ -64,7 +64,7 @@ impl Direction {
 
     // The nonce and the key of the next message, of which nothing is counted.
     pub(crate) fn now(&self) -> KeyUse
-        ensures { (r : History) (writer : Role) (interval n : ℕ) → self.now ≡ direction r writer interval n
+        ensures { (r : SymmetricState) (writer : Role) (interval n : ℕ) → self.now ≡ direction r writer interval n
             → use_value result ≡ uncounted_use r writer interval n }
     {
         KeyUse::Transport {

@@ -21,7 +21,7 @@ impl Directions {
 
     // Those of a role at the opening.
     pub(crate) fn new(role: Role, opening: &Opening) -> Directions
-        ensures { (v : Party) (interval : ℕ) → role ≡ v.role → opening.now ≡ opening_of v.history
+        ensures { (v : Party) (interval : ℕ) → role ≡ v.role → opening.now ≡ opening_of v.state
             → result ≡ directions_of (end_of v interval) }
     {
         let initiator = Direction::new(opening.initiator);

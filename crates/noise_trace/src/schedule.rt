@@ -2,7 +2,7 @@
 
 ghost use Rattle.std.specs.Prelude.{◌≡◌, ◌≤◌, [], ℕ, List, length, Some, IsSome};
 ghost use Rattle.noise_state.specs.Cipher.{key_in};
-ghost use Rattle.noise_state.specs.History.{initiator_key, responder_key};
+ghost use Rattle.noise_state.specs.Symmetric.{initiator_key, responder_key};
 ghost use Rattle.noise_handshake.specs.Party.{Party, Accepts, Refuses, tokens_at};
 ghost use Rattle.noise_handshake.specs.Writing.{LacksDhResult, Writes};
 ghost use Rattle.noise_handshake.specs.Matching.{Matches, after_message, after_own};
@@ -178,7 +178,7 @@ impl<K: Keys> Following<K> {
     /// The two keys of the transport, if all messages have passed, the initiator's first (Split).
     pub fn transport_keys(&self) -> ([u8; 32], [u8; 32])
         ensures { (v : Party) → Follows K.pairs self.now v
-            → result ≡ (initiator_key v.history, responder_key v.history) }
+            → result ≡ (initiator_key v.state, responder_key v.state) }
     {
         let Some(handshake) = &self.handshake else {
             return ([0; 32], [0; 32]);
@@ -189,7 +189,7 @@ impl<K: Keys> Following<K> {
 
     /// The hash, the chaining key, the key and the nonce after the messages that have passed.
     pub fn values(&self) -> StateValues
-        ensures { (v : Party) → Follows K.pairs self.now v → result ≡ values_of v.history }
+        ensures { (v : Party) → Follows K.pairs self.now v → result ≡ values_of v.state }
     {
         match &self.handshake {
             Some(handshake) => values_in(handshake.progress().state),

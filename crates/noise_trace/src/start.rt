@@ -1,14 +1,10 @@
 //! The steps before the first message.
 
-ghost use Rattle.std.specs.Prelude.{◌≡◌, ◌≤◌, ◌+◌, ◌++◌, ◌<◌, ◌∷◌, [], true, ℕ, List, length, is_some, None};
+ghost use Rattle.std.specs.Prelude.{◌≡◌, ◌≤◌, ◌+◌, ◌++◌, ◌<◌, ◌∷◌, [], true, ℕ, length, is_some, None};
 ghost use Rattle.noise_names.specs.declared.token.Token.TheVariants.{E, S};
-ghost use Rattle.noise_names.specs.Plan.{has_psk, pre_of};
-ghost use Rattle.noise_state.specs.History.{History};
-ghost use Rattle.noise_state.specs.Standing.{StateMatches};
-ghost use Rattle.noise_handshake.specs.Setup.{has_token, keys_of, public_keys, setup_fault};
-ghost use Rattle.noise_handshake.specs.Party.{with_premessage};
+ghost use Rattle.noise_handshake.specs.Setup.{keys_of, public_keys, setup_fault};
 ghost use Rattle.noise_trace.specs.inner.PreMessages.{HasKeysFor, Mixes};
-ghost use Rattle.noise_trace.specs.Start.{key_steps, pre_steps, start_step, start_steps};
+ghost use Rattle.noise_trace.specs.Start.{start_step, start_steps};
 
 use crate::values::values_of;
 use crate::{StartPart, StartStep};
@@ -24,8 +20,7 @@ use noise_state::SymmetricState;
 fn add_step(steps: &mut ArrayVec<StartStep, 6>, part: StartPart, state: &SymmetricState)
     requires room { length steps.old.items < 6 }
     ensures len { length steps.new.items ≡ length steps.old.items + 1 }
-    ensures after { (r : History) → StateMatches state.now r
-        → steps.new.items ≡ steps.old.items ++ start_step part r ∷ [] }
+    ensures after { steps.new.items ≡ steps.old.items ++ start_step part state.now ∷ [] }
 {
     steps.push(StartStep {
         part,
@@ -44,9 +39,8 @@ fn mix_one(
 )
     requires room { length steps.old.items < 6 }
     ensures many { length steps.new.items ≤ length steps.old.items + 1 }
-    ensures mixed { (r : History) → StateMatches state.old r
-        → (token ≡ E → is_some keys.now.e ≡ true) → (token ≡ S → is_some keys.now.s ≡ true)
-        → Mixes has_psks party keys.now (token ∷ []) r state.new steps.old.items steps.new.items }
+    ensures mixed { (token ≡ E → is_some keys.now.e ≡ true) → (token ≡ S → is_some keys.now.s ≡ true)
+        → Mixes has_psks party keys.now (token ∷ []) state.old state.new steps.old.items steps.new.items }
 {
     match (token, keys.e, keys.s) {
         (Token::E, Some(key), _) => {
@@ -72,9 +66,8 @@ fn mix_keys(
 )
     requires room { length steps.old.items + length tokens.now ≤ 6 }
     ensures many { length steps.new.items ≤ length steps.old.items + length tokens.now }
-    ensures mixed { (r : History) → StateMatches state.old r
-        → HasKeysFor keys.now tokens.now
-        → Mixes has_psks party keys.now tokens.now r state.new steps.old.items steps.new.items }
+    ensures mixed { HasKeysFor keys.now tokens.now
+        → Mixes has_psks party keys.now tokens.now state.old state.new steps.old.items steps.new.items }
 {
     let Some((token, later)) = tokens.split_first() else {
         return;

@@ -1,9 +1,8 @@
 //! What a symmetric state holds, as plain values.
 
 ghost use Rattle.std.specs.Prelude.{◌≡◌};
-ghost use Rattle.noise_state.specs.History.{History};
-ghost use Rattle.noise_state.specs.Standing.{StateMatches, state_of};
-ghost use Rattle.noise_trace.specs.Values.{state_values, values_of};
+ghost use Rattle.noise_state.specs.Standing.{state_of};
+ghost use Rattle.noise_trace.specs.Values.{values_of};
 
 use noise_state::{StateParts, SymmetricState};
 
@@ -21,7 +20,7 @@ pub struct StateValues {
 
 // The values of a state's parts.
 pub(crate) fn values_in(parts: StateParts) -> StateValues
-    ensures { result ≡ state_values (state_of parts) }
+    ensures { result ≡ values_of (state_of parts) }
 {
     let StateParts {
         chaining_key,
@@ -39,8 +38,7 @@ pub(crate) fn values_in(parts: StateParts) -> StateValues
 
 // The values of a state.
 pub(crate) fn values_of(state: &SymmetricState) -> StateValues
-    ensures value { result ≡ state_values state.now }
-    ensures matches { (r : History) → StateMatches state.now r → result ≡ values_of r }
+    ensures { result ≡ values_of state.now }
 {
     values_in(state.for_trial().into_parts())
 }

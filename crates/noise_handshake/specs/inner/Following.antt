@@ -3,10 +3,9 @@ use Rattle.std.specs.Prelude.{◌≡◌, ℕ, ◌+◌, ◌≤◌, List, length, 
 use Rattle.noise_names.specs.declared.token.Token.{Token}
 use Rattle.noise_names.specs.Tokens.{is_psk}
 use Rattle.noise_names.specs.Plan.{has_psk}
-use Rattle.noise_state.specs.History.{History}
-use Rattle.noise_state.specs.Standing.{StateMatches, keyed, nonce_now}
-use Rattle.noise_state.specs.Symmetric.{after_ciphertext}
 use Rattle.noise_state.specs.declared.symmetric.SymmetricState.{SymmetricState}
+use Rattle.noise_state.specs.Standing.{keyed, nonce_now}
+use Rattle.noise_state.specs.Symmetric.{after_ciphertext}
 use Rattle.noise_handshake.specs.declared.following.Front.{Front}
 use Rattle.noise_handshake.specs.declared.remote.Remote.{Remote}
 use Rattle.noise_handshake.specs.HandshakeValue.{HandshakeValue}
@@ -43,14 +42,14 @@ abbrev pub TokensLeave : {K : Type 0} → HandshakeValue K → Front → Type 0
 TokensLeave h f = (bytes : List ℕ) → Leaves h (after_ciphertext f.state bytes) f.remote
 
 -- It is what tokens leave that carry these texts, with these keys of the other party.
-pub record IsFront (f : Front) (has_psks : Bool) (r : History) (ts : List Token) (xs : List (List ℕ))
+pub record IsFront (f : Front) (has_psks : Bool) (r : SymmetricState) (ts : List Token) (xs : List (List ℕ))
     (known : Remote) : Type 0 where
   pub from : f.from ≡ length (before_payload has_psks r ts xs)
-  pub state : StateMatches f.state (after_tokens has_psks r ts xs)
+  pub state : f.state ≡ after_tokens has_psks r ts xs
   pub remote : f.remote ≡ known
 
 -- There is one, and the tokens were told.
 module _ {S : Type 0} (after : S → Token → ℕ → ℕ → SymmetricState → S) where
-  abbrev pub Fronts : Option Front → Bool → History → List Token → List (List ℕ) → Remote → S → S → Type 0
+  abbrev pub Fronts : Option Front → Bool → SymmetricState → List Token → List (List ℕ) → Remote → S → S → Type 0
   Fronts front has_psks r ts xs known old new = MatchOption front ⊥ (λ f. IsFront f has_psks r ts xs known)
       × (new ≡ after_steps after has_psks r 0 ts xs old)

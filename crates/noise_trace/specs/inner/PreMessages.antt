@@ -4,8 +4,6 @@ use Rattle.noise_names.specs.declared.token.Token.{Token}
 use Rattle.noise_names.specs.declared.token.Token.TheVariants.{E, S}
 use Rattle.noise_names.specs.declared.token.Role.{Role}
 use Rattle.noise_state.specs.declared.symmetric.SymmetricState.{SymmetricState}
-use Rattle.noise_state.specs.History.{History}
-use Rattle.noise_state.specs.Standing.{StateMatches}
 use Rattle.noise_handshake.specs.declared.remote.Remote.{Remote}
 use Rattle.noise_handshake.specs.Setup.{has_token}
 use Rattle.noise_handshake.specs.Party.{with_premessage}
@@ -17,7 +15,7 @@ abbrev pub HasKeysFor : Remote → List Token → Type 0
 HasKeysFor keys ts = (has_token E ts ≡ true → is_some keys.e ≡ true) × (has_token S ts ≡ true → is_some keys.s ≡ true)
 
 -- the state after these tokens, and their steps after the others
-abbrev pub Mixes : Bool → Role → Remote → List Token → History → SymmetricState → List StartStep → List StartStep
+abbrev pub Mixes : Bool → Role → Remote → List Token → SymmetricState → SymmetricState → List StartStep → List StartStep
     → Type 0
 Mixes has_psks party keys ts r state old new =
-    StateMatches state (with_premessage has_psks keys ts r) × (new ≡ old ++ key_steps has_psks party keys ts r)
+    (state ≡ with_premessage has_psks keys ts r) × (new ≡ old ++ key_steps has_psks party keys ts r)

@@ -5,7 +5,7 @@ use Rattle.noise_state.specs.declared.symmetric.SymmetricState.{SymmetricState}
 use Rattle.noise_trace.specs.declared.step.Part.TheVariants as part
 use Rattle.noise_trace.specs.declared.step.Step.{Step}
 use Rattle.noise_trace.specs.declared.step_list.StepList.{StepList}
-use Rattle.noise_trace.specs.Values.{state_values}
+use Rattle.noise_trace.specs.Values.{values_of}
 
 -- with one step more, where there is room
 abbrev pub with_step : StepList → Step → StepList
@@ -15,4 +15,4 @@ with_step list step =
 -- with that of a token
 abbrev pub with_token : StepList → Token → ℕ → ℕ → SymmetricState → StepList
 with_token list t from to state =
-    with_step list (record { part = part.Token t; from = from; to = to; state = state_values state })
+    with_step list (record { part = part.Token t; from = from; to = to; state = values_of state })

@@ -14,7 +14,7 @@ returns c =
     let w : Party = with_dh_results f.party_too f.handed_in_too in
     let there = f.facing.there in
     let same = (c.outgoing_is_incoming.ensures (transport_of v i) (transport_of w i) (ap (λ (z : Party). z.role) there)
-    (ap (λ (z : Party). z.history) there) refl (ap (λ (z : Party). is_one_way z.pattern) there)).0 in
+    (ap (λ (z : Party). z.state) there) refl (ap (λ (z : Party). is_one_way z.pattern) there)).0 in
     record {
       sent = all-sent (transport_of v i) c.args.text.now _ c.args.out.now.items c.read_after_finish.new.out.items c.in_ok-whole.whole
           (c.in-Some-write_stream.ensures.1 f.pattern v f.stands)

@@ -1,5 +1,5 @@
 use Rattle.std.proofs.Common.{rules, ◌<◌, List, length, take, sym, ap, subst, refl, arith, length-take}
-use Rattle.noise_handshake.proofs.Common.{reader_of, count_by, Token, is_psk, StateMatches, keyed, SymmetricState, Reader, tokens_of, ArePlaced, StopsKnowing}
+use Rattle.noise_handshake.proofs.Common.{reader_of, count_by, Token, is_psk, keyed, SymmetricState, Reader, tokens_of, ArePlaced, StopsKnowing}
 use Rattle.noise_handshake.proofs.Fronts.{tokens-take, placed-take, stops-all}
 use Rattle.noise_handshake.proofs.Layouts.{length-tokens_of}
 use Rattle.noise_handshake.proofs.reader.read_before.Goals as goal
@@ -23,16 +23,17 @@ pub overflow_cast-result : goal.overflow_cast-result
 overflow_cast-result g c = search (rules, tokens-take, length-take, length-tokens_of)
 
 pub returns-in-Ok : goal.returns-in-Ok
-returns-in-Ok g c = record { read = λ r s. search (rules, placed-take, tokens-take) }
+returns-in-Ok g c = record { read = search (rules, placed-take, tokens-take) }
 
 pub returns-in-Err : goal.returns-in-Err
 returns-in-Err g c = record {
-  read = λ r s.
+  read =
       let v : Reader = reader_of g.K.Keys.pairs c.args.means.now in
-      let trial : StateMatches c.for_trial-trial.result r = subst (λ (z : SymmetricState). StateMatches z r) (sym c.for_trial-trial.ensures) s in
+      let r : SymmetricState = c.args.state.now in
       let placed : ArePlaced c.args.means.now.has_psks (keyed c.for_trial-trial.result) 0 (take c.args.k c.args.placed.now) =
       search (rules, placed-take) in
-      let i = c.in-Err.ensures.read r 0 trial (omega arith) placed in
+      let i = subst (λ (z : SymmetricState). StopsKnowing v c.args.known.now c.args.psks.now z (tokens_of (take c.args.k c.args.placed.now))
+      c.args.message.now c.in-Err.token c.in-Err.cause c.read_tokens.new.known) c.for_trial-trial.ensures (c.in-Err.ensures.read 0 (omega arith) placed) in
       let ts : List Token = tokens_of c.args.placed.now in
       let e = tokens-take c.args.placed.now c.args.k in
       let short = subst (λ (us : List Token). StopsKnowing v c.args.known.now c.args.psks.now r us c.args.message.now c.in-Err.token c.in-Err.cause

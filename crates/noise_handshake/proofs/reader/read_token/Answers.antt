@@ -1,20 +1,20 @@
-use Rattle.std.proofs.Common.{◌≡◌, ◌∙◌, [], get_or, sym, ap, subst}
-use Rattle.noise_handshake.proofs.Common.{reader_of, SymmetricState, mix_key_and_hash, StateMatches, OnOk, Token, S, keying_of, keying_after}
+use Rattle.std.proofs.Common.{◌≡◌, [], get_or, sym, subst}
+use Rattle.noise_handshake.proofs.Common.{reader_of, OnOk, Token, S, keying_of, keying_after}
 use Rattle.noise_handshake.proofs.Psks.{first_psk-read, psk-read, read-as}
 use Rattle.noise_handshake.proofs.reader.read_token.Goals as goal
 
 pub returns-in-Psk-clause-read : goal.returns-in-Psk-clause-read
-returns-in-Psk-clause-read g c r s =
-    psk-read StateMatches c.mix_key_and_hash.new.self
+returns-in-Psk-clause-read g c =
+    psk-read c.mix_key_and_hash.new.self
     (reader_of g.K.Keys.pairs c.args.means.now)
-    c.args.known.now c.args.psks.now r c.args.placed.token c.args.message.now (get_or c.args.psks.now 0 [])
-    c.in-Psk.is (first_psk-read c.args.psks.now) (c.mix_key_and_hash.ensures ∙ ap (λ (z : SymmetricState). mix_key_and_hash z (get_or c.args.psks.now 0 [])) s)
+    c.args.known.now c.args.psks.now c.args.state.now c.args.placed.token c.args.message.now (get_or c.args.psks.now 0 [])
+    c.in-Psk.is (first_psk-read c.args.psks.now) c.mix_key_and_hash.ensures
 
 pub returns-in-S-clause-read : goal.returns-in-S-clause-read
-returns-in-S-clause-read g c r s =
-    read-as StateMatches c.read_s.new.state
+returns-in-S-clause-read g c =
+    read-as c.read_s.new.state
     (reader_of g.K.Keys.pairs c.args.means.now)
-    c.args.known.now c.read_s.new.known c.args.psks.now r c.args.message.now c.read_s.result S c.args.placed.token c.in-S.is (c.read_s.ensures.read r s)
+    c.args.known.now c.read_s.new.known c.args.psks.now c.args.state.now c.args.message.now c.read_s.result S c.args.placed.token c.in-S.is c.read_s.ensures.read
 
 pub returns-in-S-clause-keying : goal.returns-in-S-clause-keying
 returns-in-S-clause-keying g c =

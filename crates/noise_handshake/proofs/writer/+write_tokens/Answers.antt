@@ -1,6 +1,8 @@
 use Rattle.std.proofs.Common.{rules, ◌≡◌, ap, sym, subst, ℕ, ◌+◌, ◌-◌, ◌≤◌, List, ◌∷◌, length, take, drop, ◌∙◌, arith, length-take, length-drop}
 use Rattle.std.specs.Prelude.{Bool}
-use Rattle.noise_handshake.proofs.Common.{writer_of, StateMatches, keyed, Token, History, PlacedToken, ArePlaced, token_bytes, after_token, Writer, tokens_of}
+use Rattle.noise_handshake.proofs.Common.{Ok, writer_of, keyed, Token, SymmetricState, PlacedToken, ArePlaced, token_bytes, Writer, tokens_of}
+use Rattle.noise_handshake.specs.inner.Stepping.{TellsGiven}
+use Rattle.noise_handshake.specs.inner.Writing.{WritesTokens}
 use Rattle.noise_handshake.proofs.Giving.{widths, given-on, front-on, after-on, lacks-on}
 use Rattle.noise_handshake.proofs.Layouts.{first-placed}
 use Rattle.noise_handshake.proofs.Told.{before-written, told-one, width-written}
@@ -11,7 +13,8 @@ pub returns-in-Ok-clause-beyond : goal.returns-in-Ok-clause-beyond
 returns-in-Ok-clause-beyond g t c = search (rules, widths, length-take, length-drop, rest-after)
 
 pub returns-in-Ok-clause-written : goal.returns-in-Ok-clause-written
-returns-in-Ok-clause-written g t c r s =
+returns-in-Ok-clause-written g t c =
+    let r : SymmetricState = c.args.state.now in
     let w : Writer = writer_of g.K.Keys.pairs c.args.means.now in
     let n : ℕ = c.in-Some-write_token.n in
     let k : ℕ = c.in-Ok.more in
@@ -26,29 +29,29 @@ returns-in-Ok-clause-written g t c r s =
     let known = c.args.known.now in
     let psks : List (List ℕ) = c.args.psks.now in
     let others : List (List ℕ) = c.psks_after-others.result.now in
-    let a = c.in-Some-write_token.ensures.written r s in
-    let next : History = after_token c.args.means.now.has_psks r token a.0 in
-    let b = c.in-Ok.ensures.written next a.3 in (
+    let a = c.in-Some-write_token.ensures.written in
+    let b = subst (λ (z : SymmetricState). WritesTokens w z c.write_tokens.new.state known others later c.write_tokens.new.out (Ok k)) a.3 c.in-Ok.ensures.written in (
       a.0 ∷ b.0,
       given-on w known psks others r (tokens_of c.args.placed.now) later token a.0 split a.1 c.psks_after-others.ensures.value b.0 b.1,
       joined c.write_token.new.out c.write_tokens.new.out n k fits long (drop (length c.write_token.new.out - n) (drop n c.write_token.new.out))
           ∙ front-on w known psks others r (tokens_of c.args.placed.now) later token a.0 split a.1 c.psks_after-others.ensures.value b.0
           (take n c.write_token.new.out) (take k c.write_tokens.new.out) a.2 b.2,
-      after-on w known psks others r (tokens_of c.args.placed.now) later token a.0 split a.1 c.psks_after-others.ensures.value StateMatches
+      after-on w known psks others r (tokens_of c.args.placed.now) later token a.0 split a.1 c.psks_after-others.ensures.value
           c.write_tokens.new.state b.0 b.3,
     )
 
 pub returns-in-Err-clause-written : goal.returns-in-Err-clause-written
-returns-in-Err-clause-written g t c r s =
+returns-in-Err-clause-written g t c =
+    let r : SymmetricState = c.args.state.now in
     let w : Writer = writer_of g.K.Keys.pairs c.args.means.now in
     let token : Token = c.in-Some.first.now.token in
-    let a = c.in-Some-write_token.ensures.written r s in
-    let next : History = after_token c.args.means.now.has_psks r token a.0 in
+    let a = c.in-Some-write_token.ensures.written in
     lacks-on w c.args.known.now c.args.psks.now c.psks_after-others.result.now r (tokens_of c.args.placed.now) (tokens_of c.in-Some.later.now) token a.0
-    (ap tokens_of c.in-Some.ensures.cases.0) a.1 c.psks_after-others.ensures.value c.in-Err.k (c.in-Err.ensures.written next a.3)
+    (ap tokens_of c.in-Some.ensures.cases.0) a.1 c.psks_after-others.ensures.value c.in-Err.k c.in-Err.ensures.written
 
 pub returns-in-Err-clause-told : goal.returns-in-Err-clause-told
-returns-in-Err-clause-told g t c r place s are =
+returns-in-Err-clause-told g t c place are =
+    let r : SymmetricState = c.args.state.now in
     let w : Writer = writer_of g.K.Keys.pairs c.args.means.now in
     let has_psks : Bool = c.args.means.now.has_psks in
     let key : Bool = keyed c.args.state.now in
@@ -58,9 +61,8 @@ returns-in-Err-clause-told g t c r place s are =
     let split = c.in-Some.ensures.cases.0 in
     let n : ℕ = c.in-Some-write_token.n in
     let p = first-placed has_psks key place c.args.placed.now first c.in-Some.later.now split are in
-    let a = c.in-Some-write_token.ensures.written r s in
+    let a = c.in-Some-write_token.ensures.written in
     let piece : List ℕ = token_bytes r token a.0 in
-    let next : History = after_token has_psks r token a.0 in
     let range : n ≤ length c.write_token.new.out = search rules in
     let wide : length piece ≡ n = width-written piece c.write_token.new.out n range a.2 in
     let told = told-one g.S.Steps.after has_psks r token a.0 place first.place n c.write_token.new.state c.args.steps.now c.step.new.self
@@ -69,4 +71,5 @@ returns-in-Err-clause-told g t c r place s are =
     let are2 = subst (λ (b : Bool). ArePlaced has_psks b (place + first.width) c.in-Some.later.now) (sym c.in-Some-write_token.ensures.keyed) p.2 in
     before-written g.S.Steps.after w c.args.known.now c.args.psks.now c.psks_after-others.result.now r (tokens_of c.args.placed.now) later token a.0
     place (place + first.width) c.args.steps.now c.step.new.self c.write_tokens.new.steps (ap tokens_of split) a.1 c.psks_after-others.ensures.value
-    (ap (λ (k : ℕ). place + k) (sym same ∙ sym wide)) told c.in-Err.k (c.in-Err.ensures.told next (place + first.width) a.3 are2)
+    (ap (λ (k : ℕ). place + k) (sym same ∙ sym wide)) told c.in-Err.k (subst (λ (z : SymmetricState). TellsGiven g.S.Steps.after w z c.args.known.now c.psks_after-others.result.now (take c.in-Err.k later)
+    (place + first.width) c.step.new.self c.write_tokens.new.steps) a.3 (c.in-Err.ensures.told (place + first.width) are2))

@@ -1,5 +1,5 @@
 use Rattle.std.proofs.Common.{rules, ◌∙◌}
-use Rattle.noise_theorems.proofs.Common.{Initiator, Responder, roles_and_payloads, HaveParts, end_after, history_of_lines}
+use Rattle.noise_theorems.proofs.Common.{Initiator, Responder, roles_and_payloads, HaveParts, end_after, state_of_lines}
 use Rattle.noise_duel.specs.SetUpAlike.{material_of}
 use Rattle.noise_theorems.proofs.Fit.{in-turn, none-left-ended_party}
 use Rattle.noise_theorems.proofs.HashReported.{hash-reported}
@@ -10,7 +10,7 @@ returns g c p s interval new fits dh_results =
     let lines = roles_and_payloads c.args.lines.now in
     let a = s.initiator in
     let b = s.responder in
-    let r = history_of_lines p s lines in
+    let r = state_of_lines p s lines in
     let parts = c.alike_are_parts.ensures p a.prologue a b new.valid new.alike new.initiator_keys new.responder_keys dh_results in
     let have : HaveParts (material_of a b) p a.prologue a b = record {
       pattern = new.pattern;

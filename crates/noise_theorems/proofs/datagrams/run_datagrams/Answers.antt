@@ -13,7 +13,7 @@ pub returns : goal.returns
 returns g c =
     let ended_party : (p : Plan) (a b : Start) (i j : ℕ) (opening : List Event) (notes : List (Role × Note)) (d : Sides)
     → Run (sides_at_start p a b i j) opening notes d
-    → DuelMatches g.A.Keys.pairs g.B.Keys.pairs c.args.duel d → HaveOneHistory d
+    → DuelMatches g.A.Keys.pairs g.B.Keys.pairs c.args.duel d → HaveOneHistory p a b d
     → DatagramsOverNetwork (datagrams_of d.initiator.state.party c.args.window) (datagrams_of d.responder.state.party c.args.window)
     (datagram_events_of c.args.events.now) c.in_ok-made.made.0 c.in_ok-made.made.1 = λ p a b i j opening notes d run matches one.
     (let v : DatagramState = datagrams_of d.initiator.state.party c.args.window in

@@ -4,11 +4,11 @@ use Rattle.noise_tool.proofs.KeyUseLemmas.{six-others, unwritten-shown, withheld
 use Rattle.noise_tool.proofs.traced_end.unsent_use.Goals as goal
 
 pub returns-in-Agreement : goal.returns-in-Agreement
-returns-in-Agreement c = λ s next payload note w follows reported.
+returns-in-Agreement c = λ s payload next note w follows reported.
     withheld-shown c.args.end.now (c.end_is_followed.ensures.ended c.args.end.now) c.withheld.result c.in-Agreement.token c.withheld.ensures
-    s next payload note w follows (sym (ap (λ (f : SendFault). WriteFault f) c.in-Agreement.is) ∙ reported)
+    s payload next note w follows (sym (ap (λ (f : SendFault). WriteFault f) c.in-Agreement.is) ∙ reported)
 
 pub returns-in-NotYourTurn : goal.returns-in-NotYourTurn
-returns-in-NotYourTurn c = λ s next payload note w follows reported.
+returns-in-NotYourTurn c = λ s payload next note w follows reported.
     unwritten-shown c.args.end.now (c.end_is_followed.ensures.ended c.args.end.now) c.args.fault (six-others c.args.fault c.in-NotYourTurn.is)
-    s next payload note w follows reported
+    s payload next note w follows reported

@@ -4,14 +4,14 @@ use Rattle.noise_tool.proofs.KeyUseLemmas.{neither-written, wrote-shown}
 use Rattle.noise_tool.proofs.traced_end.written_use.Goals as goal
 
 pub returns-in-Wrote : goal.returns-in-Wrote
-returns-in-Wrote c = λ s next payload note w follows reported is.
+returns-in-Wrote c = λ s payload next note w follows reported is.
     wrote-shown c.args.end.now c.wrote.new.self c.wrote.result c.args.message.now c.in-Wrote.field-0 c.wrote.ensures.handshake c.wrote.ensures.transport
-    s next payload note w follows (sym (ap note_of c.in-Wrote.is) ∙ reported) is
+    s payload next note w follows (sym (ap note_of c.in-Wrote.is) ∙ reported) is
 
 pub returns-in-WriteFault : goal.returns-in-WriteFault
-returns-in-WriteFault c = λ s next payload note w follows reported is.
-    c.unsent_use.ensures s next payload note w follows (sym (ap note_of c.in-WriteFault.is) ∙ reported)
+returns-in-WriteFault c = λ s payload next note w follows reported is.
+    c.unsent_use.ensures s payload next note w follows (sym (ap note_of c.in-WriteFault.is) ∙ reported)
 
 pub returns-in_default : goal.returns-in_default
-returns-in_default c = λ s next payload note w follows reported is.
-    absurd (neither-written c.args.entry.now c.in_default.not-Wrote c.in_default.not-WriteFault s next payload note w reported)
+returns-in_default c = λ s payload next note w follows reported is.
+    absurd (neither-written c.args.entry.now c.in_default.not-Wrote c.in_default.not-WriteFault s payload next note w reported)

@@ -1,11 +1,13 @@
-use Rattle.std.proofs.Common.{◌≡◌, ℕ, List, [], sym, ap, subst, ◌∙◌}
+use Rattle.std.proofs.Common.{◌≡◌, ℕ, List, [], ◌∷◌, ◌++◌, sym, ap, subst, ◌∙◌, arith, length}
 use Rattle.std.specs.Prelude.{None}
-use Rattle.noise_trace.proofs.Common.{Bool, not, Token, Initiator, Responder, Plan, has_psk, SymmetricState, History, MixHash, and_then, mix_hash, Remote, keys_of, public_keys, setup_fault, with_premessage}
+use Rattle.noise_trace.proofs.Common.{Bool, not, Token, Initiator, Responder, Plan, has_psk, pre_of, SymmetricState, mix_hash, Remote, keys_of, public_keys, setup_fault}
 use Rattle.noise_names.specs.Names.{name_bytes}
-use Rattle.noise_trace.specs.Start.{start_steps}
-use Rattle.noise_trace.specs.inner.PreMessages.{HasKeysFor}
-use Rattle.noise_trace.proofs.PreMessages.{flips, has-keys, made-is, in-turn}
+use Rattle.noise_trace.specs.Start.{start_step, start_steps}
+use Rattle.noise_trace.specs.inner.PreMessages.{HasKeysFor, Mixes}
+use Rattle.noise_trace.proofs.PreMessages.{few-keys, flips, has-keys, made-is, in-turn}
 use Rattle.noise_trace.proofs.start.start_steps.Goals as goal
+use Rattle.noise_state.specs.Symmetric.{initialize}
+use Rattle.noise_trace.specs.declared.start_step.StartPart.TheVariants as part
 
 pub returns : goal.returns
 returns g c n none =
@@ -33,17 +35,36 @@ returns g c n none =
     let remote = c.setup_is_whole.ensures.remote p c.args.role own known n fault in
     let ki = has-keys p own known (c.tokens_match.ensures.before p) Initiator c.args.role whole remote in
     let kr = has-keys p own known (c.tokens_match.ensures.before p) Responder c.args.role whole remote in
-    let r0 : History = record { name = name; entries = [] } in
-    let r1 : History = and_then r0 (MixHash prologue) in
+    let r0 : SymmetricState = initialize name in
+    let r1 : SymmetricState = mix_hash r0 prologue in
     let s0 = c.new-state.ensures in
     let s1 = c.mix_hash.ensures ∙ ap (λ (z : SymmetricState). mix_hash z prologue) s0 in
-    let a = c.mix_keys.ensures.mixed r1 s1
-    (subst (λ (z : Remote). HasKeysFor z first) (sym ei) (subst (λ (ts : List Token). HasKeysFor (keys_of Initiator c.args.role ours known) ts) (sym c.pre-first.ensures.value) ki)) in
-    let d = c.mix_keys-2.ensures.mixed (with_premessage b initiator first r1) a.0
-    (subst (λ (z : Remote). HasKeysFor z second) (sym er) (subst (λ (ts : List Token). HasKeysFor (keys_of Responder c.args.role ours known) ts) (sym c.pre-second.ensures.value) kr)) in
+    let a = subst (λ (z : SymmetricState). Mixes b Initiator initiator first z c.mix_keys.new.state c.add_step-2.new.steps.items c.mix_keys.new.steps.items) s1
+    (c.mix_keys.ensures.mixed (subst (λ (z : Remote). HasKeysFor z first) (sym ei) (subst (λ (ts : List Token). HasKeysFor (keys_of Initiator c.args.role ours known) ts) (sym c.pre-first.ensures.value) ki))) in
+    let d = subst (λ (z : SymmetricState). Mixes b Responder responder second z c.mix_keys-2.new.state c.mix_keys.new.steps.items c.mix_keys-2.new.steps.items)
+    a.0 (c.mix_keys-2.ensures.mixed (subst (λ (z : Remote). HasKeysFor z second) (sym er) (subst (λ (ts : List Token). HasKeysFor (keys_of Responder c.args.role ours known) ts) (sym c.pre-second.ensures.value) kr))) in
     let all : c.mix_keys-2.new.steps.items ≡ start_steps p c.args.role prologue ours known =
     in-turn b first second name prologue initiator responder c.new-steps.result.items c.add_step.new.steps.items c.add_step-2.new.steps.items
-    c.mix_keys.new.steps.items c.mix_keys-2.new.steps.items c.new-steps.ensures (c.add_step.ensures.after r0 s0) (c.add_step-2.ensures.after r1 s1) a.1 d.1
+    c.mix_keys.new.steps.items c.mix_keys-2.new.steps.items c.new-steps.ensures
+    (c.add_step.ensures.after ∙ ap (λ (z : SymmetricState). c.new-steps.result.items ++ start_step part.Name z ∷ []) s0)
+    (c.add_step-2.ensures.after ∙ ap (λ (z : SymmetricState). c.add_step.new.steps.items ++ start_step part.Prologue z ∷ []) s1) a.1 d.1
     ∙ made-is p b first second name prologue initiator responder (keys_of Initiator c.args.role ours known) (keys_of Responder c.args.role ours known)
     has_psks c.pre-first.ensures.value c.pre-second.ensures.value named ei er in
     subst (λ (z : Plan). c.mix_keys-2.new.steps.items ≡ start_steps z c.args.role prologue ours known) same all
+
+pub mix_keys-requires-2 : goal.mix_keys-requires-2
+mix_keys-requires-2 g c = record {
+  room =
+      let p : Plan = c.pattern-plan.result.now in
+      omega (
+        arith,
+        ap length c.new-steps.ensures,
+        c.add_step.ensures.len,
+        c.add_step-2.ensures.len,
+        c.mix_keys.ensures.many,
+        ap length c.pre-first.ensures.value,
+        few-keys (pre_of Initiator p) c.pre-first.ensures.kinds,
+        ap length c.pre-second.ensures.value,
+        few-keys (pre_of Responder p) c.pre-second.ensures.kinds,
+      );
+}

@@ -1,5 +1,6 @@
-use Rattle.std.proofs.Common.{rules, ◌≡◌, ◌<◌, ◌∙◌, ℕ, List, length, slice_range, refl, ap, sym, subst, arith}
-use Rattle.noise_handshake.proofs.Common.{SymmetricState, StateMatches, PlacedToken, HandshakeValue, ValueMatches, Advances, after_message, after_payload, remote_after, tokens_of, keying_of}
+use Rattle.std.proofs.Common.{rules, ◌≡◌, ◌<◌, ◌∙◌, ℕ, List, length, slice_range, refl, ap, sym, subst, arith, take, drop, ◌-◌}
+use Rattle.noise_handshake.proofs.Common.{SymmetricState, PlacedToken, HandshakeValue, ValueMatches, Advances, after_message, after_payload, remote_after, tokens_of, keying_of, Ok, reader_of, StopsKnowing}
+use Rattle.noise_handshake.specs.inner.Reading.{ReadsMessage}
 use Rattle.noise_handshake.specs.inner.Keying.{keying_after_message}
 use Rattle.noise_handshake.proofs.Advancing.{unended-read}
 use Rattle.noise_handshake.proofs.Followed.{gone-advances, gone-to, leaves-read}
@@ -52,12 +53,13 @@ returns-in-Ok-clause-reads g c v s =
     let less = reads-next g.K.Keys.pairs c.self.inside c.self.invariant c.args.self.now c.self.view_is c.requires.due in
     let l = listening-next g.K.Keys.pairs c.self.inside c.self.invariant less c.deref-2.result.now c.deref-2.ensures.0 c.args.self.now c.self.view_is v s
     c.deref.result.now c.deref.ensures.0 c.requires.due in
-    let q = c.in-Ok.ensures.read v.history
-    (trial-next g.K.Keys.pairs c.self.inside c.self.invariant less c.deref-2.result.now c.deref-2.ensures.0 c.args.self.now c.self.view_is v s c.for_trial-state.result c.for_trial-state.ensures) in
+    let q = subst (λ (z : SymmetricState). ReadsMessage (reader_of P a.means) z c.read_message.new.state a.remote c.read_message.new.known
+    (take (length c.deref.result.now - c.self.inside.used) (drop c.self.inside.used c.deref.result.now)) (tokens_of c.deref-2.result.now) c.args.message.now c.read_message.new.message (Ok c.in-Ok.place))
+    (trial-next g.K.Keys.pairs c.self.inside c.self.invariant less c.deref-2.result.now c.deref-2.ensures.0 c.args.self.now c.self.view_is v s c.for_trial-state.result c.for_trial-state.ensures) c.in-Ok.ensures.read in
     let h = c.args.self.now in
     let payload : List ℕ = slice_range c.read_message.new.message c.in-Ok.place.0 c.in-Ok.place.1 in
     let left = for-view v a.means.role a.means.has_psks (P a.means.keys).agree _ a.remote _ l
-    (λ w z s us. StateMatches c.read_message.new.state (after_payload w.has_psks v.history us q.0 payload) × (c.read_message.new.known ≡ remote_after z us q.0))
+    (λ w z s us. (c.read_message.new.state ≡ after_payload w.has_psks v.state us q.0 payload) × (c.read_message.new.known ≡ remote_after z us q.0))
     (q.2, q.3) in (
       q.0,
       accepted v a.means.role a.means.has_psks (P a.means.keys).agree _ a.remote _ l c.args.message.now q.0 _ c.requires.fits q.1,
@@ -72,10 +74,11 @@ returns-in-Err-clause-reads g c v s =
     let less = reads-next g.K.Keys.pairs c.self.inside c.self.invariant c.args.self.now c.self.view_is c.requires.due in
     let l = listening-next g.K.Keys.pairs c.self.inside c.self.invariant less c.deref-2.result.now c.deref-2.ensures.0 c.args.self.now c.self.view_is v s
     c.deref.result.now c.deref.ensures.0 c.requires.due in
-    let q = c.in-Err.ensures.read v.history
-    (trial-next g.K.Keys.pairs c.self.inside c.self.invariant less c.deref-2.result.now c.deref-2.ensures.0 c.args.self.now c.self.view_is v s c.for_trial-state.result c.for_trial-state.ensures) in (
+    let q = subst (λ (z : SymmetricState). StopsKnowing (reader_of P a.means) a.remote (take (length c.deref.result.now - c.self.inside.used) (drop c.self.inside.used c.deref.result.now)) z (tokens_of c.deref-2.result.now)
+    c.args.message.now c.in-Err.token c.in-Err.cause c.read_message.new.known)
+    (trial-next g.K.Keys.pairs c.self.inside c.self.invariant less c.deref-2.result.now c.deref-2.ensures.0 c.args.self.now c.self.view_is v s c.for_trial-state.result c.for_trial-state.ensures) c.in-Err.ensures.read in (
       refused v a.means.role a.means.has_psks (P a.means.keys).agree _ a.remote _ l c.args.message.now _ _ q.0,
       wants v c.args.message.now c.lacked.result a.means.role a.means.has_psks (P a.means.keys).agree _ a.remote _ l
-          (c.lacked.ensures (record { role = a.means.role; has_psks = a.means.has_psks; agree = (P a.means.keys).agree }) a.remote _ v.history c.args.message.now refl
+          (c.lacked.ensures (record { role = a.means.role; has_psks = a.means.has_psks; agree = (P a.means.keys).agree }) a.remote _ v.state c.args.message.now refl
           (known-next g.K.Keys.pairs c.self.inside c.self.invariant less c.deref-2.result.now c.deref-2.ensures.0) q),
     )

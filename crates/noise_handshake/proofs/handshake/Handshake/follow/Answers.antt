@@ -19,8 +19,8 @@ returns-in_default-clause-accepted g c v xs payload s a =
     let ts : List Token = tokens_now v in
     let b : Bool = has_psk v.pattern in
     let m : List ℕ = c.args.message.now in
-    let piece : List ℕ = before_payload b v.history ts xs in
-    let last : List ℕ = ciphertext (after_tokens b v.history ts xs) payload in
+    let piece : List ℕ = before_payload b v.state ts xs in
+    let last : List ℕ = ciphertext (after_tokens b v.state ts xs) payload in
     let spelled : m ≡ piece ++ last = a.reads.spelled in
     let less = less-now P c.args.self.now v s a.listens.more in
     let inside = subst (λ (z : HandshakeValue g.row.K.Denot). z.passed < length z.pattern.messages) (sym c.self.view_is) less in
@@ -28,8 +28,8 @@ returns-in_default-clause-accepted g c v xs payload s a =
     count-now P c.self.inside c.self.invariant inside c.args.self.now c.self.view_is v (value-of P c.args.self.now v s) in
     let count : c.len-count.result ≤ length ts = omega (arith, n, c.len-count.ensures.value) in
     let whole : take c.len-count.result ts ≡ ts = take_all c.len-count.result ts (omega (arith, n, c.len-count.ensures.value)) in
-    let begins : BeginsAs (reader v) v.remote v.psks v.history (take c.len-count.result ts) xs m last =
-    subst (λ (us : List Token). BeginsAs (reader v) v.remote v.psks v.history us xs m last) (sym whole)
+    let begins : BeginsAs (reader v) v.remote v.psks v.state (take c.len-count.result ts) xs m last =
+    subst (λ (us : List Token). BeginsAs (reader v) v.remote v.psks v.state us xs m last) (sym whole)
     (record { fit = a.reads.fit; spelled = spelled }) in
     let q0 = c.in_default.ensures.read v xs last s a.listens count begins in
     absurd q0.0
@@ -40,8 +40,8 @@ returns-then-from-message-clause-accepted g c v xs payload s a =
     let ts : List Token = tokens_now v in
     let b : Bool = has_psk v.pattern in
     let m : List ℕ = c.args.message.now in
-    let piece : List ℕ = before_payload b v.history ts xs in
-    let last : List ℕ = ciphertext (after_tokens b v.history ts xs) payload in
+    let piece : List ℕ = before_payload b v.state ts xs in
+    let last : List ℕ = ciphertext (after_tokens b v.state ts xs) payload in
     let spelled : m ≡ piece ++ last = a.reads.spelled in
     let less = less-now P c.args.self.now v s a.listens.more in
     let inside = subst (λ (z : HandshakeValue g.row.K.Denot). z.passed < length z.pattern.messages) (sym c.self.view_is) less in
@@ -49,11 +49,11 @@ returns-then-from-message-clause-accepted g c v xs payload s a =
     count-now P c.self.inside c.self.invariant inside c.args.self.now c.self.view_is v (value-of P c.args.self.now v s) in
     let count : c.len-count.result ≤ length ts = omega (arith, n, c.len-count.ensures.value) in
     let whole : take c.len-count.result ts ≡ ts = take_all c.len-count.result ts (omega (arith, n, c.len-count.ensures.value)) in
-    let begins : BeginsAs (reader v) v.remote v.psks v.history (take c.len-count.result ts) xs m last =
-    subst (λ (us : List Token). BeginsAs (reader v) v.remote v.psks v.history us xs m last) (sym whole)
+    let begins : BeginsAs (reader v) v.remote v.psks v.state (take c.len-count.result ts) xs m last =
+    subst (λ (us : List Token). BeginsAs (reader v) v.remote v.psks v.state us xs m last) (sym whole)
     (record { fit = a.reads.fit; spelled = spelled }) in
     let q0 = c.in-Some.ensures.read v xs last s a.listens count begins in
-    let from : c.in-Some.front.from ≡ length piece = q0.0.from ∙ ap (λ (us : List Token). length (before_payload b v.history us xs)) whole in
+    let from : c.in-Some.front.from ≡ length piece = q0.0.from ∙ ap (λ (us : List Token). length (before_payload b v.state us xs)) whole in
     absurd (omega (arith, c.if-from-message.true, from, ap length spelled, length-append piece last))
 
 pub returns-clause-accepted : goal.returns-clause-accepted
@@ -62,8 +62,8 @@ returns-clause-accepted g c v xs payload s a =
     let ts : List Token = tokens_now v in
     let b : Bool = has_psk v.pattern in
     let m : List ℕ = c.args.message.now in
-    let piece : List ℕ = before_payload b v.history ts xs in
-    let last : List ℕ = ciphertext (after_tokens b v.history ts xs) payload in
+    let piece : List ℕ = before_payload b v.state ts xs in
+    let last : List ℕ = ciphertext (after_tokens b v.state ts xs) payload in
     let spelled : m ≡ piece ++ last = a.reads.spelled in
     let less = less-now P c.args.self.now v s a.listens.more in
     let inside = subst (λ (z : HandshakeValue g.row.K.Denot). z.passed < length z.pattern.messages) (sym c.self.view_is) less in
@@ -71,12 +71,12 @@ returns-clause-accepted g c v xs payload s a =
     count-now P c.self.inside c.self.invariant inside c.args.self.now c.self.view_is v (value-of P c.args.self.now v s) in
     let count : c.len-count.result ≤ length ts = omega (arith, n, c.len-count.ensures.value) in
     let whole : take c.len-count.result ts ≡ ts = take_all c.len-count.result ts (omega (arith, n, c.len-count.ensures.value)) in
-    let begins : BeginsAs (reader v) v.remote v.psks v.history (take c.len-count.result ts) xs m last =
-    subst (λ (us : List Token). BeginsAs (reader v) v.remote v.psks v.history us xs m last) (sym whole)
+    let begins : BeginsAs (reader v) v.remote v.psks v.state (take c.len-count.result ts) xs m last =
+    subst (λ (us : List Token). BeginsAs (reader v) v.remote v.psks v.state us xs m last) (sym whole)
     (record { fit = a.reads.fit; spelled = spelled }) in
     let q0 = c.in-Some.ensures.read v xs last s a.listens count begins in
-    let q = subst (λ (us : List Token). IsFront c.in-Some.front b v.history us xs (remote_after v.remote us xs)
-    × (c.front.new.steps ≡ after_steps g.S.Steps.after b v.history 0 us xs c.args.steps.now)) whole q0 in
+    let q = subst (λ (us : List Token). IsFront c.in-Some.front b v.state us xs (remote_after v.remote us xs)
+    × (c.front.new.steps ≡ after_steps g.S.Steps.after b v.state 0 us xs c.args.steps.now)) whole q0 in
     let from : ℕ = c.in-Some.front.from in
     let rest : take (length m - from) (drop from m) ≡ drop from m = take_all (length m - from) (drop from m) (omega (arith, length-drop from m)) in
     let mixed : c.mix_ciphertext.new.state ≡ after_ciphertext c.in-Some.front.state (drop from m) =
@@ -93,8 +93,8 @@ returns-in_default-clause-written g c v xs payload s a =
     let ts : List Token = tokens_now v in
     let b : Bool = has_psk v.pattern in
     let m : List ℕ = c.args.message.now in
-    let piece : List ℕ = before_payload b v.history ts xs in
-    let last : List ℕ = ciphertext (after_tokens b v.history ts xs) payload in
+    let piece : List ℕ = before_payload b v.state ts xs in
+    let last : List ℕ = ciphertext (after_tokens b v.state ts xs) payload in
     let spelled : m ≡ piece ++ last = a.spelled in
     let less = less-now P c.args.self.now v s a.speaks.more in
     let inside = subst (λ (z : HandshakeValue g.row.K.Denot). z.passed < length z.pattern.messages) (sym c.self.view_is) less in
@@ -113,8 +113,8 @@ returns-then-from-message-clause-written g c v xs payload s a =
     let ts : List Token = tokens_now v in
     let b : Bool = has_psk v.pattern in
     let m : List ℕ = c.args.message.now in
-    let piece : List ℕ = before_payload b v.history ts xs in
-    let last : List ℕ = ciphertext (after_tokens b v.history ts xs) payload in
+    let piece : List ℕ = before_payload b v.state ts xs in
+    let last : List ℕ = ciphertext (after_tokens b v.state ts xs) payload in
     let spelled : m ≡ piece ++ last = a.spelled in
     let less = less-now P c.args.self.now v s a.speaks.more in
     let inside = subst (λ (z : HandshakeValue g.row.K.Denot). z.passed < length z.pattern.messages) (sym c.self.view_is) less in
@@ -125,7 +125,7 @@ returns-then-from-message-clause-written g c v xs payload s a =
     let given : Given (writer v) v.remote v.psks (take c.len-count.result ts) xs =
     subst (λ (us : List Token). Given (writer v) v.remote v.psks us xs) (sym whole) a.given in
     let q0 = c.in-Some.ensures.written v xs s a.speaks count given in
-    let from : c.in-Some.front.from ≡ length piece = q0.0.from ∙ ap (λ (us : List Token). length (before_payload b v.history us xs)) whole in
+    let from : c.in-Some.front.from ≡ length piece = q0.0.from ∙ ap (λ (us : List Token). length (before_payload b v.state us xs)) whole in
     absurd (omega (arith, c.if-from-message.true, from, ap length spelled, length-append piece last))
 
 pub returns-clause-written : goal.returns-clause-written
@@ -134,8 +134,8 @@ returns-clause-written g c v xs payload s a =
     let ts : List Token = tokens_now v in
     let b : Bool = has_psk v.pattern in
     let m : List ℕ = c.args.message.now in
-    let piece : List ℕ = before_payload b v.history ts xs in
-    let last : List ℕ = ciphertext (after_tokens b v.history ts xs) payload in
+    let piece : List ℕ = before_payload b v.state ts xs in
+    let last : List ℕ = ciphertext (after_tokens b v.state ts xs) payload in
     let spelled : m ≡ piece ++ last = a.spelled in
     let less = less-now P c.args.self.now v s a.speaks.more in
     let inside = subst (λ (z : HandshakeValue g.row.K.Denot). z.passed < length z.pattern.messages) (sym c.self.view_is) less in
@@ -146,8 +146,8 @@ returns-clause-written g c v xs payload s a =
     let given : Given (writer v) v.remote v.psks (take c.len-count.result ts) xs =
     subst (λ (us : List Token). Given (writer v) v.remote v.psks us xs) (sym whole) a.given in
     let q0 = c.in-Some.ensures.written v xs s a.speaks count given in
-    let q = subst (λ (us : List Token). IsFront c.in-Some.front b v.history us xs v.remote
-    × (c.front.new.steps ≡ after_steps g.S.Steps.after b v.history 0 us xs c.args.steps.now)) whole q0 in
+    let q = subst (λ (us : List Token). IsFront c.in-Some.front b v.state us xs v.remote
+    × (c.front.new.steps ≡ after_steps g.S.Steps.after b v.state 0 us xs c.args.steps.now)) whole q0 in
     let from : ℕ = c.in-Some.front.from in
     let rest : take (length m - from) (drop from m) ≡ drop from m = take_all (length m - from) (drop from m) (omega (arith, length-drop from m)) in
     let mixed : c.mix_ciphertext.new.state ≡ after_ciphertext c.in-Some.front.state (drop from m) =

@@ -1,5 +1,6 @@
-use Rattle.std.proofs.Common.{rules, ℕ, ◌<◌, ◌≤◌, length, refl, ap, sym, subst, arith}
-use Rattle.noise_handshake.proofs.Common.{MatchOption, MatchResult, Agreement, HandshakeValue, Stops, tokens_at, StopsFor, BeginsBefore}
+use Rattle.std.proofs.Common.{rules, ℕ, ◌<◌, ◌≤◌, length, refl, ap, sym, subst, arith, take, drop, ◌-◌}
+use Rattle.noise_handshake.proofs.Common.{MatchOption, MatchResult, Agreement, HandshakeValue, Stops, tokens_at, StopsFor, BeginsBefore, reader_of, SymmetricState, tokens_of}
+use Rattle.noise_handshake.specs.inner.Reading.{ReadsBefore}
 use Rattle.noise_handshake.proofs.Before.{before-of}
 use Rattle.noise_handshake.proofs.Layouts.{length-tokens_of}
 use Rattle.noise_handshake.proofs.Next.{reads-next, tokens-next, places-next, psks-before, nonces-next, known-next, trial-next, listening-next}
@@ -37,10 +38,11 @@ returns g c = record {
       c.deref.result.now c.deref.ensures.0 c.requires.due in
       let trial = trial-next g.K.Keys.pairs c.self.inside c.self.invariant less c.deref-2.result.now c.deref-2.ensures.0 c.args.self.now c.self.view_is v s a.state refl in
       let q = for-view v a.means.role a.means.has_psks (P a.means.keys).agree _ a.remote _ l
-      (λ w z s us. MatchResult c.read_before.result (λ remote. BeginsBefore w z s v.history us c.args.message.now c.args.k remote)
-      (λ stop. (stop.token < c.args.k) × Stops w z s v.history us c.args.message.now stop.token stop.cause × MatchOption stop.want
-      ((j : ℕ) → Stops w z s v.history us c.args.message.now j Agreement → ⊥)
-      (λ want. StopsFor w z s v.history us c.args.message.now want.0 want.1)))
-      (c.read_before.ensures.read v.history trial) in
+      (λ w z s us. MatchResult c.read_before.result (λ remote. BeginsBefore w z s v.state us c.args.message.now c.args.k remote)
+      (λ stop. (stop.token < c.args.k) × Stops w z s v.state us c.args.message.now stop.token stop.cause × MatchOption stop.want
+      ((j : ℕ) → Stops w z s v.state us c.args.message.now j Agreement → ⊥)
+      (λ want. StopsFor w z s v.state us c.args.message.now want.0 want.1)))
+      (subst (λ (z : SymmetricState). ReadsBefore (reader_of P a.means) z a.remote (take (length c.deref.result.now - c.self.inside.used) (drop c.self.inside.used c.deref.result.now)) (tokens_of c.deref-2.result.now) c.args.k
+      c.args.message.now c.read_before.result) trial c.read_before.ensures.read) in
       before-of v c.args.message.now c.args.k c.read_before.result l.listens q;
 }

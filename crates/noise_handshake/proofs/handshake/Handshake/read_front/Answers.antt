@@ -1,5 +1,7 @@
-use Rattle.std.proofs.Common.{◌≡◌, ◌+◌, ◌-◌, ◌<◌, ◌≤◌, ◌^◌, ℕ, Bool, List, length, take, ap, ◌∙◌, arith, length-take}
-use Rattle.noise_handshake.proofs.Common.{after_ciphertext, reader_of, count_by, is_psk, Some, Token, SymmetricState, StateMatches, keyed, nonce_now, Reader, BeginsAs, remote_after, ArePlaced, PlacedToken, tokens_of, tokens_at, Keying, keying_of}
+use Rattle.std.proofs.Common.{◌≡◌, ◌+◌, ◌-◌, ◌<◌, ◌≤◌, ◌^◌, ℕ, Bool, List, length, take, ap, ◌∙◌, arith, length-take, subst, drop}
+use Rattle.noise_handshake.proofs.Common.{after_ciphertext, reader_of, count_by, is_psk, Some, Token, SymmetricState, keyed, nonce_now, Reader, BeginsAs, remote_after, ArePlaced, PlacedToken, tokens_of, tokens_at, Keying, keying_of, Ok, StopsKnowing}
+use Rattle.noise_handshake.specs.inner.Reading.{ReadsTokens}
+use Rattle.noise_handshake.specs.inner.Stepping.{TellsFront}
 use Rattle.noise_handshake.specs.declared.following.Front.{Front}
 use Rattle.noise_handshake.specs.inner.Following.{Fronts}
 use Rattle.noise_handshake.specs.inner.Keying.{keying_after_tokens}
@@ -115,18 +117,21 @@ returns-in-Ok-clause-front g c v xs rest s within begins =
     placed-take a.means.has_psks (keyed c.for_trial-state.result) 0 ds count
     (places-next P a c.self.invariant less ds d c.for_trial-state.result c.for_trial-state.ensures) in
     let t = value-of P c.args.self.now v s in
-    let trial : StateMatches c.for_trial-state.result v.history =
+    let trial : c.for_trial-state.result ≡ v.state =
     trial-next P a c.self.invariant less ds d c.args.self.now c.self.view_is v t c.for_trial-state.result c.for_trial-state.ensures in
     let l = listening-next P a c.self.invariant less ds d c.args.self.now c.self.view_is v t c.deref.result.now c.deref.ensures.0 c.requires.due in
     let w : Reader = reader_of P a.means in
     let m : List ℕ = c.args.message.now in
     let f : Front = record { from = c.in-Ok.from; state = c.read_tokens.new.state; remote = c.read_tokens.new.known } in
     for-view v a.means.role a.means.has_psks (P a.means.keys).agree _ a.remote _ l
-    (λ w z s us. (ys : List (List ℕ)) (q : List ℕ) → BeginsAs w z s v.history (take count us) ys m q
-    → Fronts g.S.Steps.after (Some f) w.has_psks v.history (take count us) ys (remote_after z (take count us) ys) c.args.steps.now c.read_tokens.new.steps)
-    (front-read g.S.Steps.after v.history (tokens_of (take count ds)) (take count (tokens_of ds)) cut c.args.steps.now c.read_tokens.new.steps
+    (λ w z s us. (ys : List (List ℕ)) (q : List ℕ) → BeginsAs w z s v.state (take count us) ys m q
+    → Fronts g.S.Steps.after (Some f) w.has_psks v.state (take count us) ys (remote_after z (take count us) ys) c.args.steps.now c.read_tokens.new.steps)
+    (front-read g.S.Steps.after v.state (tokens_of (take count ds)) (take count (tokens_of ds)) cut c.args.steps.now c.read_tokens.new.steps
     w a.remote c.read_tokens.new.known _ m c.read_tokens.new.state c.in-Ok.from c.in-Ok.ensures.within
-    (c.in-Ok.ensures.read v.history 0 trial (omega arith) placed) (c.in-Ok.ensures.told v.history 0 trial (omega arith) placed)) xs rest begins
+    (subst (λ (z : SymmetricState). ReadsTokens w z c.read_tokens.new.state a.remote c.read_tokens.new.known (take (length c.deref.result.now - c.self.inside.used) (drop c.self.inside.used c.deref.result.now)) (tokens_of (take count ds)) m 0
+    (Ok c.in-Ok.from)) trial (c.in-Ok.ensures.read 0 (omega arith) placed))
+    (subst (λ (z : SymmetricState). TellsFront g.S.Steps.after w z a.remote (take (length c.deref.result.now - c.self.inside.used) (drop c.self.inside.used c.deref.result.now)) (tokens_of (take count ds)) m 0 c.args.steps.now
+    c.read_tokens.new.steps) trial (c.in-Ok.ensures.told 0 (omega arith) placed))) xs rest begins
 
 pub returns-in-Err-clause-front : goal.returns-in-Err-clause-front
 returns-in-Err-clause-front g c v xs rest s within begins =
@@ -141,13 +146,14 @@ returns-in-Err-clause-front g c v xs rest s within begins =
     placed-take a.means.has_psks (keyed c.for_trial-state.result) 0 ds count
     (places-next P a c.self.invariant less ds d c.for_trial-state.result c.for_trial-state.ensures) in
     let t = value-of P c.args.self.now v s in
-    let trial : StateMatches c.for_trial-state.result v.history =
+    let trial : c.for_trial-state.result ≡ v.state =
     trial-next P a c.self.invariant less ds d c.args.self.now c.self.view_is v t c.for_trial-state.result c.for_trial-state.ensures in
     let l = listening-next P a c.self.invariant less ds d c.args.self.now c.self.view_is v t c.deref.result.now c.deref.ensures.0 c.requires.due in
     let w : Reader = reader_of P a.means in
     let m : List ℕ = c.args.message.now in
     absurd (for-view v a.means.role a.means.has_psks (P a.means.keys).agree _ a.remote _ l
-    (λ w z s us. (ys : List (List ℕ)) (q : List ℕ) → BeginsAs w z s v.history (take count us) ys m q → ⊥)
-    (front-unread g.S.Steps.after v.history (tokens_of (take count ds)) (take count (tokens_of ds)) cut c.args.steps.now c.read_tokens.new.steps
+    (λ w z s us. (ys : List (List ℕ)) (q : List ℕ) → BeginsAs w z s v.state (take count us) ys m q → ⊥)
+    (front-unread g.S.Steps.after v.state (tokens_of (take count ds)) (take count (tokens_of ds)) cut c.args.steps.now c.read_tokens.new.steps
     w a.remote c.read_tokens.new.known _ m c.read_tokens.new.state _ c.in-Err.ensures.stop
-    (c.in-Err.ensures.read v.history 0 trial (omega arith) placed)) xs rest begins)
+    (subst (λ (z : SymmetricState). StopsKnowing w a.remote (take (length c.deref.result.now - c.self.inside.used) (drop c.self.inside.used c.deref.result.now)) z (tokens_of (take count ds)) m c.in-Err.field-0.0 c.in-Err.field-0.1
+    c.read_tokens.new.known) trial (c.in-Err.ensures.read 0 (omega arith) placed))) xs rest begins)

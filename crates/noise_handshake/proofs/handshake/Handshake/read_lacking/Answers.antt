@@ -1,4 +1,6 @@
-use Rattle.std.proofs.Common.{rules, refl}
+use Rattle.std.proofs.Common.{rules, refl, subst, take, drop, ◌-◌, length}
+use Rattle.noise_handshake.specs.inner.Listening.{ReaderWants}
+use Rattle.noise_handshake.proofs.Common.{reader_of, SymmetricState, tokens_of}
 use Rattle.noise_handshake.proofs.Next.{reads-next, places-next, psks-next, nonces-next, known-next, trial-next, listening-next}
 use Rattle.noise_handshake.proofs.Wanted.{wants}
 use Rattle.noise_handshake.proofs.handshake.Handshake.read_lacking.Goals as goal
@@ -26,5 +28,6 @@ returns g c = record {
       let l = listening-next g.K.Keys.pairs c.self.inside c.self.invariant less c.deref-2.result.now c.deref-2.ensures.0 c.args.self.now c.self.view_is v s
       c.deref.result.now c.deref.ensures.0 c.requires.due in
       let trial = trial-next g.K.Keys.pairs c.self.inside c.self.invariant less c.deref-2.result.now c.deref-2.ensures.0 c.args.self.now c.self.view_is v s a.state refl in
-      wants v c.args.message.now c.read_lacking.result a.means.role a.means.has_psks (P a.means.keys).agree _ a.remote _ l (c.read_lacking.ensures.wants v.history trial);
+      wants v c.args.message.now c.read_lacking.result a.means.role a.means.has_psks (P a.means.keys).agree _ a.remote _ l (subst (λ (z : SymmetricState). ReaderWants (reader_of P a.means) a.remote (take (length c.deref.result.now - c.self.inside.used) (drop c.self.inside.used c.deref.result.now)) z (tokens_of c.deref-2.result.now) c.args.message.now
+      c.read_lacking.result) trial c.read_lacking.ensures.wants);
 }

@@ -56,3 +56,6 @@ returns-in-Err-read_to_psk-clause-reads g c v later s =
 
 pub returns-in-Err-read_to_psk-clause-asked : goal.returns-in-Err-read_to_psk-clause-asked
 returns-in-Err-read_to_psk-clause-asked g c v later s remote x = let e = c.in-Err-read_to_psk.ensures.asked v later s remote x in absurd (cc)
+
+pub returns-in-Ok-read_to_psk-clause-reads : goal.returns-in-Ok-read_to_psk-clause-reads
+returns-in-Ok-read_to_psk-clause-reads g c v later s = (c.in-Ok-read_to_psk.ensures.wants v later s, s)

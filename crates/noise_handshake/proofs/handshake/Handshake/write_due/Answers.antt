@@ -1,5 +1,6 @@
-use Rattle.std.proofs.Common.{rules, ℕ, ◌+◌, ◌<◌, ◌≤◌, List, length, take, refl, ap, sym, subst, true, ◌∙◌, arith, length-take}
-use Rattle.noise_handshake.proofs.Common.{Some, Token, SymmetricState, StateMatches, keyed, nonce_now, keyed_after_tokens, nonce_after_message, PlacedToken, tokens_of, Advances, after_own, after_payload, HandshakeValue, ValueMatches, held_in}
+use Rattle.std.proofs.Common.{rules, ℕ, ◌+◌, ◌<◌, ◌≤◌, List, length, take, refl, ap, sym, subst, true, ◌∙◌, arith, length-take, drop, ◌-◌, ◌≡◌}
+use Rattle.noise_handshake.proofs.Common.{Some, Token, SymmetricState, keyed, nonce_now, keyed_after_tokens, nonce_after_message, PlacedToken, tokens_of, Advances, after_own, after_payload, HandshakeValue, ValueMatches, held_in, Ok, writer_of}
+use Rattle.noise_handshake.specs.inner.Writing.{WritesMessage}
 use Rattle.noise_handshake.proofs.Advancing.{unended-write}
 use Rattle.noise_handshake.proofs.Followed.{gone-advances, gone-to, leaves-wrote}
 use Rattle.noise_handshake.proofs.Layouts.{length-tokens_of}
@@ -88,9 +89,10 @@ returns-in-Ok-clause-writes g c v s =
     (length c.args.payload.now) c.requires.due c.deref-2.result.now c.deref-2.ensures.0 c.for_trial-state.result c.for_trial-state.ensures in
     let fits : length (take c.in-Ok.len c.write_message.new.out) ≤ 65535 =
     omega (arith, c.in-Ok.ensures.width, most, length-take c.in-Ok.len c.write_message.new.out) in
-    let q = c.in-Ok.ensures.written v.history trial in
+    let q = subst (λ (z : SymmetricState). WritesMessage (writer_of P a.means) z c.write_message.new.state a.remote (take (length c.deref.result.now - c.self.inside.used) (drop c.self.inside.used c.deref.result.now))
+    (tokens_of c.deref-2.result.now) c.args.payload.now c.write_message.new.out (Ok c.in-Ok.len)) trial c.in-Ok.ensures.written in
     let left = for-view v a.means.role a.means.has_psks (P a.means.keys).public (P a.means.keys).agree _ a.remote _ l
-    (λ w z s us. StateMatches c.write_message.new.state (after_payload w.has_psks v.history us q.0 c.args.payload.now)) q.3 in (
+    (λ w z s us. c.write_message.new.state ≡ after_payload w.has_psks v.state us q.0 c.args.payload.now) q.3 in (
       q.0,
       written v a.means.role a.means.has_psks (P a.means.keys).public (P a.means.keys).agree _ a.remote _ l c.args.payload.now q.0 (take c.in-Ok.len c.write_message.new.out) fits q.1 q.2,
       subst (λ (z : HandshakeValue g.row.K.Denot). ValueMatches P z (after_own v q.0 c.args.payload.now)) (sym c.go_on.ensures.value)
@@ -106,7 +108,7 @@ returns-in-Err-clause-writes g c v s =
     let l = speaking-next g.K.Keys.pairs c.self.inside c.self.invariant less c.deref-2.result.now c.deref-2.ensures.0 c.args.self.now c.self.view_is v s
     c.deref.result.now c.deref.ensures.0 (length c.args.payload.now) c.requires.due in
     let trial = trial-next g.K.Keys.pairs c.self.inside c.self.invariant less c.deref-2.result.now c.deref-2.ensures.0 c.args.self.now c.self.view_is v s c.for_trial-state.result c.for_trial-state.ensures in
-    let q = c.in-Err.ensures.written v.history trial in
+    let q = c.in-Err.ensures.written in
     let s0 : ValueMatches P (held_in a) v = subst (λ (z : HandshakeValue g.row.K.Denot). ValueMatches P z v) (sym c.self.view_is) s in (
       (
         short-next g.K.Keys.pairs c.self.inside c.self.invariant less c.deref-2.result.now c.deref-2.ensures.0 c.args.self.now c.self.view_is v s

@@ -1,5 +1,7 @@
-use Rattle.std.proofs.Common.{◌≡◌, ◌+◌, ◌-◌, ◌<◌, ◌≤◌, ◌^◌, ℕ, Bool, List, length, take, ap, sym, subst, ◌∙◌, arith, length-take}
-use Rattle.noise_handshake.proofs.Common.{after_ciphertext, writer_of, count_by, is_psk, IsTrue, list_all, Some, Token, SymmetricState, StateMatches, keyed, nonce_now, Writer, Given, keyed_after_tokens, nonce_after_tokens, has_own, ArePlaced, PlacedToken, tokens_of, tokens_at}
+use Rattle.std.proofs.Common.{◌≡◌, ◌+◌, ◌-◌, ◌<◌, ◌≤◌, ◌^◌, ℕ, Bool, List, length, take, ap, sym, subst, ◌∙◌, arith, length-take, drop}
+use Rattle.noise_handshake.proofs.Common.{after_ciphertext, writer_of, count_by, is_psk, IsTrue, list_all, Some, Token, SymmetricState, keyed, nonce_now, Writer, Given, keyed_after_tokens, nonce_after_tokens, has_own, ArePlaced, PlacedToken, tokens_of, tokens_at, Ok}
+use Rattle.noise_handshake.specs.inner.Writing.{WritesTokens}
+use Rattle.noise_handshake.specs.inner.Stepping.{TellsGiven}
 use Rattle.noise_handshake.specs.inner.Following.{Fronts}
 use Rattle.noise_handshake.proofs.Counting.{nonces-most}
 use Rattle.noise_handshake.proofs.Followed.{count-now, front_of, front-written, front-unwritten, leaves-wrote, whole-due, widths-most, wrote-mixed}
@@ -125,7 +127,7 @@ returns-in-Ok-clause-front g c v xs s within given =
     placed-take a.means.has_psks (keyed c.for_trial-state.result) 0 ds count
     (places-next P a c.self.invariant less ds d c.for_trial-state.result c.for_trial-state.ensures) in
     let t = value-of P c.args.self.now v s in
-    let trial : StateMatches c.for_trial-state.result v.history =
+    let trial : c.for_trial-state.result ≡ v.state =
     trial-next P a c.self.invariant less ds d c.args.self.now c.self.view_is v t c.for_trial-state.result c.for_trial-state.ensures in
     let l = due-next P a c.self.invariant less ds d c.args.self.now c.self.view_is v t c.deref.result.now c.deref.ensures.0 c.requires.due in
     let w : Writer = writer_of P a.means in
@@ -134,11 +136,14 @@ returns-in-Ok-clause-front g c v xs s within given =
     omega (arith, c.in-Ok.ensures.width, most, ap length cut, length-take count (tokens_of ds), length-tokens_of ds, c.deref-2.ensures.1) in
     for-view v a.means.role a.means.has_psks (P a.means.keys).public (P a.means.keys).agree _ a.remote _ l
     (λ w z s us. (ys : List (List ℕ)) → Given w z s (take count us) ys → Fronts g.S.Steps.after
-    (Some (front_of c.in-Ok.from c.write_tokens.new.state a.remote)) w.has_psks v.history (take count us) ys z
+    (Some (front_of c.in-Ok.from c.write_tokens.new.state a.remote)) w.has_psks v.state (take count us) ys z
     c.args.steps.now c.write_tokens.new.steps)
-    (front-written g.S.Steps.after v.history (tokens_of (take count ds)) (take count (tokens_of ds)) cut c.args.steps.now c.write_tokens.new.steps
+    (front-written g.S.Steps.after v.state (tokens_of (take count ds)) (take count (tokens_of ds)) cut c.args.steps.now c.write_tokens.new.steps
     w a.remote _ c.write_tokens.new.out c.write_tokens.new.state c.in-Ok.from room
-    (c.in-Ok.ensures.written v.history trial) (c.in-Ok.ensures.told v.history 0 trial placed)) xs given
+    (subst (λ (z : SymmetricState). WritesTokens w z c.write_tokens.new.state a.remote (take (length c.deref.result.now - c.self.inside.used) (drop c.self.inside.used c.deref.result.now)) (tokens_of (take count ds)) c.write_tokens.new.out
+    (Ok c.in-Ok.from)) trial c.in-Ok.ensures.written)
+    (subst (λ (z : SymmetricState). TellsGiven g.S.Steps.after w z a.remote (take (length c.deref.result.now - c.self.inside.used) (drop c.self.inside.used c.deref.result.now)) (tokens_of (take count ds)) 0 c.args.steps.now
+    c.write_tokens.new.steps) trial (c.in-Ok.ensures.told 0 placed))) xs given
 
 pub returns-in-Err-clause-front : goal.returns-in-Err-clause-front
 returns-in-Err-clause-front g c v xs s within given =
@@ -153,11 +158,11 @@ returns-in-Err-clause-front g c v xs s within given =
     placed-take a.means.has_psks (keyed c.for_trial-state.result) 0 ds count
     (places-next P a c.self.invariant less ds d c.for_trial-state.result c.for_trial-state.ensures) in
     let t = value-of P c.args.self.now v s in
-    let trial : StateMatches c.for_trial-state.result v.history =
+    let trial : c.for_trial-state.result ≡ v.state =
     trial-next P a c.self.invariant less ds d c.args.self.now c.self.view_is v t c.for_trial-state.result c.for_trial-state.ensures in
     let l = due-next P a c.self.invariant less ds d c.args.self.now c.self.view_is v t c.deref.result.now c.deref.ensures.0 c.requires.due in
     let w : Writer = writer_of P a.means in
     absurd (for-view v a.means.role a.means.has_psks (P a.means.keys).public (P a.means.keys).agree _ a.remote _ l
     (λ w z s us. (ys : List (List ℕ)) → Given w z s (take count us) ys → ⊥)
-    (front-unwritten g.S.Steps.after v.history (tokens_of (take count ds)) (take count (tokens_of ds)) cut c.args.steps.now c.write_tokens.new.steps
-    w a.remote _ c.write_tokens.new.out c.write_tokens.new.state _ (c.in-Err.ensures.written v.history trial)) xs given)
+    (front-unwritten g.S.Steps.after v.state (tokens_of (take count ds)) (take count (tokens_of ds)) cut c.args.steps.now c.write_tokens.new.steps
+    w a.remote _ c.write_tokens.new.out c.write_tokens.new.state _ c.in-Err.ensures.written) xs given)

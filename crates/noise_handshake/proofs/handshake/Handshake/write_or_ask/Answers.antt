@@ -1,6 +1,8 @@
-use Rattle.std.proofs.Common.{ℕ, length, sym, subst, ◌∙◌, arith, suc}
-use Rattle.noise_handshake.proofs.Common.{HasPsks, IsAgreement, LacksDhResult, MatchOption, Option, Party, ValueMatches, Wants, tokens_now}
+use Rattle.std.proofs.Common.{◌≡◌, ap, ℕ, length, sym, subst, ◌∙◌, arith, suc}
+use Rattle.noise_handshake.proofs.Common.{HasPsks, IsAgreement, LacksDhResult, Err, MatchOption, Option, Some, Party, ValueMatches, Wants, tokens_now}
 use Rattle.noise_handshake.specs.declared.faults.Want.{Want}
+use Rattle.noise_handshake.specs.declared.faults.Want.TheVariants as want
+use Rattle.noise_handshake.specs.declared.faults.Unwritten.TheVariants as unwritten
 use Rattle.noise_handshake.proofs.LateParties.{holding, matches-given, agrees, few-now, after-written, writes-partial, matches-same, fault-no-agreement, speaks-due, written-no-agreement, withholds-partial, lacks-partial, withheld-view}
 use Rattle.noise_handshake.proofs.Later.{count-take}
 use Rattle.noise_handshake.proofs.handshake.Handshake.write_or_ask.Goals as goal
@@ -51,3 +53,18 @@ returns-in-Err-clause-writes g c v later s =
       matches-same P h v later s c.args.payload.now c.write_due.new.self
           (subst (λ (w : Party). ValueMatches P c.write_due.new.self w) (withheld-view (holding v h.psks) c.in-Err.fault clear) q.1),
     )
+
+pub returns-in-Some-wants_to_write-clause-writes : goal.returns-in-Some-wants_to_write-clause-writes
+returns-in-Some-wants_to_write-clause-writes g c v later s =
+    let n : ℕ = length c.args.self.now.psks in (
+      subst (λ (o : Option Want). MatchOption o ((token : ℕ) → LacksDhResult v token → ⊥) (λ want. Wants v n want)) c.in-Some-wants_to_write.is
+          (c.wants_to_write.ensures.wants v later s),
+      s,
+    )
+
+pub returns-in-Some-wants_to_write-clause-asked : goal.returns-in-Some-wants_to_write-clause-asked
+returns-in-Some-wants_to_write-clause-asked g c due v later s x =
+    let psk : Want = want.Psk c.args.self.now.remote.s in
+    let e : Some c.in-Some-wants_to_write.want ≡ Some psk = sym c.in-Some-wants_to_write.is ∙ c.wants_to_write.ensures.asked v later s x in
+    let same : c.in-Some-wants_to_write.want ≡ psk = cc in
+    ap (λ (w : Want). Err (unwritten.Wants w)) same

@@ -5,7 +5,7 @@ use Rattle.noise_names.specs.declared.token.Role.TheVariants.{Initiator, Respond
 use Rattle.noise_names.specs.Names.{name_bytes}
 use Rattle.noise_names.specs.Overhead.{has_key}
 use Rattle.noise_names.specs.Plan.{Plan, has_psk}
-use Rattle.noise_state.specs.History.{History}
+use Rattle.noise_state.specs.declared.symmetric.SymmetricState.{SymmetricState}
 use Rattle.noise_handshake.specs.Length.{Carry}
 use Rattle.noise_handshake.specs.Matching.{IsKeyed, IsKeyedAt, after_message, after_own}
 use Rattle.noise_handshake.specs.Message.{after_payload}
@@ -25,7 +25,7 @@ same-pattern v w ps (wrote _ _ p more here on) = same-pattern (after_own v p.car
 same-pattern v w ps (took _ _ p more here on) = same-pattern (after_message v p.carried p.payload) w more on
 
 module _
-    (next : (p : Plan) (n : ℕ) (r : History) (xs : List (List ℕ)) (payload : List ℕ) → n < length p.messages → Carry (tokens_at p.messages n) xs
+    (next : (p : Plan) (n : ℕ) (r : SymmetricState) (xs : List (List ℕ)) (payload : List ℕ) → n < length p.messages → Carry (tokens_at p.messages n) xs
     → IsKeyedAt p n r → IsKeyedAt p (n + 1) (after_payload (has_psk p) r (tokens_at p.messages n) xs payload))
     (written : (v : Party) (payload message : List ℕ) (xs : List (List ℕ)) → Writes v payload xs message → Carry (tokens_now v) xs)
     (accepted : (v : Party) (payload message : List ℕ) (xs : List (List ℕ)) → Accepts v message xs payload → Carry (tokens_now v) xs) where
@@ -34,10 +34,10 @@ module _
   keyed-on v w ps (none _) k = k
   keyed-on v w ps (wrote _ _ p more here on) k =
       keyed-on (after_own v p.carried p.payload) w more on
-      (next v.pattern v.passed v.history p.carried p.payload here.speaks.more (written v p.payload p.message p.carried here) k)
+      (next v.pattern v.passed v.state p.carried p.payload here.speaks.more (written v p.payload p.message p.carried here) k)
   keyed-on v w ps (took _ _ p more here on) k =
       keyed-on (after_message v p.carried p.payload) w more on
-      (next v.pattern v.passed v.history p.carried p.payload here.listens.more (accepted v p.payload p.message p.carried here) k)
+      (next v.pattern v.passed v.state p.carried p.payload here.listens.more (accepted v p.payload p.message p.carried here) k)
 
 payload-count : (p : Plan) (lines : List (Role × List ℕ)) → length lines ≡ length p.messages → length (handshake_payloads p lines) ≡ length p.messages
 payload-count p lines e =

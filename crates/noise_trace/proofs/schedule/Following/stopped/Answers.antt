@@ -11,7 +11,7 @@ returns-clause-refused g c v cause f r =
     let all : length (tokens_now v) ≤ 10 =
     subst (λ (p : Plan). length (tokens_at p.messages v.passed) ≤ 10) m.pattern (c.list_for-list.ensures.few v.passed) in
     let few : length ts ≤ 10 = omega (arith, all, length-take c.args.token (tokens_now v)) in
-    told-tokens (has_psk v.pattern) v.history ts r.stops.carried c.list_for-list.result c.follow_before.new.steps c.list_for-list.ensures.empty few
+    told-tokens (has_psk v.pattern) v.state ts r.stops.carried c.list_for-list.result c.follow_before.new.steps c.list_for-list.ensures.empty few
     (c.follow_before.ensures.refused v cause m r)
 
 pub returns-clause-withheld : goal.returns-clause-withheld
@@ -21,5 +21,5 @@ returns-clause-withheld g c v f l =
     let all : length (tokens_now v) ≤ 10 =
     subst (λ (p : Plan). length (tokens_at p.messages v.passed) ≤ 10) m.pattern (c.list_for-list.ensures.few v.passed) in
     let few : length ts ≤ 10 = omega (arith, all, length-take c.args.token (tokens_now v)) in
-    told-tokens (has_psk v.pattern) v.history ts l.lacks.before c.list_for-list.result c.follow_before.new.steps c.list_for-list.ensures.empty few
+    told-tokens (has_psk v.pattern) v.state ts l.lacks.before c.list_for-list.result c.follow_before.new.steps c.list_for-list.ensures.empty few
     (c.follow_before.ensures.lacks v m l)
