@@ -1,6 +1,6 @@
 //! Doing what the command line asks for.
 
-ghost use Rattle.std.specs.Prelude.{◌≡◌, ◌⊎◌, ◌≤◌, [], ℕ, List, Some, true, IfErr, IfOk, IfSome, OnOk, length, option_map, vec_len};
+ghost use Rattle.std.specs.Prelude.{◌≡◌, ◌⊎◌, ◌≤◌, [], ℕ, List, Some, true, IfErr, IfOk, OnOk, length, option_map, vec_len};
 ghost use Rattle.noise_lines.specs.Faults.{status_of};
 ghost use Rattle.std.specs.Io.KnownBytes.{Appends};
 ghost use Rattle.noise_names.specs.Lists.{bytes_of};
@@ -8,13 +8,12 @@ ghost use Rattle.noise_vectors.specs.VectorFile.{IsVectorFile};
 ghost use Rattle.noise_vectors.specs.VectorText.{file_text};
 ghost use Rattle.noise_vectors.specs.declared.vector.AllowedEvents.TheVariants.{VersionOne};
 ghost use Rattle.noise_vectors.specs.declared.vector.Version.TheVariants.{One};
-ghost use Rattle.noise_tool.specs.Performing.{Converts, HasConverted, HasRun, IfCommand, IfCompare, IfExplain, IfFill, IfTest, IsDone, IsFault, IsKnownAs, IsLongFile, IsNotMet, IsOfLines, IsPlain, IsReadVector, IsRunFault, IsStopped, IsTooLongConverted, IsUnlike, IsUnreadFile, LeavesAtTwo, OfAsked, ReadsShort, file_of, takes_pattern};
+ghost use Rattle.noise_tool.specs.Performing.{Converts, HasConverted, HasRun, IfCommand, IfCompare, IfExplain, IfFill, IfTest, IsDone, IsFault, IsKnownAs, IsLongFile, IsNotMet, IsOfLines, IsPlain, IsReadVector, IsRunFault, IsTooLongConverted, IsUnlike, IsUnreadFile, LeavesAtTwo, OfAsked, file_of, takes_pattern};
 ghost use Rattle.noise_tool.specs.Templating.{HasTemplated, IsTemplateFault};
 ghost use Rattle.noise_tool.specs.Outcomes.{CommandOutcome, CompareOutcome, ExplainOutcome, FillOutcome, TestOutcome};
 ghost use Rattle.noise_tool.specs.Prefixes.{PrintsConvertedPrefix, PrintsPrefix, PrintsRunPrefix};
 ghost use Rattle.noise_lines.specs.Lines.{lines_text};
 ghost use Rattle.noise_lines.specs.Prefixes.{AppendsPrefix};
-ghost use Rattle.noise_lines.specs.Reported.{error_text};
 ghost use Rattle.noise_lines.specs.Verdicts.{IsMet};
 ghost use Rattle.noise_lines.specs.declared.faults.Fault.{Fault};
 ghost use Rattle.noise_lines.specs.declared.faults.Fault.TheVariants.{TooLong, Unreadable};
@@ -68,44 +67,17 @@ pub fn perform<F: FilesByName, O: Write, E: Write>(
     ensures quiet { result ≡ 0 → err.new ≡ err.old }
 {
     match order {
-        Order::Command(chosen) => perform_named(alloc, chosen, files, out, err),
+        Order::Command(chosen) => match asked_text(alloc, chosen, files) {
+            Ok(text) => match run(alloc, chosen, &text, out) {
+                Ok(()) => 0,
+                Err(fault) => report_fault(alloc, fault, out, err),
+            },
+            Err(fault) => report_fault(alloc, fault, out, err),
+        },
         Order::Test(asked) => test(alloc, &asked.files, asked.traces, files, out, err),
         Order::Explain(names) => explain_files(alloc, names, files, out, err),
         Order::Compare(names) => compare_log(alloc, names, files, out, err),
         Order::Fill(names) => fill_template(alloc, names, files, out, err),
-    }
-}
-
-// Does a command on at most one file, with the file that it names. A refused write to `err` leaves the status. At each
-// status what comes to the output is a prefix of a text that is right for status 0 or 1, and what comes to `err` is a
-// prefix of the line of the fault.
-fn perform_named<F: FilesByName, O: Write, E: Write>(
-    alloc: Global,
-    chosen: &Chosen,
-    files: &F,
-    out: &mut O,
-    err: &mut E,
-) -> u8
-    ensures status { result ≤ 3 }
-    ensures done { result ≡ 0 → OfAsked (F.bytes_at files.now) (F.unreadable files.now) chosen.now
-        (λ known. IsDone chosen.now known (O.contents out.old) (O.contents out.new)) }
-    ensures fault { 1 ≤ result → (result ≡ 3) ⊎ OfAsked (F.bytes_at files.now) (F.unreadable files.now) chosen.now
-        (λ known. IsStopped O.contents E.contents chosen.now known out.old out.new err.old err.new result) }
-    ensures outside { result ≡ 3 → (fault : Fault) × (status_of fault ≡ 3)
-        × AppendsPrefix (E.contents err.old) (E.contents err.new) (error_text fault) }
-    ensures prefix { (out.new ≡ out.old) ⊎ OfAsked (F.bytes_at files.now) (F.unreadable files.now) chosen.now
-        (λ known. PrintsPrefix chosen.now known (O.contents out.old) (O.contents out.new)) }
-    ensures long { (2 ≤ result) ⊎ OfAsked (F.bytes_at files.now) (F.unreadable files.now) chosen.now
-        (ReadsShort chosen.now) }
-    ensures unwritten { result ≡ 2 → out.new ≡ out.old }
-    ensures quiet { result ≡ 0 → err.new ≡ err.old }
-{
-    match asked_text(alloc, chosen, files) {
-        Ok(text) => match run(alloc, chosen, &text, out) {
-            Ok(()) => 0,
-            Err(fault) => report_fault(alloc, fault, out, err),
-        },
-        Err(fault) => report_fault(alloc, fault, out, err),
     }
 }
 
