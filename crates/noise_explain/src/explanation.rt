@@ -50,7 +50,7 @@ fn explain_spelled(
     text: &[u8],
     pattern: Pattern,
 ) -> Result<Explained, AllocError>
-    requires { Spells text.now pattern }
+    requires spells { Spells text.now pattern }
     ensures explained { IfOk result (IsExplained name.now text.now) }
     ensures bound { IfOk result (λ e. e.status ≤ 2) }
 {
