@@ -248,7 +248,7 @@ impl<K: Keys> Handshake<K> {
 
     /// The handshake that holds these parts, and these psks for the first psk tokens that are still to come, in their
     /// order; or None for what no handshake holds. It matches what the handshake stood for that was taken apart; at
-    /// None the parts are gone. What doesn't show in the parts isn't tested, as whether the keys and the come.hash
+    /// None the parts are gone. What doesn't show in the parts isn't tested, as whether the keys and the hash come
     /// of messages: of other parts it may be a handshake that matches no party. The nonce has to be the number of
     /// texts that the pattern's tokens encrypt under the present key.
     ///
@@ -506,7 +506,7 @@ impl<K: Keys> Handshake<K> {
         )
     }
 
-    /// The handshake (Noise, 11.2).hash, 32 bytes, of the start and the messages that passed, also after the handshake
+    /// The handshake hash (Noise, 11.2), 32 bytes, of the start and the messages that passed, also after the handshake
     /// has ended.
     pub fn hash(&self) -> [u8; 32]
         ensures hash { (v : Party) → Matches K.pairs self.now v → result ≡ v.state.hash }
