@@ -34,22 +34,6 @@ none-numbered bytes old new _ (no_name n same) = record {
   name = (λ _. n, λ _. refl);
 }
 
-pub valid-numbered : (bytes : List ℕ) (p : Plan) → IsPatternOf bytes p → ((q : Plan) → IsPatternOf bytes q → q ≡ p) → IsValid p → IsNumbered bytes 0
-valid-numbered bytes p named one keeps = record {
-  valid = (λ _. record { pattern = p; named = named; valid = keeps }, λ _. refl);
-  broken = (λ e. other 0 39 refl e, λ b. absurd (b.broken (subst (λ (z : Plan). IsValid z) (sym (one b.pattern b.named)) keeps)));
-  text = (λ w. absurd (omega (arith, w)), λ t. absurd (t.none p named));
-  name = (λ e. other 0 1 refl e, λ n. absurd (n.none p named));
-}
-
-pub broken-numbered : (bytes : List ℕ) (p : Plan) → IsPatternOf bytes p → ((q : Plan) → IsPatternOf bytes q → q ≡ p) → (IsValid p → ⊥) → IsNumbered bytes 39
-broken-numbered bytes p named one breaks = record {
-  valid = (λ e. other 39 0 refl e, λ v. absurd (breaks (subst (λ (z : Plan). IsValid z) (one v.pattern v.named) v.valid)));
-  broken = (λ _. record { pattern = p; named = named; broken = breaks }, λ _. refl);
-  text = (λ w. absurd (omega (arith, w)), λ t. absurd (t.none p named));
-  name = (λ e. other 39 1 refl e, λ n. absurd (n.none p named));
-}
-
 -- ---- why the bytes are of no pattern
 
 pub name-fault : (bytes : List ℕ) (old : NoisePatternResult) → is_text bytes ≡ false → ((q : Plan) → IsPatternOfName bytes q → ⊥)

@@ -73,15 +73,6 @@ uses-up old new f u e =
       unchanged = λ low. absurd (omega (arith, low));
     }
 
-pub uses-none : (old : NoiseHandshake) (code : ℕ) → Finishes old code → 0 < code → UsesUp old old code
-uses-none old code f low = record {
-  code_is = f;
-  used = λ e. absurd (omega (arith, e, low));
-  usable = λ e. absurd (omega (arith, e, low));
-  once = λ e. absurd (omega (arith, e, low));
-  unchanged = λ _. refl;
-}
-
 -- a handshake is finished with one number
 pub finishes-once : (k : NoiseHandshake) (code : ℕ) → Finishes k 0 → Finishes k code → (code ≡ 0 → ⊥) → ⊥
 finishes-once k code f g other =

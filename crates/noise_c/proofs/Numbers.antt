@@ -71,13 +71,6 @@ pub refused-within : (fault : ReadFault) (code token : ℕ) (cause : Cause) → 
 refused-within fault code token cause is e =
     subst (λ (n : ℕ). (14 ≤ n) × (n ≤ 16)) (sym (subst (λ (f : ReadFault). code ≡ read_code f) e is)) (refused-codes cause)
 
-pub refused-between : {A : Type 0} (code : ℕ) → (14 ≤ code) × (code ≤ 16) → (code ≤ 13) ⊎ (20 ≤ code) → A
-refused-between code within (inl low) = absurd (omega (arith, within, low))
-refused-between code within (inr high) = absurd (omega (arith, within, high))
-
-pub refused-among : (code : ℕ) → (14 ≤ code) × (code ≤ 16) → (12 ≤ code) × (code ≤ 16)
-refused-among code within = (omega (arith, within), within.1)
-
 -- no refusal
 abbrev pub IsPlain : ReadFault → Type 0
 IsPlain fault = (token : ℕ) (cause : Cause) → fault ≡ read.Refused token cause → ⊥
@@ -95,7 +88,3 @@ plain-among fault code plain is = subst (λ (n : ℕ). (n ≡ 10) ⊎ ((12 ≤ n
 pub plain-within : (code : ℕ) → (code ≡ 10) ⊎ ((12 ≤ code) × (code ≤ 13)) → (10 ≤ code) × (code ≤ 13)
 plain-within code (inl e) = (omega (arith, e), omega (arith, e))
 plain-within code (inr w) = (omega (arith, w), w.1)
-
-pub plain-sort : (code : ℕ) → (code ≡ 10) ⊎ ((12 ≤ code) × (code ≤ 13)) → (code ≡ 10) ⊎ ((12 ≤ code) × (code ≤ 16))
-plain-sort code (inl e) = inl e
-plain-sort code (inr w) = inr (w.0, omega (arith, w.1))

@@ -60,50 +60,6 @@ Gave v s buffer code results after new =
     × StreamReceiverMatches (stream_receiver_from_c new) v t
 
 module _ (v : TransportState) (s : StreamReceiverState) (buffer after before : List ℕ) (results : NoiseStreamResult) (new : NoiseStreamReceiver) where
-  payload-given : (g : NextValue) → ReportsGiven 0 results after g
-      → (results.used ≡ uses g) × (slice_range after results.from (results.from + results.len) ≡ concat (payloads g))
-  payload-given (Payload payload used) h = (h.1, sym h.2 ∙ sym (append-nil payload))
-  payload-given (Wants count) h = absurd (omega (arith, h.0))
-  payload-given (End used) h = absurd (omega (arith, h.0))
-  payload-given (Refused cause) h = absurd (omega (arith, (refusal-is cause 0 h).0))
-  payload-given Closed h = absurd (omega (arith, h))
-
-  -- a payload
-  pub reads-payload : (now : List ℕ) → 1 ≤ results.used → now ≡ before ++ slice_range after results.from (results.from + results.len)
-      → Gave v s buffer 0 results after new → ReadsOnce v s buffer results.used before now (stream_receiver_from_c new)
-  reads-payload now some appended call =
-      let p = payload-given call.0 call.2 in
-      record {
-        gives = call.0;
-        state = call.1;
-        reads = call.3;
-        used_is = p.0;
-        rests = λ none. absurd (omega (arith, some, none));
-        appended = appended ∙ ap (λ (xs : List ℕ). before ++ xs) p.1;
-        matches = call.4;
-      }
-
-  end-given : (g : NextValue) → ReportsGiven 41 results after g → (results.used ≡ uses g) × ([] ≡ payloads g)
-  end-given (End used) h = (h.1, refl)
-  end-given (Wants count) h = absurd (omega (arith, h.0))
-  end-given (Payload payload used) h = absurd (omega (arith, h.0))
-  end-given (Refused cause) h = absurd (omega (arith, (refusal-is cause 41 h).1))
-  end-given Closed h = absurd (omega (arith, h))
-
-  -- the end
-  pub reads-end : 1 ≤ results.used → Gave v s buffer 41 results after new → ReadsOnce v s buffer results.used before before (stream_receiver_from_c new)
-  reads-end some call =
-      let p = end-given call.0 call.2 in
-      record {
-        gives = call.0;
-        state = call.1;
-        reads = call.3;
-        used_is = p.0;
-        rests = λ none. absurd (omega (arith, some, none));
-        appended = sym (append-nil before) ∙ ap (λ (ps : List (List ℕ)). before ++ concat ps) p.1;
-        matches = call.4;
-      }
-
   is-still : (code : ℕ) → (code ≡ 0 → ⊥) → (code ≡ 41 → ⊥) → (g : NextValue) → ReportsGiven code results after g → IsStill g
   is-still code some end (Payload payload used) h = absurd (some h.0)
   is-still code some end (End used) h = absurd (end h.0)

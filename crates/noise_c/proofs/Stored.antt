@@ -65,12 +65,6 @@ usable-after old new h h2 u m t a n name named stays valid same whole =
     usable-stored new h2 (m ∙ u.mark) (omega (arith, t, u.text)) (omega (arith, a, u.answers)) n
     (subst (λ (z : List ℕ). IsPatternOf z h2.pattern) (sym name) (subst (λ (q : Plan). IsPatternOf (text_from_c old) q) (sym stays) named)) valid same whole
 
--- a handshake that has ended
-pub ended-stored : (old new : NoiseHandshake) (h h2 : HandshakeValue Table) → new ≡ record old { ended = 1 } → h ≡ handshake_from_c h.pattern old → h2 ≡ ended_as h
-    → handshake_from_c h2.pattern new ≡ h2
-ended-stored old new h h2 n same e =
-    ap (λ (q : Plan). handshake_from_c q new) (ap (λ (z : HandshakeValue Table). z.pattern) e) ∙ ap (handshake_from_c h.pattern) n ∙ sym (e ∙ ap (λ (z : HandshakeValue Table). ended_as z) same)
-
 -- and is what a call has left
 pub usable-ended : (old : NoiseHandshake) → IsUsable old → IsUsable (record old { ended = 1 })
 usable-ended old u = record {
@@ -95,16 +89,6 @@ usable-ended old u = record {
     },
   );
 }
-
--- a refusal ends it
-pub refused-leaves : (h h2 : HandshakeValue Table) (u : Unread) (fault : ReadFault) (token : ℕ) (cause : Cause) → h2 ≡ after_unread h u → u ≡ unread.Declined fault
-    → fault ≡ read.Refused token cause → h2 ≡ ended_as h
-refused-leaves h h2 u fault token cause e f g = e ∙ ap (after_unread h) (f ∙ ap unread.Declined g)
-
--- another fault leaves it as it was
-pub plain-leaves : (h h2 : HandshakeValue Table) (u : Unread) (fault : ReadFault) → IsPlain fault → h2 ≡ after_unread h u → u ≡ unread.Declined fault → h2 ≡ h
-plain-leaves h h2 u (read.Refused token cause) plain e f = absurd (plain token cause refl)
-plain-leaves h h2 u _ plain e f = e ∙ ap (after_unread h) f
 
 -- the psks that are left after a message stand at the same end
 psks-after : (old : NoiseHandshake) (h h2 : HandshakeValue Table) (taken : List (List ℕ)) → old.psk_count ≤ 9 → length h.psks ≡ old.psk_count

@@ -86,11 +86,6 @@ same-passed m k e f = search rules
 cons-parts : (m k : Passed) (ms ks : List Passed) → m ∷ ms ≡ k ∷ ks → (m ≡ k) × (ms ≡ ks)
 cons-parts m k ms ks e = search rules
 
--- a front of nothing is nothing
-none-of : (ms : List Passed) → IsFront (messages_in ms) [] → ms ≡ []
-none-of [] f = refl
-none-of (m ∷ ms) f = absurd (no-front m ms f)
-
 -- the one message that a party has written beyond the other
 pub record Ahead (v : Party) (m : Passed) (ws rs : List Passed) (c : List (List ℕ)) (last : Party) : Type 0 where
   pub no_more : ws ≡ []

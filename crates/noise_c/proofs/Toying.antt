@@ -70,16 +70,6 @@ write-wants k next payload out after results new _ (write_fails a b c f) e = b
 write-wants k next payload out after results new _ (no_room a b c d g) e = d
 write-wants k next payload out after results new _ (write_unusable a b c d) e = c
 
-pub read-wants : (k next : NoiseHandshake) (message after : List ℕ) (results new : NoiseResult) (code : ℕ)
-    → ReadOutcome true k message results next after new code → code ≡ 20 → after ≡ message
-read-wants k next message after results new _ (accepted u r l d f) e = absurd (omega (arith, e))
-read-wants k next message after results new _ (read_wants a b f) e = b
-read-wants k next message after results new _ (read_wants_psk a b f) e = b
-read-wants k next message after results new _ (declined code low a b c f) e = c
-read-wants k next message after results new _ (refused code low high a b c d f) e = d
-read-wants k next message after results new _ (too_long a b c d) e = d
-read-wants k next message after results new _ (read_unusable a b c) e = c
-
 -- ---- the start
 
 pub no-fault : (o : Option SetupFault) → code_of o ≡ 0 → o ≡ None

@@ -45,7 +45,6 @@ pub use Rattle.noise_handshake.specs.declared.layout.MessageLayout.{MessageLayou
 pub use Rattle.noise_handshake.specs.declared.layout.PlacedToken.{PlacedToken}
 pub use Rattle.noise_handshake.specs.declared.remote.Remote.{Remote}
 pub use Rattle.noise_handshake.specs.inner.Kept.{IsKept, held_in}
-pub use Rattle.noise_handshake.specs.inner.Keying.{Keying, keying_after, keying_of}
 pub use Rattle.noise_handshake.specs.inner.Known.{KnowsRemote, are_known, has_after, has_after_tokens, is_known, remote_known}
 pub use Rattle.noise_handshake.specs.inner.Layout.{ArePlaced, IsLaid, LaysNext, placed_from, tokens_of}
 pub use Rattle.noise_handshake.specs.inner.Listening.{BeginsBefore, Fails, Listening, StopsKnowing, width_of_key}

@@ -1,14 +1,12 @@
 -- What following the tokens of a message leaves.
 use Rattle.std.proofs.Common.{◌≡◌, ℕ, suc, ◌+◌, ◌*◌, ◌<◌, ◌≤◌, Bool, true, false, List, [], ◌∷◌, ◌++◌, length, take, drop, refl, ap, sym, subst, ◌∙◌, arith, take_all, length-drop}
-use Rattle.noise_handshake.proofs.Common.{length-take-le, take-append-drop, Advances, after_payload, Ok, Err, Some, count_by, drop_at, is_psk, after_ciphertext, ciphertext, after_own, message_bytes, HasPsks, Matches, MessageLayout, LaysNext, Plan, has_key, passed_places, Token, E, S, Ee, Es, Se, Ss, Initiator, other, turn_from, has_psk, SymmetricState, keyed, nonce_now, Remote, Cause, before_payload, after_tokens, Reader, BeginsAs, remote_after, Writer, Given, tag_width, token_width, tokens_width, keyed_after, keyed_after_tokens, nonce_after_tokens, nonce_after_message, tokens_at, tokens_now, HandshakeValue, ValueMatches, Party, held_in, IsKept, KnowsRemote, PlacedToken, tokens_of, Keying, keying_of}
+use Rattle.noise_handshake.proofs.Common.{length-take-le, take-append-drop, Advances, after_payload, Ok, Err, Some, count_by, drop_at, is_psk, after_ciphertext, ciphertext, after_own, message_bytes, HasPsks, Matches, MessageLayout, LaysNext, Plan, has_key, passed_places, Token, E, S, Ee, Es, Se, Ss, Initiator, other, turn_from, has_psk, SymmetricState, keyed, nonce_now, Remote, Cause, before_payload, after_tokens, Reader, BeginsAs, remote_after, Writer, Given, tag_width, token_width, tokens_width, keyed_after, keyed_after_tokens, nonce_after_message, tokens_at, tokens_now, HandshakeValue, ValueMatches, Party, held_in, IsKept, KnowsRemote, PlacedToken, tokens_of, Carry}
 use Rattle.noise_names.specs.declared.token.Token.TheVariants.{Psk}
-use Rattle.noise_state.specs.Cipher.{next_nonce}
 use Rattle.noise_keys.specs.Keys.{KeyPairs}
 use Rattle.noise_handshake.specs.Steps.{after_steps}
 use Rattle.noise_handshake.specs.declared.following.Front.{Front}
 use Rattle.noise_handshake.specs.declared.handshake.Handshake.TheInside.{Inside}
 use Rattle.noise_handshake.specs.inner.Following.{Fronts, IsFront, Leaves, gone_on, tokens_due}
-use Rattle.noise_handshake.specs.inner.Keying.{keying_after_message, keying_after_tokens}
 use Rattle.noise_handshake.specs.inner.Reading.{ReadsTokens}
 use Rattle.noise_handshake.specs.inner.Stepping.{TellsRead, TellsWritten}
 use Rattle.noise_handshake.specs.inner.Writing.{WritesTokens}
@@ -20,6 +18,8 @@ use Rattle.noise_handshake.proofs.LateParties.{matches-of, next-count, value-of}
 use Rattle.noise_handshake.proofs.Next.{key-next, tokens-next, unchanged-next}
 use Rattle.noise_handshake.proofs.Standing.{tokens-are}
 use Rattle.noise_handshake.proofs.Told.{width-read, width-written}
+use Rattle.noise_handshake.proofs.Counting.{message-counted}
+use Rattle.noise_handshake.proofs.Widths.{after_tokens-keyed}
 
 abbrev pub front_of : ℕ → SymmetricState → Remote → Front
 front_of n state remote = record { from = n; state = state; remote = remote }
@@ -125,31 +125,25 @@ module _ {K : Type 0} (pairs : K → KeyPairs) (a : Inside K) (i : IsKept pairs 
           few = omega (arith, short, ap length e);
         })
 
-    -- that were read
-    pub leaves-read : turn_from Initiator a.passed ≡ other a.means.role → (state : SymmetricState) (remote : Remote)
-        → keying_of state remote ≡ keying_after_message a.means.has_psks (keying_of a.state a.remote) us → Leaves h state remote
-    leaves-read turn state remote q =
-        let k = knows-read (held_in a) i.3 less remote state [] us turn e (ap (λ (z : Keying). z.e) q) (ap (λ (z : Keying). z.s) q) in
-        leaves-in state remote (ap (λ (z : Keying). z.keyed) q) (ap (λ (z : Keying). z.nonce) q) (record { e = k.e; s = k.s })
+    module _ (xs : List (List ℕ)) (carry : Carry us xs) (bytes : List ℕ) (state : SymmetricState)
+        (mixed : state ≡ after_ciphertext (after_tokens a.means.has_psks a.state us xs) bytes) where
+      key-mixed : keyed state ≡ keyed_after_tokens a.means.has_psks (keyed a.state) us
+      key-mixed = ap keyed mixed ∙ after_tokens-keyed a.means.has_psks a.state us xs carry
 
-    -- that were written
-    pub leaves-wrote : turn_from Initiator a.passed ≡ a.means.role → (state : SymmetricState)
-        → keyed state ≡ keyed_after_tokens a.means.has_psks (keyed a.state) us
-        → nonce_now state ≡ nonce_after_message a.means.has_psks (keyed a.state) (nonce_now a.state) us → Leaves h state a.remote
-    leaves-wrote turn state key n =
-        let k = knows-wrote (held_in a) i.3 less state [] turn in leaves-in state a.remote key n (record { e = k.e; s = k.s })
+      nonce-mixed : nonce_now state ≡ nonce_after_message a.means.has_psks (keyed a.state) (nonce_now a.state) us
+      nonce-mixed = ap nonce_now mixed ∙ message-counted a.means.has_psks a.state us xs bytes carry
 
-    -- and then any ciphertext
-    pub read-mixed : (f : Front) (bytes : List ℕ)
-        → keying_of f.state f.remote ≡ keying_after_tokens a.means.has_psks (keying_of a.state a.remote) us
-        → keying_of (after_ciphertext f.state bytes) f.remote ≡ keying_after_message a.means.has_psks (keying_of a.state a.remote) us
-    read-mixed f bytes q = ap (λ (z : Keying). record z { nonce = next_nonce z.keyed z.nonce }) q
+      -- that were read
+      pub leaves-read : turn_from Initiator a.passed ≡ other a.means.role → (remote : Remote) → remote ≡ remote_after a.remote us xs → Leaves h state remote
+      leaves-read turn remote f =
+          let k = knows-read (held_in a) i.3 less remote state [] us xs turn e carry f in
+          leaves-in state remote key-mixed nonce-mixed (record { e = k.e; s = k.s })
 
-    pub wrote-mixed : (state : SymmetricState) (bytes : List ℕ) → keyed state ≡ keyed_after_tokens a.means.has_psks (keyed a.state) us
-        → nonce_now state ≡ nonce_after_tokens a.means.has_psks (keyed a.state) (nonce_now a.state) us
-        → nonce_now (after_ciphertext state bytes) ≡ nonce_after_message a.means.has_psks (keyed a.state) (nonce_now a.state) us
-    wrote-mixed state bytes k n =
-        ap (λ (b : Bool). next_nonce b (nonce_now state)) k ∙ ap (next_nonce (keyed_after_tokens a.means.has_psks (keyed a.state) us)) n
+      -- that were written
+      pub leaves-wrote : turn_from Initiator a.passed ≡ a.means.role → Leaves h state a.remote
+      leaves-wrote turn =
+          let k = knows-wrote (held_in a) i.3 less state [] turn in
+          leaves-in state a.remote key-mixed nonce-mixed (record { e = k.e; s = k.s })
 
   -- and what the handshake holds after it
   module _ (state : SymmetricState) (remote : Remote) (l : Leaves h state remote) (has : HasPsks h) where

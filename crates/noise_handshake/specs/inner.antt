@@ -2,7 +2,6 @@
 pub mod Following
 pub mod Kept
 pub mod Keyed
-pub mod Keying
 pub mod Known
 pub mod Layout
 pub mod Listening

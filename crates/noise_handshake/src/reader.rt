@@ -1,9 +1,7 @@
 //! Reading the tokens of a message.
 
 ghost use Rattle.std.specs.Prelude.{◌≡◌, ◌≤◌, ◌<◌, ◌+◌, ◌-◌, ◌*◌, ◌^◌, ℕ, length, take, drop, count_by, is_some, Bool, Option, Some, None, IfOk, IfSome, IfErr, OnOk, OnErr, slice_index_or, nat_lt, if◌then◌else◌, IsTrue};
-ghost use Rattle.noise_state.specs.Cipher.{next_nonce};
 ghost use Rattle.noise_state.specs.Standing.{keyed, nonce_now};
-ghost use Rattle.noise_handshake.specs.inner.Keying.{keying_of, keying_after, keying_after_tokens, keying_after_message};
 ghost use Rattle.noise_handshake.specs.inner.Known.{are_known};
 ghost use Rattle.noise_handshake.specs.Length.{token_width};
 ghost use Rattle.noise_handshake.specs.Party.{remote_after, psks_after};
@@ -34,8 +32,6 @@ fn read_e(
 ) -> Result<usize, Cause>
     ensures width { IfOk result (λ n. n ≡ 32) }
     ensures range { IfOk result (λ n. n ≤ length message.now) }
-    ensures keying { OnOk result (keying_of state.new known.new
-        ≡ keying_after has_psks (keying_of state.old known.old) Token.E) }
     ensures unchanged { OnErr result (known.new ≡ known.old) }
     ensures read { ReadsE has_psks state.old state.new known.old known.new message.now result }
 {
@@ -52,8 +48,6 @@ fn open_key(state: &mut SymmetricState, buffer: &mut [u8]) -> Option<[u8; 32]>
     requires low { 32 ≤ length buffer.old }
     requires high { length buffer.old ≤ 65535 }
     requires nonces { nonce_now state.old < 2 ^ 64 - 1 }
-    ensures key { keyed state.new ≡ keyed state.old }
-    ensures counted { IfSome result (λ _. nonce_now state.new ≡ next_nonce (keyed state.old) (nonce_now state.old)) }
     ensures opened { length buffer.old ≡ width_of_key state.old → OpensKey state.old state.new buffer.old result }
 {
     match state.decrypt_and_hash(buffer) {
@@ -83,8 +77,6 @@ fn read_s(
     requires width { width ≡ token_width (keyed state.old) Token.S }
     ensures width { IfOk result (λ n. n ≡ width) }
     ensures range { IfOk result (λ n. n ≤ length message.now) }
-    ensures keying { (has_psks : Bool) → OnOk result (keying_of state.new known.new
-        ≡ keying_after has_psks (keying_of state.old known.old) Token.S) }
     ensures unchanged { OnErr result (known.new ≡ known.old) }
     ensures read { ReadsS state.old state.new known.old known.new message.now result }
 {
@@ -117,8 +109,6 @@ fn read_token<K: Keys>(
     requires nonces { nonce_now state.old < 2 ^ 64 - 1 }
     ensures width { IfOk result (λ n. n ≡ token_width (keyed state.old) placed.token) }
     ensures range { IfOk result (λ n. n ≤ length message.now) }
-    ensures keying { OnOk result (keying_of state.new known.new
-        ≡ keying_after means.now.has_psks (keying_of state.old known.old) placed.token) }
     ensures unchanged { OnErr result (known.new ≡ known.old) }
     ensures read { ReadsToken (reader_of K.pairs means.now) state.old state.new known.old known.new psks.now placed.token
         message.now result }
@@ -167,8 +157,6 @@ pub(crate) fn read_tokens<K: Keys, S: Steps>(
         → ArePlaced means.now.has_psks (keyed state.old) place placed.now
         → IfOk result (λ n. place + n ≤ length message.now) }
     ensures stop { IfErr result (λ stop. stop.0 < length (tokens_of placed.now)) }
-    ensures keying { OnOk result (keying_of state.new known.new
-        ≡ keying_after_tokens means.now.has_psks (keying_of state.old known.old) (tokens_of placed.now)) }
     ensures read { (place : ℕ) → place ≤ length message.now
         → ArePlaced means.now.has_psks (keyed state.old) place placed.now
         → ReadsTokens (reader_of K.pairs means.now) state.old state.new known.old known.new psks.now
@@ -318,8 +306,6 @@ pub(crate) fn read_message<K: Keys>(
     ensures range { IfOk result (IsPlaceIn message.new) }
     ensures beyond { IfOk result (IsSameAround message.old message.new) }
     ensures stop { IfErr result (λ stop. stop.0 ≤ length (tokens_of placed.now)) }
-    ensures keying { OnOk result (keying_of state.new known.new
-        ≡ keying_after_message means.now.has_psks (keying_of state.old known.old) (tokens_of placed.now)) }
     ensures read { ReadsMessage (reader_of K.pairs means.now) state.old state.new known.old known.new psks.now
         (tokens_of placed.now) message.old message.new result }
     ensures unchanged { OnErr result (message.new ≡ message.old) }

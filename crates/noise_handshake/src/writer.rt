@@ -2,13 +2,11 @@
 
 ghost use Rattle.std.specs.Prelude.{◌≡◌, ◌≤◌, ◌<◌, ◌+◌, ◌-◌, ◌^◌, ℕ, length, take, drop, count_by, IsTrue, MatchResult, IfSome, IfOk, is_some, None};
 ghost use Rattle.std.specs.List.{list_all};
-ghost use Rattle.noise_state.specs.Cipher.{next_nonce};
 ghost use Rattle.noise_state.specs.Standing.{keyed, nonce_now};
-ghost use Rattle.noise_handshake.specs.Nonces.{nonce_after, nonce_after_message, nonce_after_tokens};
 ghost use Rattle.noise_state.specs.Symmetric.{after_ciphertext, ciphertext};
 ghost use Rattle.noise_handshake.specs.Message.{with_ephemeral};
 ghost use Rattle.noise_handshake.specs.inner.Known.{is_known, remote_known};
-ghost use Rattle.noise_handshake.specs.Length.{keyed_after, keyed_after_tokens, tag_width, token_width, tokens_width, added_width};
+ghost use Rattle.noise_handshake.specs.Length.{tag_width, token_width, tokens_width, added_width};
 ghost use Rattle.noise_handshake.specs.inner.Means.{writer_of};
 ghost use Rattle.noise_handshake.specs.inner.Speaking.{has_own, WriterWants};
 ghost use Rattle.noise_handshake.specs.inner.Writing.{GivesOrNone, WritesMessage, WritesToken, WritesTokens};
@@ -50,8 +48,6 @@ fn write_part(state: &mut SymmetricState, text: &[u8], out: &mut [u8]) -> usize
     requires nonces { nonce_now state.old < 2 ^ 64 - 1 }
     ensures width { result ≡ length text.now + tag_width (keyed state.old) }
     ensures beyond { drop result out.new ≡ drop result out.old }
-    ensures keyed { keyed state.new ≡ keyed state.old }
-    ensures counted { nonce_now state.new ≡ next_nonce (keyed state.old) (nonce_now state.old) }
     ensures written { (take result out.new ≡ ciphertext state.old text.now)
         × (state.new ≡ after_ciphertext state.old (ciphertext state.old text.now)) }
 {
@@ -68,8 +64,6 @@ fn write_e(state: &mut SymmetricState, has_psks: bool, key: &[u8; 32], out: &mut
     requires room { 32 ≤ length out.old }
     ensures width { result ≡ 32 }
     ensures beyond { drop result out.new ≡ drop result out.old }
-    ensures keyed { keyed state.new ≡ keyed_after has_psks (keyed state.old) Token.E }
-    ensures counted { nonce_now state.new ≡ nonce_after has_psks (keyed state.old) (nonce_now state.old) Token.E }
     ensures written { (take result out.new ≡ key.now) × (state.new ≡ with_ephemeral has_psks state.old key.now) }
 {
     mix_ephemeral(state, has_psks, key);
@@ -91,9 +85,6 @@ fn write_token<K: Keys>(
     requires nonces { nonce_now state.old < 2 ^ 64 - 1 }
     ensures width { IfSome result (λ n. n ≡ token_width (keyed state.old) token) }
     ensures beyond { IfSome result (λ n. drop n out.new ≡ drop n out.old) }
-    ensures keyed { IfSome result (λ _. keyed state.new ≡ keyed_after means.now.has_psks (keyed state.old) token) }
-    ensures counted { IfSome result
-        (λ _. nonce_now state.new ≡ nonce_after means.now.has_psks (keyed state.old) (nonce_now state.old) token) }
     ensures written { WritesToken (writer_of K.pairs means.now) state.old state.new known.now psks.now token out.new
         result }
 {
@@ -137,11 +128,6 @@ pub(crate) fn write_tokens<K: Keys, S: Steps>(
         (tokens_of placed.now))
         (λ k. k < length (tokens_of placed.now)) }
     ensures beyond { IfOk result (λ n. drop n out.new ≡ drop n out.old) }
-    ensures keyed { IfOk result
-        (λ _. keyed state.new ≡ keyed_after_tokens means.now.has_psks (keyed state.old) (tokens_of placed.now)) }
-    ensures counted { IfOk result
-        (λ _. nonce_now state.new ≡ nonce_after_tokens means.now.has_psks (keyed state.old) (nonce_now state.old)
-        (tokens_of placed.now)) }
     ensures written { WritesTokens (writer_of K.pairs means.now) state.old state.new known.now psks.now
         (tokens_of placed.now) out.new result }
     ensures told { (place : ℕ) → ArePlaced means.now.has_psks (keyed state.old) place placed.now
@@ -250,11 +236,6 @@ pub(crate) fn write_message<K: Keys>(
         (λ n. n ≡ added_width means.now.has_psks (keyed state.old) (tokens_of placed.now) + length payload.now)
         (λ k. k < length (tokens_of placed.now)) }
     ensures beyond { IfOk result (λ n. drop n out.new ≡ drop n out.old) }
-    ensures keyed { IfOk result
-        (λ _. keyed state.new ≡ keyed_after_tokens means.now.has_psks (keyed state.old) (tokens_of placed.now)) }
-    ensures counted { IfOk result
-        (λ _. nonce_now state.new ≡ nonce_after_message means.now.has_psks (keyed state.old) (nonce_now state.old)
-        (tokens_of placed.now)) }
     ensures written { WritesMessage (writer_of K.pairs means.now) state.old state.new known.now psks.now
         (tokens_of placed.now) payload.now out.new result }
 {

@@ -35,19 +35,3 @@ made-known (Ok (Made report)) Runs (Some bytes) None text read runs made = tt
 made-known (Ok (Made report)) Runs (Some bytes) (Some f) text read runs made = subst (λ (l : List ℕ). Compares l f report) read (made f runs)
 
 -- ---- why a comparison ends with status 3
-
--- memory ran out or a write was refused
-pub stops-comparing : {E : Type 0} (contents : E → Option (List ℕ)) (unreadable : List ℕ → Bool) (names : Compared) (why : Fault) (result : ℕ) (old new : E)
-    → EndsTest why
-    → (reported : Fault) × IsReportedOf why reported × (status_of reported ≡ result) × AppendsPrefix (contents old) (contents new) (error_text reported)
-    → StopsComparing names unreadable (contents old) (contents new)
-stops-comparing contents unreadable names why result old new ends reported =
-    let found = reported-ends why result (contents old) (contents new) ends reported in
-    record { text = error_text found.0; why = inl (found.0, found.1, refl); grown = found.2 }
-
--- a file can't be read
-pub stops-unread : (unreadable : List ℕ → Bool) (names : Compared) (which : ComparedFile) (before after : Option (List ℕ)) (line : List ℕ)
-    → IsTrue (unreadable (compared_name names which)) → line ≡ named_fault (compared_name names which) (fault_line Unreadable)
-    → AppendsPrefix before after line → StopsComparing names unreadable before after
-stops-unread unreadable names which before after line bad is grown =
-    record { text = line; why = inr (which, bad, is); grown = grown }

@@ -130,12 +130,6 @@ left-begun {O = O} contents bytes_at unreadable names a why middle new ends left
 -- ---- where the file can't be read, and its name may be that of a pattern
 
 module _ (bytes_at : List ℕ → Option (List ℕ)) (unreadable : List ℕ → Bool) (name : List ℕ) (bad : IsTrue (unreadable name)) where
-  pub named-explained : (r : Result (Option Explained) Fault) → IfOk r (λ found. IfSome found (SaysNamed name))
-      → IfOk r (λ found. IfSome found (IsExplainedAt bytes_at unreadable name))
-  named-explained (Ok (Some e)) h = inr (bad, h)
-  named-explained (Ok None) h = tt
-  named-explained (Err why) h = tt
-
   pub named-unread : (r : Result (Option Explained) Fault)
       → IfOk r (λ found. IfNone found ((text : List ℕ) → NamesText name text → ⊥)) → IfOk r (λ found. IfNone found (IsUnreadName unreadable name))
   named-unread (Ok (Some e)) h = tt

@@ -1,13 +1,15 @@
-use Rattle.std.proofs.Common.{rules, ◌≡◌, ap, ℕ, ◌+◌, List, ◌∷◌, ◌++◌, ◌≤◌, [], length, drop, take, ◌∙◌, refl, arith, sym, subst, drop-drop}
+use Rattle.std.proofs.Common.{rules, ◌≡◌, ap, ℕ, ◌+◌, List, ◌∷◌, ◌++◌, ◌≤◌, ◌<◌, ◌-◌, ◌^◌, [], length, drop, take, ◌∙◌, refl, arith, sym, subst, drop-drop}
 use Rattle.std.specs.Prelude.{Bool, is_some}
-use Rattle.noise_handshake.proofs.Common.{Ok, nil_from_length, reader_of, SymmetricState, Token, keyed, PlacedToken, token_bytes, after_token, after_tokens, Reader, BeginsAs, remote_after, cause_of, tokens_of, Fails, Keying, StopsKnowing}
+use Rattle.noise_handshake.proofs.Common.{Ok, nil_from_length, reader_of, SymmetricState, Token, keyed, PlacedToken, token_bytes, after_token, after_tokens, Reader, BeginsAs, remote_after, cause_of, tokens_of, Fails, StopsKnowing, nonce_now, nonce_after}
 use Rattle.noise_handshake.specs.inner.Reading.{ReadsTokens}
 use Rattle.noise_handshake.specs.inner.Stepping.{TellsFront}
 use Rattle.noise_handshake.proofs.Apart.{leads-none}
+use Rattle.noise_handshake.proofs.Counting.{after_token-counted, nonce-most}
 use Rattle.noise_handshake.proofs.Layouts.{first-placed, later-placed, rest-first}
 use Rattle.noise_handshake.proofs.Reading.{stopped, led, learned-on, stopped-later}
 use Rattle.noise_handshake.proofs.Stepwise.{psks-later}
 use Rattle.noise_handshake.proofs.Told.{all-read, before-read, told-one, width-read}
+use Rattle.noise_handshake.proofs.Widths.{after_token-keyed}
 use Rattle.noise_handshake.proofs.reader.+read_tokens.Goals as goal
 
 pub returns-in_default-clause-read : goal.returns-in_default-clause-read
@@ -54,7 +56,7 @@ returns-in-Ok-read_tokens-clause-read g t c place within are =
     let here = rest-first c.args.means.now.has_psks (keyed c.args.state.now) place c.args.placed.now c.in-Some.first.now c.in-Some.later.now c.in-Some.ensures.cases.0 are
     c.args.message.now c.bytes_from-rest.result.now c.bytes_from-rest.ensures.value in
     let u = later-placed c.args.means.now.has_psks (keyed c.args.state.now) place c.args.placed.now c.in-Some.first.now c.in-Some.later.now c.in-Some.ensures.cases.0 are
-    c.args.message.now c.bytes_from-rest.result.now c.bytes_from-rest.ensures.value within c.in-Ok.n (keyed c.read_token.new.state) c.in-Ok.ensures.width c.in-Ok.ensures.range (ap (λ (k : Keying). k.keyed) c.in-Ok.ensures.keying) in
+    c.args.message.now c.bytes_from-rest.result.now c.bytes_from-rest.ensures.value within c.in-Ok.n (keyed c.read_token.new.state) c.in-Ok.ensures.width c.in-Ok.ensures.range (ap keyed c.in-Ok.ensures.read.3 ∙ after_token-keyed c.args.means.now.has_psks c.args.state.now c.in-Some.first.now.token c.in-Ok.ensures.read.0) in
     let m : List ℕ = c.args.message.now in
     let n : ℕ = c.in-Ok.n in
     let rest : List ℕ = drop place m in
@@ -89,7 +91,7 @@ returns-in-Err-read_tokens-clause-read g t c place within are =
     let here = rest-first c.args.means.now.has_psks (keyed c.args.state.now) place c.args.placed.now c.in-Some.first.now c.in-Some.later.now c.in-Some.ensures.cases.0 are
     c.args.message.now c.bytes_from-rest.result.now c.bytes_from-rest.ensures.value in
     let u = later-placed c.args.means.now.has_psks (keyed c.args.state.now) place c.args.placed.now c.in-Some.first.now c.in-Some.later.now c.in-Some.ensures.cases.0 are
-    c.args.message.now c.bytes_from-rest.result.now c.bytes_from-rest.ensures.value within c.in-Ok.n (keyed c.read_token.new.state) c.in-Ok.ensures.width c.in-Ok.ensures.range (ap (λ (k : Keying). k.keyed) c.in-Ok.ensures.keying) in
+    c.args.message.now c.bytes_from-rest.result.now c.bytes_from-rest.ensures.value within c.in-Ok.n (keyed c.read_token.new.state) c.in-Ok.ensures.width c.in-Ok.ensures.range (ap keyed c.in-Ok.ensures.read.3 ∙ after_token-keyed c.args.means.now.has_psks c.args.state.now c.in-Some.first.now.token c.in-Ok.ensures.read.0) in
     let m : List ℕ = c.args.message.now in
     let n : ℕ = c.in-Ok.n in
     let rest : List ℕ = drop place m in
@@ -117,7 +119,7 @@ returns-in-Ok-read_tokens-clause-told g t c place within are =
     let from : ℕ = place + first.width in
     let here = rest-first has_psks key place c.args.placed.now first c.in-Some.later.now split are m c.bytes_from-rest.result.now c.bytes_from-rest.ensures.value in
     let u = later-placed has_psks key place c.args.placed.now first c.in-Some.later.now split are m c.bytes_from-rest.result.now c.bytes_from-rest.ensures.value
-    within n (keyed c.read_token.new.state) c.in-Ok.ensures.width c.in-Ok.ensures.range (ap (λ (k : Keying). k.keyed) c.in-Ok.ensures.keying) in
+    within n (keyed c.read_token.new.state) c.in-Ok.ensures.width c.in-Ok.ensures.range (ap keyed c.in-Ok.ensures.read.3 ∙ after_token-keyed c.args.means.now.has_psks c.args.state.now c.in-Some.first.now.token c.in-Ok.ensures.read.0) in
     let d = c.in-Ok.ensures.read in
     let piece : List ℕ = token_bytes r token d.0 in
     let range : n ≤ length (drop place m) = subst (λ (z : List ℕ). n ≤ length z) here c.in-Ok.ensures.range in
@@ -146,7 +148,7 @@ returns-in-Err-read_tokens-clause-told g t c place within are =
     let from : ℕ = place + first.width in
     let here = rest-first has_psks key place c.args.placed.now first c.in-Some.later.now split are m c.bytes_from-rest.result.now c.bytes_from-rest.ensures.value in
     let u = later-placed has_psks key place c.args.placed.now first c.in-Some.later.now split are m c.bytes_from-rest.result.now c.bytes_from-rest.ensures.value
-    within n (keyed c.read_token.new.state) c.in-Ok.ensures.width c.in-Ok.ensures.range (ap (λ (k : Keying). k.keyed) c.in-Ok.ensures.keying) in
+    within n (keyed c.read_token.new.state) c.in-Ok.ensures.width c.in-Ok.ensures.range (ap keyed c.in-Ok.ensures.read.3 ∙ after_token-keyed c.args.means.now.has_psks c.args.state.now c.in-Some.first.now.token c.in-Ok.ensures.read.0) in
     let d = c.in-Ok.ensures.read in
     let piece : List ℕ = token_bytes r token d.0 in
     let range : n ≤ length (drop place m) = subst (λ (z : List ℕ). n ≤ length z) here c.in-Ok.ensures.range in
@@ -160,11 +162,32 @@ returns-in-Err-read_tokens-clause-told g t c place within are =
     c.in-Err-read_tokens.k (subst (λ (z : SymmetricState). TellsFront g.S.Steps.after v z c.read_token.new.known c.psks_after-others.result.now
     (take c.in-Err-read_tokens.k later) m from c.step.new.self c.read_tokens.new.steps) d.3 (c.in-Err-read_tokens.ensures.told from u.1 u.2))
 
+pub returns-in-Ok-read_tokens-clause-within : goal.returns-in-Ok-read_tokens-clause-within
+returns-in-Ok-read_tokens-clause-within g t c =
+    let at = c.requires.placed in
+    let u = later-placed c.args.means.now.has_psks (keyed c.args.state.now) at.0 c.args.placed.now c.in-Some.first.now c.in-Some.later.now
+    c.in-Some.ensures.cases.0 at.2 c.args.message.now c.bytes_from-rest.result.now c.bytes_from-rest.ensures.value at.1 c.in-Ok.n
+    (keyed c.read_token.new.state) c.in-Ok.ensures.width c.in-Ok.ensures.range (ap keyed c.in-Ok.ensures.read.3 ∙ after_token-keyed c.args.means.now.has_psks c.args.state.now c.in-Some.first.now.token c.in-Ok.ensures.read.0) in
+    omega (arith, u.0, c.in-Ok-read_tokens.ensures.range (at.0 + c.in-Some.first.now.width) u.1 u.2)
+
+pub returns-in-Ok-read_tokens-clause-range : goal.returns-in-Ok-read_tokens-clause-range
+returns-in-Ok-read_tokens-clause-range g t c place within are =
+    let u = later-placed c.args.means.now.has_psks (keyed c.args.state.now) place c.args.placed.now c.in-Some.first.now c.in-Some.later.now
+    c.in-Some.ensures.cases.0 are c.args.message.now c.bytes_from-rest.result.now c.bytes_from-rest.ensures.value within c.in-Ok.n
+    (keyed c.read_token.new.state) c.in-Ok.ensures.width c.in-Ok.ensures.range (ap keyed c.in-Ok.ensures.read.3 ∙ after_token-keyed c.args.means.now.has_psks c.args.state.now c.in-Some.first.now.token c.in-Ok.ensures.read.0) in
+    omega (arith, u.0, c.in-Ok-read_tokens.ensures.range (place + c.in-Some.first.now.width) u.1 u.2)
+
 pub read_tokens-requires : goal.read_tokens-requires
 read_tokens-requires g t c κs within =
     let at = c.requires.placed in
     let u = later-placed c.args.means.now.has_psks (keyed c.args.state.now) at.0 c.args.placed.now c.in-Some.first.now c.in-Some.later.now
     c.in-Some.ensures.cases.0 at.2 c.args.message.now c.bytes_from-rest.result.now c.bytes_from-rest.ensures.value at.1 c.in-Ok.n
-    (keyed c.read_token.new.state) c.in-Ok.ensures.width c.in-Ok.ensures.range (ap (λ (k : Keying). k.keyed) c.in-Ok.ensures.keying) in
+    (keyed c.read_token.new.state) c.in-Ok.ensures.width c.in-Ok.ensures.range (ap keyed c.in-Ok.ensures.read.3 ∙ after_token-keyed c.args.means.now.has_psks c.args.state.now c.in-Some.first.now.token c.in-Ok.ensures.read.0) in
     let split : tokens_of c.args.placed.now ≡ c.in-Some.first.now.token ∷ tokens_of c.in-Some.later.now = ap tokens_of c.in-Some.ensures.cases.0 in
-    (search rules, (within.0, (within.1, ((at.0 + c.in-Some.first.now.width, u.1, u.2), (search (rules, psks-later), search rules)))))
+    let r : SymmetricState = c.args.state.now in
+    let token : Token = c.in-Some.first.now.token in
+    let has_psks : Bool = c.args.means.now.has_psks in
+    let counted : nonce_now c.read_token.new.state ≡ nonce_after has_psks (keyed r) (nonce_now r) token =
+    ap nonce_now c.in-Ok.ensures.read.3 ∙ after_token-counted has_psks r token c.in-Ok.ensures.read.0 in
+    let nonces : nonce_now c.read_token.new.state + length (tokens_of c.in-Some.later.now) < 2 ^ 64 - 1 = omega (arith, c.requires.nonces, counted, nonce-most has_psks (keyed r) (nonce_now r) token, ap length split) in
+    (search rules, (within.0, (within.1, ((at.0 + c.in-Some.first.now.width, u.1, u.2), (search (rules, psks-later), nonces)))))

@@ -3,15 +3,21 @@ use Rattle.std.proofs.lemmas.Slice.{take-put_mid_below}
 use Rattle.noise_handshake.proofs.Common.{reader_of, SymmetricState, after_ciphertext, decrypts-not, nonce_now, take_rest, keyed, ciphertext, after_tokens, Token, Reader, BeginsAs, StopsKnowing, tokens_of}
 use borrow.Rule.Slice.PartMut.{put_mid}
 use Rattle.noise_handshake.specs.declared.faults.Cause.TheVariants.{Short, Tag}
-use Rattle.noise_handshake.proofs.Counting.{nonces-most}
+use Rattle.noise_handshake.proofs.Counting.{after_tokens-most}
 use Rattle.noise_handshake.proofs.Tags.{sealed_len-tag}
 use Rattle.noise_handshake.proofs.Layouts.{length-tokens_of}
 use Rattle.noise_handshake.proofs.Apart.{reads-whole, knows-last}
 use Rattle.noise_handshake.proofs.Reading.{written-at, rest-at}
+use Rattle.noise_handshake.proofs.Widths.{fit-carry}
 use Rattle.noise_handshake.proofs.reader.read_message.Goals as goal
 
 pub unreachable-requires : goal.unreachable-requires
-unreachable-requires g c = search (rules, nonces-most)
+unreachable-requires g c =
+    let q = c.in-Ok.ensures.read 0 (omega arith) c.requires.placed in
+    let most = after_tokens-most c.args.means.now.has_psks c.args.state.now c.read_tokens.new.state (tokens_of c.args.placed.now) q.0
+    (fit-carry (reader_of g.K.Keys.pairs c.args.means.now) c.args.known.now c.args.psks.now (tokens_of c.args.placed.now) q.0 q.1.fit) q.2 in
+    let nonces : nonce_now c.read_tokens.new.state < 2 ^ 64 - 1 = omega (arith, most, c.requires.nonces) in
+    search rules
 
 pub returns-in-Ok-decrypt_and_hash-clause-beyond : goal.returns-in-Ok-decrypt_and_hash-clause-beyond
 returns-in-Ok-decrypt_and_hash-clause-beyond g c = search (rules, take-put_mid_below, rest-at, take_rest)
@@ -56,7 +62,9 @@ returns-in-Err-Short-clause-read g c =
     let i1 : BeginsAs v c.args.known.now c.args.psks.now r (tokens_of c.args.placed.now) start.0 m (drop n m) =
     subst (λ (k : ℕ). BeginsAs v c.args.known.now c.args.psks.now r (tokens_of c.args.placed.now) start.0 m (drop k m)) none start.1 in
     let after : SymmetricState = after_tokens c.args.means.now.has_psks r (tokens_of c.args.placed.now) start.0 in
-    let nonces : nonce_now c.read_tokens.new.state < 2 ^ 64 - 1 = search (rules, nonces-most) in
+    let most = after_tokens-most c.args.means.now.has_psks r c.read_tokens.new.state (tokens_of c.args.placed.now) start.0
+    (fit-carry (reader_of g.K.Keys.pairs c.args.means.now) c.args.known.now c.args.psks.now (tokens_of c.args.placed.now) start.0 start.1.fit) start.2 in
+    let nonces : nonce_now c.read_tokens.new.state < 2 ^ 64 - 1 = omega (arith, most, c.requires.nonces) in
     let fits : length (take (length m - n) (drop n m)) ≤ 65535 = omega (arith, length-drop n m, length-take (length m - n) (drop n m)) in
     let goes : take (length m - n) (drop n m) ≡ drop n m = take_all (length m - n) (drop n m) (omega (arith, length-drop n m)) in
     let ts : List Token = tokens_of c.args.placed.now in

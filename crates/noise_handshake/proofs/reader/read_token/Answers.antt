@@ -1,5 +1,5 @@
-use Rattle.std.proofs.Common.{◌≡◌, [], get_or, sym, subst}
-use Rattle.noise_handshake.proofs.Common.{reader_of, OnOk, Token, S, keying_of, keying_after}
+use Rattle.std.proofs.Common.{[], get_or}
+use Rattle.noise_handshake.proofs.Common.{reader_of, S}
 use Rattle.noise_handshake.proofs.Psks.{first_psk-read, psk-read, read-as}
 use Rattle.noise_handshake.proofs.reader.read_token.Goals as goal
 
@@ -15,9 +15,3 @@ returns-in-S-clause-read g c =
     read-as c.read_s.new.state
     (reader_of g.K.Keys.pairs c.args.means.now)
     c.args.known.now c.read_s.new.known c.args.psks.now c.args.state.now c.args.message.now c.read_s.result S c.args.placed.token c.in-S.is c.read_s.ensures.read
-
-pub returns-in-S-clause-keying : goal.returns-in-S-clause-keying
-returns-in-S-clause-keying g c =
-    subst (λ (t : Token). OnOk c.read_s.result (keying_of c.read_s.new.state c.read_s.new.known
-    ≡ keying_after c.args.means.now.has_psks (keying_of c.args.state.now c.args.known.now) t)) (sym c.in-S.is)
-    (c.read_s.ensures.keying c.args.means.now.has_psks)

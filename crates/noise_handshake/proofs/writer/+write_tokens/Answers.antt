@@ -6,6 +6,7 @@ use Rattle.noise_handshake.specs.inner.Writing.{WritesTokens}
 use Rattle.noise_handshake.proofs.Giving.{widths, given-on, front-on, after-on, lacks-on}
 use Rattle.noise_handshake.proofs.Layouts.{first-placed}
 use Rattle.noise_handshake.proofs.Told.{before-written, told-one, width-written}
+use Rattle.noise_handshake.proofs.Widths.{after_token-keyed}
 use Rattle.noise_handshake.proofs.Written.{joined, rest-after}
 use Rattle.noise_handshake.proofs.writer.+write_tokens.Goals as goal
 
@@ -68,7 +69,7 @@ returns-in-Err-clause-told g t c place are =
     let told = told-one g.S.Steps.after has_psks r token a.0 place first.place n c.write_token.new.state c.args.steps.now c.step.new.self
     c.step.ensures p.0 wide a.3 in
     let same : n ≡ first.width = c.in-Some-write_token.ensures.width ∙ sym p.1 in
-    let are2 = subst (λ (b : Bool). ArePlaced has_psks b (place + first.width) c.in-Some.later.now) (sym c.in-Some-write_token.ensures.keyed) p.2 in
+    let are2 = subst (λ (b : Bool). ArePlaced has_psks b (place + first.width) c.in-Some.later.now) (sym (ap keyed a.3 ∙ after_token-keyed has_psks r token a.0)) p.2 in
     before-written g.S.Steps.after w c.args.known.now c.args.psks.now c.psks_after-others.result.now r (tokens_of c.args.placed.now) later token a.0
     place (place + first.width) c.args.steps.now c.step.new.self c.write_tokens.new.steps (ap tokens_of split) a.1 c.psks_after-others.ensures.value
     (ap (λ (k : ℕ). place + k) (sym same ∙ sym wide)) told c.in-Err.k (subst (λ (z : SymmetricState). TellsGiven g.S.Steps.after w z c.args.known.now c.psks_after-others.result.now (take c.in-Err.k later)

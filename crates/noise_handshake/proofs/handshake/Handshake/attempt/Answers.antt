@@ -1,13 +1,14 @@
 use Rattle.std.proofs.Common.{rules, ◌≡◌, ◌<◌, ◌∙◌, ℕ, List, length, slice_range, refl, ap, sym, subst, arith, take, drop, ◌-◌}
-use Rattle.noise_handshake.proofs.Common.{SymmetricState, PlacedToken, HandshakeValue, ValueMatches, Advances, after_message, after_payload, remote_after, tokens_of, keying_of, Ok, reader_of, StopsKnowing}
+use Rattle.std.specs.Prelude.{Bool}
+use Rattle.noise_handshake.proofs.Common.{SymmetricState, PlacedToken, HandshakeValue, ValueMatches, Advances, after_message, after_payload, remote_after, tokens_of, after_tokens, ciphertext, Ok, reader_of, StopsKnowing}
 use Rattle.noise_handshake.specs.inner.Reading.{ReadsMessage}
-use Rattle.noise_handshake.specs.inner.Keying.{keying_after_message}
 use Rattle.noise_handshake.proofs.Advancing.{unended-read}
 use Rattle.noise_handshake.proofs.Followed.{gone-advances, gone-to, leaves-read}
 use Rattle.noise_handshake.proofs.Layouts.{length-tokens_of}
 use Rattle.noise_handshake.proofs.Next.{reads-next, reads-theirs, places-next, psks-next, nonces-next, known-next, tokens-next, trial-next, listening-next}
 use Rattle.noise_handshake.proofs.Standing.{accepted, for-view, refused}
 use Rattle.noise_handshake.proofs.Wanted.{wants}
+use Rattle.noise_handshake.proofs.Widths.{fit-carry}
 use Rattle.noise_handshake.proofs.handshake.Handshake.attempt.Goals as goal
 
 pub read_message-requires-clause-placed : goal.read_message-requires-clause-placed
@@ -35,10 +36,14 @@ go_on-requires-clause-leaves g c =
     let a = c.self.inside in
     let less = reads-next g.K.Keys.pairs c.self.inside c.self.invariant c.args.self.now c.self.view_is c.requires.due in
     let ds : List PlacedToken = c.deref-2.result.now in
+    let b : Bool = a.means.has_psks in
+    let payload : List ℕ = slice_range c.read_message.new.message c.in-Ok.place.0 c.in-Ok.place.1 in
+    let q = c.in-Ok.ensures.read in
     leaves-read P a c.self.invariant less c.args.self.now c.self.view_is (tokens_of ds) (tokens-next P a c.self.invariant less ds c.deref-2.ensures.0)
-    (omega (arith, length-tokens_of ds, c.deref-2.ensures.1)) (reads-theirs P a c.self.invariant c.args.self.now c.self.view_is c.requires.due)
-    c.read_message.new.state c.read_message.new.known
-    (c.in-Ok.ensures.keying ∙ ap (λ (z : SymmetricState). keying_after_message a.means.has_psks (keying_of z a.remote) (tokens_of ds)) c.for_trial-state.ensures)
+    (omega (arith, length-tokens_of ds, c.deref-2.ensures.1)) q.0 (fit-carry (reader_of P a.means) a.remote _ (tokens_of ds) q.0 q.1.fit)
+    (ciphertext (after_tokens b a.state (tokens_of ds) q.0) payload) c.read_message.new.state
+    (q.2 ∙ ap (λ (z : SymmetricState). after_payload b z (tokens_of ds) q.0 payload) c.for_trial-state.ensures)
+    (reads-theirs P a c.self.invariant c.args.self.now c.self.view_is c.requires.due) c.read_message.new.known q.3
 
 pub returns-in-Ok-clause-state : goal.returns-in-Ok-clause-state
 returns-in-Ok-clause-state g c =

@@ -1,18 +1,18 @@
 use Rattle.std.proofs.Common.{◌≡◌, ◌+◌, ◌-◌, ◌<◌, ◌≤◌, ◌^◌, ℕ, Bool, List, length, take, ap, ◌∙◌, arith, length-take, subst, drop}
-use Rattle.noise_handshake.proofs.Common.{after_ciphertext, reader_of, count_by, is_psk, Some, Token, SymmetricState, keyed, nonce_now, Reader, BeginsAs, remote_after, ArePlaced, PlacedToken, tokens_of, tokens_at, Keying, keying_of, Ok, StopsKnowing}
+use Rattle.noise_handshake.proofs.Common.{after_ciphertext, reader_of, count_by, is_psk, Some, Token, SymmetricState, keyed, nonce_now, Reader, BeginsAs, remote_after, ArePlaced, PlacedToken, tokens_of, tokens_at, after_tokens, Ok, StopsKnowing}
 use Rattle.noise_handshake.specs.inner.Reading.{ReadsTokens}
 use Rattle.noise_handshake.specs.inner.Stepping.{TellsFront}
 use Rattle.noise_handshake.specs.declared.following.Front.{Front}
 use Rattle.noise_handshake.specs.inner.Following.{Fronts}
-use Rattle.noise_handshake.specs.inner.Keying.{keying_after_tokens}
-use Rattle.noise_handshake.proofs.Counting.{nonces-most}
-use Rattle.noise_handshake.proofs.Followed.{count-now, front-read, front-unread, leaves-read, read-mixed, whole-due}
+use Rattle.noise_handshake.proofs.Counting.{after_tokens-most}
+use Rattle.noise_handshake.proofs.Followed.{count-now, front-read, front-unread, leaves-read, whole-due}
 use Rattle.noise_handshake.proofs.Fronts.{tokens-take, placed-take}
 use Rattle.noise_handshake.proofs.Later.{count-take}
 use Rattle.noise_handshake.proofs.Layouts.{length-tokens_of}
 use Rattle.noise_handshake.proofs.LateParties.{supplied-not, value-of}
 use Rattle.noise_handshake.proofs.Next.{reads-next, reads-theirs, places-next, psks-before, nonces-next, trial-next, listening-next}
 use Rattle.noise_handshake.proofs.Standing.{for-view}
+use Rattle.noise_handshake.proofs.Widths.{fit-carry}
 use Rattle.noise_handshake.proofs.handshake.Handshake.read_front.Goals as goal
 
 pub returns-in-Some-clause-front : goal.returns-in-Some-clause-front
@@ -82,8 +82,13 @@ returns-in-Ok-clause-nonces g c =
     let cut : tokens_of (take count ds) ≡ take count (tokens_of ds) = tokens-take ds count in
     let bound : nonce_now c.for_trial-state.result + length (tokens_of ds) < 2 ^ 64 - 1 =
     nonces-next P a c.self.invariant less ds d c.for_trial-state.result c.for_trial-state.ensures (omega (arith, c.deref-2.ensures.1)) in
-    let most = nonces-most a.means.has_psks (keyed c.for_trial-state.result) (nonce_now c.for_trial-state.result) (tokens_of (take count ds)) in
-    omega (arith, bound, most, ap (λ (k : Keying). k.nonce) c.in-Ok.ensures.keying, ap length cut, length-take count (tokens_of ds))
+    let r : SymmetricState = c.for_trial-state.result in
+    let us : List Token = tokens_of (take count ds) in
+    let placed : ArePlaced a.means.has_psks (keyed r) 0 (take count ds) =
+    placed-take a.means.has_psks (keyed r) 0 ds count (places-next P a c.self.invariant less ds d r c.for_trial-state.ensures) in
+    let q = c.in-Ok.ensures.read 0 (omega arith) placed in
+    let most = after_tokens-most a.means.has_psks r c.read_tokens.new.state us q.0 (fit-carry (reader_of P a.means) a.remote _ us q.0 q.1.fit) q.2 in
+    omega (arith, bound, most, ap length cut, length-take count (tokens_of ds))
 
 pub returns-in-Ok-clause-leaves : goal.returns-in-Ok-clause-leaves
 returns-in-Ok-clause-leaves g c all =
@@ -99,10 +104,14 @@ returns-in-Ok-clause-leaves g c all =
     let us : List Token = tokens_of (take count ds) in
     let e = whole-due P a c.self.invariant less c.args.self.now c.self.view_is ds d count all in
     let short : length us ≤ 10 = omega (arith, ap length cut, length-take count (tokens_of ds), length-tokens_of ds, c.deref-2.ensures.1) in
-    λ bytes. leaves-read P a c.self.invariant less c.args.self.now c.self.view_is us e short
-    (reads-theirs P a c.self.invariant c.args.self.now c.self.view_is c.requires.due) (after_ciphertext f.state bytes) f.remote
-    (read-mixed P a c.self.invariant less c.args.self.now c.self.view_is us e short f bytes
-    (c.in-Ok.ensures.keying ∙ ap (λ (z : SymmetricState). keying_after_tokens b (keying_of z a.remote) us) c.for_trial-state.ensures))
+    let r : SymmetricState = c.for_trial-state.result in
+    let placed : ArePlaced b (keyed r) 0 (take count ds) =
+    placed-take b (keyed r) 0 ds count (places-next P a c.self.invariant less ds d r c.for_trial-state.ensures) in
+    let q = c.in-Ok.ensures.read 0 (omega arith) placed in
+    let state : f.state ≡ after_tokens b a.state us q.0 = q.2 ∙ ap (λ (z : SymmetricState). after_tokens b z us q.0) c.for_trial-state.ensures in
+    λ bytes. leaves-read P a c.self.invariant less c.args.self.now c.self.view_is us e short q.0 (fit-carry (reader_of P a.means) a.remote _ us q.0 q.1.fit) bytes
+    (after_ciphertext f.state bytes) (ap (λ (z : SymmetricState). after_ciphertext z bytes) state)
+    (reads-theirs P a c.self.invariant c.args.self.now c.self.view_is c.requires.due) f.remote q.3
 
 pub returns-in-Ok-clause-front : goal.returns-in-Ok-clause-front
 returns-in-Ok-clause-front g c v xs rest s within begins =

@@ -1,11 +1,13 @@
 use Rattle.std.proofs.Common.{rules, ℕ, ◌+◌, ◌<◌, ◌≤◌, List, length, take, refl, ap, sym, subst, true, ◌∙◌, arith, length-take, drop, ◌-◌, ◌≡◌}
-use Rattle.noise_handshake.proofs.Common.{Some, Token, SymmetricState, keyed, nonce_now, keyed_after_tokens, nonce_after_message, PlacedToken, tokens_of, Advances, after_own, after_payload, HandshakeValue, ValueMatches, held_in, Ok, writer_of}
+use Rattle.std.specs.Prelude.{Bool}
+use Rattle.noise_handshake.proofs.Common.{Some, Token, SymmetricState, after_tokens, ciphertext, PlacedToken, tokens_of, Advances, after_own, after_payload, HandshakeValue, ValueMatches, held_in, Ok, writer_of}
 use Rattle.noise_handshake.specs.inner.Writing.{WritesMessage}
 use Rattle.noise_handshake.proofs.Advancing.{unended-write}
 use Rattle.noise_handshake.proofs.Followed.{gone-advances, gone-to, leaves-wrote}
 use Rattle.noise_handshake.proofs.Layouts.{length-tokens_of}
 use Rattle.noise_handshake.proofs.Next.{writes-next, writes-ours, writes-long, writes-wide, writes-room, writes-most, psks-next, nonces-next, own-ours, tokens-next, trial-next, speaking-next, short-next}
 use Rattle.noise_handshake.proofs.Standing.{ends}
+use Rattle.noise_handshake.proofs.Widths.{given-carry}
 use Rattle.noise_handshake.proofs.Wrote.{for-view, written, lacking}
 use Rattle.noise_handshake.proofs.handshake.Handshake.write_due.Goals as goal
 
@@ -53,11 +55,13 @@ go_on-requires-clause-leaves g c =
     let less = writes-next P a c.self.invariant c.args.self.now c.self.view_is (length c.args.payload.now) c.requires.due in
     let ds : List PlacedToken = c.deref-2.result.now in
     let us : List Token = tokens_of ds in
+    let b : Bool = a.means.has_psks in
+    let q = c.in-Ok.ensures.written in
     leaves-wrote P a c.self.invariant less c.args.self.now c.self.view_is us (tokens-next P a c.self.invariant less ds c.deref-2.ensures.0)
-    (omega (arith, length-tokens_of ds, c.deref-2.ensures.1))
-    (writes-ours P a c.self.invariant c.args.self.now c.self.view_is (length c.args.payload.now) c.requires.due) c.write_message.new.state
-    (c.in-Ok.ensures.keyed ∙ ap (λ (z : SymmetricState). keyed_after_tokens a.means.has_psks (keyed z) us) c.for_trial-state.ensures)
-    (c.in-Ok.ensures.counted ∙ ap (λ (z : SymmetricState). nonce_after_message a.means.has_psks (keyed z) (nonce_now z) us) c.for_trial-state.ensures)
+    (omega (arith, length-tokens_of ds, c.deref-2.ensures.1)) q.0 (given-carry (writer_of P a.means) a.remote _ us q.0 q.1)
+    (ciphertext (after_tokens b a.state us q.0) c.args.payload.now) c.write_message.new.state
+    (q.3 ∙ ap (λ (z : SymmetricState). after_payload b z us q.0 c.args.payload.now) c.for_trial-state.ensures)
+    (writes-ours P a c.self.invariant c.args.self.now c.self.view_is (length c.args.payload.now) c.requires.due)
 
 pub returns-in-Ok-clause-state : goal.returns-in-Ok-clause-state
 returns-in-Ok-clause-state g c =

@@ -1,15 +1,16 @@
 use Rattle.std.proofs.Common.{◌≡◌, ◌+◌, ◌-◌, ◌<◌, ◌≤◌, ◌^◌, ℕ, Bool, List, length, take, ap, sym, subst, ◌∙◌, arith, length-take, drop}
-use Rattle.noise_handshake.proofs.Common.{after_ciphertext, writer_of, count_by, is_psk, IsTrue, list_all, Some, Token, SymmetricState, keyed, nonce_now, Writer, Given, keyed_after_tokens, nonce_after_tokens, has_own, ArePlaced, PlacedToken, tokens_of, tokens_at, Ok}
+use Rattle.noise_handshake.proofs.Common.{after_ciphertext, writer_of, count_by, is_psk, IsTrue, list_all, Some, Token, SymmetricState, keyed, nonce_now, Writer, Given, after_tokens, has_own, ArePlaced, PlacedToken, tokens_of, tokens_at, Ok}
 use Rattle.noise_handshake.specs.inner.Writing.{WritesTokens}
 use Rattle.noise_handshake.specs.inner.Stepping.{TellsGiven}
 use Rattle.noise_handshake.specs.inner.Following.{Fronts}
-use Rattle.noise_handshake.proofs.Counting.{nonces-most}
-use Rattle.noise_handshake.proofs.Followed.{count-now, front_of, front-written, front-unwritten, leaves-wrote, whole-due, widths-most, wrote-mixed}
+use Rattle.noise_handshake.proofs.Counting.{after_tokens-most}
+use Rattle.noise_handshake.proofs.Followed.{count-now, front_of, front-written, front-unwritten, leaves-wrote, whole-due, widths-most}
 use Rattle.noise_handshake.proofs.Fronts.{all-take, tokens-take, placed-take}
 use Rattle.noise_handshake.proofs.Later.{count-take}
 use Rattle.noise_handshake.proofs.Layouts.{length-tokens_of}
 use Rattle.noise_handshake.proofs.LateParties.{supplied-not, value-of}
 use Rattle.noise_handshake.proofs.Next.{speaks-next, speaks-ours, places-next, psks-before, nonces-next, own-ours, trial-next, due-next}
+use Rattle.noise_handshake.proofs.Widths.{given-carry}
 use Rattle.noise_handshake.proofs.Wrote.{for-view}
 use Rattle.noise_handshake.proofs.handshake.Handshake.write_front.Goals as goal
 
@@ -91,8 +92,11 @@ returns-in-Ok-clause-nonces g c =
     let cut : tokens_of (take count ds) ≡ take count (tokens_of ds) = tokens-take ds count in
     let bound : nonce_now c.for_trial-state.result + length (tokens_of ds) < 2 ^ 64 - 1 =
     nonces-next P a c.self.invariant less ds d c.for_trial-state.result c.for_trial-state.ensures (omega (arith, c.deref-2.ensures.1)) in
-    let most = nonces-most a.means.has_psks (keyed c.for_trial-state.result) (nonce_now c.for_trial-state.result) (tokens_of (take count ds)) in
-    omega (arith, bound, most, c.in-Ok.ensures.counted, ap length cut, length-take count (tokens_of ds))
+    let r : SymmetricState = c.for_trial-state.result in
+    let us : List Token = tokens_of (take count ds) in
+    let q = c.in-Ok.ensures.written in
+    let most = after_tokens-most a.means.has_psks r c.write_tokens.new.state us q.0 (given-carry (writer_of P a.means) a.remote _ us q.0 q.1) q.3 in
+    omega (arith, bound, most, ap length cut, length-take count (tokens_of ds))
 
 pub returns-in-Ok-clause-leaves : goal.returns-in-Ok-clause-leaves
 returns-in-Ok-clause-leaves g c all =
@@ -104,15 +108,16 @@ returns-in-Ok-clause-leaves g c all =
     let count : ℕ = c.args.count in
     let cut : tokens_of (take count ds) ≡ take count (tokens_of ds) = tokens-take ds count in
     let b : Bool = a.means.has_psks in
-    let state : SymmetricState = c.write_tokens.new.state in
     let us : List Token = tokens_of (take count ds) in
     let e = whole-due P a c.self.invariant less c.args.self.now c.self.view_is ds d count all in
     let short : length us ≤ 10 = omega (arith, ap length cut, length-take count (tokens_of ds), length-tokens_of ds, c.deref-2.ensures.1) in
-    let key = c.in-Ok.ensures.keyed ∙ ap (λ (z : SymmetricState). keyed_after_tokens b (keyed z) us) c.for_trial-state.ensures in
-    λ bytes. leaves-wrote P a c.self.invariant less c.args.self.now c.self.view_is us e short
-    (speaks-ours P a c.self.invariant c.args.self.now c.self.view_is c.requires.due) (after_ciphertext state bytes) key
-    (wrote-mixed P a c.self.invariant less c.args.self.now c.self.view_is us e short state bytes key
-    (c.in-Ok.ensures.counted ∙ ap (λ (z : SymmetricState). nonce_after_tokens b (keyed z) (nonce_now z) us) c.for_trial-state.ensures))
+    let q = c.in-Ok.ensures.written in
+    let state : c.write_tokens.new.state ≡ after_tokens b a.state us q.0 =
+    q.3 ∙ ap (λ (z : SymmetricState). after_tokens b z us q.0) c.for_trial-state.ensures in
+    λ bytes. leaves-wrote P a c.self.invariant less c.args.self.now c.self.view_is us e short q.0
+    (given-carry (writer_of P a.means) a.remote _ us q.0 q.1) bytes (after_ciphertext c.write_tokens.new.state bytes)
+    (ap (λ (z : SymmetricState). after_ciphertext z bytes) state)
+    (speaks-ours P a c.self.invariant c.args.self.now c.self.view_is c.requires.due)
 
 pub returns-in-Ok-clause-front : goal.returns-in-Ok-clause-front
 returns-in-Ok-clause-front g c v xs s within given =
