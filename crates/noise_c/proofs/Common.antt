@@ -6,8 +6,8 @@ pub use Rattle.std.specs.Prelude.{Bool, IfOk, IfSome, IsOk, MatchOption, None, O
 pub use Rattle.noise_handshake.specs.Counterparts.{is_dh}
 pub use Rattle.noise_handshake.specs.Asking.{LeavesUnread, LeavesUnwritten, Wants, WantsPskToRead, WantsPskToWrite, after_asked}
 pub use Rattle.noise_handshake.specs.HandshakeValue.{HandshakeValue, IsAgreement, IsOfTurn, IsWant, after_unread, ended_as, length_unless, message_len_of, write_fault}
-pub use Rattle.noise_handshake.specs.Late.{IsLateWhole, with_later}
-pub use Rattle.noise_handshake.specs.Matching.{DoesNotRead, ValueMatches, after_message, after_not_read, after_own}
+pub use Rattle.noise_handshake.specs.Late.{IsLateWhole, MatchesWith, party_with, with_later}
+pub use Rattle.noise_handshake.specs.Matching.{DoesNotRead, IsParty, after_message, after_not_read, after_own}
 pub use Rattle.noise_handshake.specs.Party.{Accepts, BeginsAs, CanBegin, Fit, Fits, Party, Reader, Reads, Refuses, Stops, cause_at, cause_of, dh_result_of, first_psk, known_after, own_at, psks_after, reader, remote_after, remote_at, tokens_at, tokens_now}
 pub use Rattle.noise_handshake.specs.Setup.{party_at_start, psks_of, setup_fault}
 pub use Rattle.noise_handshake.specs.Wanting.{LacksDhResultFor, StopsFor, WantsToRead, WantsToWrite}

@@ -1,5 +1,5 @@
 -- The number that finishing reports.
-use Rattle.std.proofs.Common.{◌≡◌, ◌<◌, ℕ, List, [], length, drop, true, false, refl, ap, sym, subst, ◌∙◌, arith}
+use Rattle.std.proofs.Common.{◌≡◌, ℕ, List, [], length, drop, true, false, ap, sym, subst, ◌∙◌, arith}
 use Rattle.std.specs.Prelude.{replicate, not}
 use Rattle.std.proofs.Math.Seq.{drop-length}
 use Rattle.noise_c.proofs.Common.{Bool, None, Some, is_some, if◌then◌else◌, ◌==◌, nat_tests, psks_of, Plan, HandshakeValue, Table, NoiseHandshake, IsUsable, handshake_from_c}

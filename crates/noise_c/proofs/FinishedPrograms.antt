@@ -149,12 +149,12 @@ kept-going v last _ (took_one _ _ m more accepts rest) = kept-going (after_messa
 
 at-end : (k : NoiseHandshake) → IsDone k → IsAtEnd k
 at-end k done p v keeps =
-    sym keeps.matches.passed ∙ done.passed p keeps.pattern ∙ ap (λ (q : Plan). length q.messages) keeps.matches.pattern
+    sym (ap (λ (z : Party). z.passed) keeps.matches) ∙ done.passed p keeps.pattern ∙ ap (λ (q : Plan). length q.messages) (ap (λ (z : Party). z.pattern) keeps.matches)
 
 finishes : (k : NoiseHandshake) (p : Plan) (v : Party) → IsUsable k → KeepsParty k p v → v.ended ≡ false → IsDone k → Finishes k 0
 finishes k p v usable keeps going done = record {
   unusable = (other-number 0 23 refl, λ none. absurd (none usable));
-  same = λ u. sym (finish-done (handshake_from_c u.pattern k) (keeps.matches.ended ∙ going) (done.passed u.pattern u.named));
+  same = λ u. sym (finish-done (handshake_from_c u.pattern k) ((ap (λ (z : Party). z.ended) keeps.matches) ∙ going) (done.passed u.pattern u.named));
   codes = inl refl;
 }
 
@@ -184,9 +184,9 @@ finish-both met p g h t set_up set_up_too keys done done_too =
         wrote_and_took = ps.1;
         took_and_wrote = qs.1;
         some = omega (arith, all, done.some);
-        passed = sym here.matches.passed ∙ all;
-        passed_too = sym there.matches.passed ∙ done_too.passed p there.pattern;
-        keyed = keyed-as g.last.cipher v.state.cipher.key done.keyed (ap (λ (s : SymmetricState). s.cipher.key) here.matches.state);
+        passed = sym (ap (λ (z : Party). z.passed) here.matches) ∙ all;
+        passed_too = sym (ap (λ (z : Party). z.passed) there.matches) ∙ done_too.passed p there.pattern;
+        keyed = keyed-as g.last.cipher v.state.cipher.key done.keyed (ap (λ (s : SymmetricState). s.cipher.key) (ap (λ (z : Party). z.state) here.matches));
       };
       handed_in = dh_results_in g.last;
       handed_in_too = dh_results_in h.last;

@@ -7,7 +7,7 @@ use Rattle.std.specs.Prelude.{map, take}
 use Rattle.std.proofs.lemmas.List.{map-append, take_all}
 use Rattle.noise_c.specs.HandshakeStructs.{entry_in}
 use Rattle.noise_c.specs.declared.structs.NoiseAnswer.{NoiseAnswer}
-use Rattle.noise_c.proofs.Common.{Plan, HandshakeValue, with_later, IsLateWhole, Party, Table, NoiseHandshake, psks_of, ValueMatches, IsValid, pairs_in, text_from_c, handshake_from_c, IsGiven, IsPatternOf, IsUsable, KeepsParty}
+use Rattle.noise_c.proofs.Common.{Plan, HandshakeValue, with_later, IsLateWhole, Party, Table, NoiseHandshake, psks_of, IsParty, IsValid, pairs_in, text_from_c, handshake_from_c, IsGiven, IsPatternOf, IsUsable, KeepsParty}
 use Rattle.noise_handshake.specs.Parts.{IsWholeValue}
 
 set-first : {X : Type 0} (ws : List X) (y : X) → length ws ≡ 1 → slice_set ws 0 y ≡ y ∷ []
@@ -40,7 +40,7 @@ moved-last xs y c e few =
 pub matches-later : (old new : NoiseHandshake) (psk : List ℕ) (p : Plan) (v : Party) (later : List (List ℕ)) → IsGiven old new psk
     → v.psks ≡ (handshake_from_c p old).psks ++ psk ∷ later → KeepsParty old p v → KeepsParty new p v
 matches-later old new psk p v later g e k =
-    let rest : k.later ≡ psk ∷ later = append_cancel_left (handshake_from_c p old).psks k.later (psk ∷ later) (k.matches.psks ∙ e) in
+    let rest : k.later ≡ psk ∷ later = append_cancel_left (handshake_from_c p old).psks k.later (psk ∷ later) (ap (λ (z : Party). z.psks) k.matches ∙ e) in
     let same : with_later (handshake_from_c p old) k.later ≡ with_later (handshake_from_c p new) later =
     ap (λ (z : List (List ℕ)). with_later (handshake_from_c p old) z) rest
     ∙ ap (λ (z : List (List ℕ)). record (handshake_from_c p old) { psks = z }) (sym (append_assoc (handshake_from_c p old).psks (psk ∷ []) later))
@@ -48,7 +48,7 @@ matches-later old new psk p v later g e k =
     record {
       pattern = subst (λ (z : List ℕ). IsPatternOf z p) (sym g.text) k.pattern;
       later = later;
-      matches = subst (λ (z : HandshakeValue Table). ValueMatches pairs_in z v) same k.matches;
+      matches = subst (λ (z : HandshakeValue Table). IsParty pairs_in z v) same k.matches;
     }
 
 -- where a psk lacks, one more may be there

@@ -80,14 +80,14 @@ psks-step (ts ∷ ms) (suc n) xs h =
     ∙ ap (λ (j : ℕ). drop (psks_of (take j (ts ∷ ms))) xs) {x = suc (n + 1)} {y = suc n + 1} (omega arith)
 
 pub pattern-is : (p : Plan) (s : Secrets) (v : Party) (k : NoiseHandshake) → Stands p s v k → p ≡ v.pattern
-pattern-is p s v k st = st.keeps.matches.pattern
+pattern-is p s v k st = ap (λ (z : Party). z.pattern) st.keeps.matches
 
 -- a struct that matches the party after a message, which has the same DH results
 goes-on : (p : Plan) (s : Secrets) (v u : Party) (k next : NoiseHandshake) → Stands p s v k → IsUsable next
     → KeepsParty next p (with_dh_results u (dh_results_in k)) → u.agree ≡ v.agree → u.psks ≡ drop (psks_of (take u.passed p.messages)) s.psks
     → Stands p s u next
 goes-on p s v u k next st usable keeps same psks =
-    let one : dh_results_in next ≡ dh_results_in k = keeps.matches.agree in
+    let one : dh_results_in next ≡ dh_results_in k = ap (λ (z : Party). z.agree) keeps.matches in
     record {
       usable = usable;
       keeps = subst (λ (a : DhResults). KeepsParty next p (with_dh_results u a)) (sym one) keeps;
@@ -167,7 +167,7 @@ module _ (whole : FirstActAsAll) where
       walk p s v next last ws rs here more
   walk p s v k last ws rs st (set_psk _ next _ psk _ _ goes stays due more) =
       let v1 : Party = with_dh_results v (dh_results_in k) in
-      let now : k.passed ≡ v.passed = st.keeps.matches.passed in
+      let now : k.passed ≡ v.passed = ap (λ (z : Party). z.passed) st.keeps.matches in
       let count : length due.used ≡ psks_of (take v.passed p.messages) =
       due.count ∙ ap (λ (n : ℕ). psks_of (take n p.messages)) now in
       let left : v.psks ≡ (handshake_from_c p k).psks ++ psk ∷ due.later =
@@ -200,7 +200,7 @@ begins p role g h =
     let all_psks : KeepsParty g.begun p (with_dh_results v none_yet) =
     subst (λ (z : List (List ℕ)). KeepsParty g.begun p (party_at_start p role g.prologue (public_in (table_of g.setup)) none_yet (remote_of g.setup) z))
     (sym h.psks) as_role in
-    let one : dh_results_in g.begun ≡ none_yet = all_psks.matches.agree in
+    let one : dh_results_in g.begun ≡ none_yet = ap (λ (z : Party). z.agree) all_psks.matches in
     record {
       usable = h.started.usable;
       keeps = subst (λ (a : DhResults). KeepsParty g.begun p (with_dh_results v a)) (sym one) all_psks;
@@ -362,7 +362,7 @@ module _ (laws : Laws) (reading : Reading) (showing : Showing)
       let tale = told laws showing (material_of a b) v0 w0 left.party right.party g.written g.read h.written h.read t.valid m.facing
       (record { left = shares-left p a b; right = shares-right p a b t.dh_results }) left.talk right.talk t.there t.back in
       let level : g.last.passed ≡ h.last.passed → Counterparts left.party right.party =
-      λ e. both.equal (sym left.stands.keeps.matches.passed ∙ e ∙ right.stands.keeps.matches.passed) in
+      λ e. both.equal (sym (ap (λ (z : Party). z.passed) left.stands.keeps.matches) ∙ e ∙ (ap (λ (z : Party). z.passed) right.stands.keeps.matches)) in
       record {
         there = both.there;
         back = both.back;
@@ -375,9 +375,9 @@ module _ (laws : Laws) (reading : Reading) (showing : Showing)
         next_back = λ m more e ends next after results new code o.
             let n = both.next_back m more e in
             taken reading p g.secrets left.party g.last left.stands m n.0 n.1 ends next after results new code o;
-        hash = λ e. ap (λ (s : SymmetricState). s.hash) left.stands.keeps.matches.state
+        hash = λ e. ap (λ (s : SymmetricState). s.hash) (ap (λ (z : Party). z.state) left.stands.keeps.matches)
             ∙ ap (λ (z : Party). z.state.hash) (sym (level e).there)
-            ∙ sym (ap (λ (s : SymmetricState). s.hash) right.stands.keeps.matches.state);
+            ∙ sym (ap (λ (s : SymmetricState). s.hash) (ap (λ (z : Party). z.state) right.stands.keeps.matches));
         halves = λ interval s r x y made made_too.
             let c = done-alike p g h m made.done made_too.done in
             let mine = made.stand p (with_dh_results left.party (dh_results_in g.last)) left.stands.keeps in

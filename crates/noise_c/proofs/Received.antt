@@ -1,6 +1,6 @@
 -- A loop over the calls that read a stream: what one call gives, by its number, and a part of what came.
 use Rattle.std.proofs.Common.{◌≡◌, ◌⊎◌, inl, inr, ℕ, ◌+◌, ◌-◌, ◌≤◌, List, [], ◌++◌, length, take, drop, refl, sym, ◌∙◌, ap, subst, arith, append-nil, length-take}
-use Rattle.std.specs.Prelude.{Result, Ok, Err, IfOk, Bool, slice_range}
+use Rattle.std.specs.Prelude.{Result, Ok, Err, IfOk, Bool}
 use Rattle.std.specs.List.{concat}
 use Rattle.std.specs.declared.alloc.AllocError.{AllocError}
 use Rattle.std.proofs.Math.Seq.{drop-length}

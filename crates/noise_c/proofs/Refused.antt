@@ -1,5 +1,5 @@
 -- A refused message that ends the handshake, by one that doesn't.
-use Rattle.std.proofs.Common.{◌≡◌, ◌≤◌, ◌⊎◌, inl, inr, ℕ, List, true, false, refl, sym, subst, ◌∙◌, ap, arith}
+use Rattle.std.proofs.Common.{◌≡◌, ◌≤◌, ◌⊎◌, inl, inr, ℕ, List, true, false, sym, subst, ◌∙◌, ap, arith}
 use Rattle.noise_c.proofs.Common.{Plan, Party, NoiseHandshake, NoiseResult, KeepsParty, WasRefused}
 use Rattle.noise_handshake.specs.Matching.{ended_party}
 use Rattle.noise_c.specs.Outcomes.{ReadOutcome}
@@ -12,17 +12,7 @@ pub keeps-ended : (k : NoiseHandshake) (p : Plan) (v : Party) → KeepsParty k p
 keeps-ended k p v s = record {
   pattern = s.pattern;
   later = s.later;
-  matches = record {
-    pattern = s.matches.pattern;
-    role = s.matches.role;
-    psks = s.matches.psks;
-    own = s.matches.own;
-    agree = s.matches.agree;
-    remote = s.matches.remote;
-    passed = s.matches.passed;
-    ended = refl;
-    state = s.matches.state;
-  };
+  matches = ap ended_party s.matches;
 }
 
 ends-refused : (old mid : NoiseHandshake) (p : Plan) (v : Party) (m : List ℕ) (code token : ℕ) → mid ≡ old

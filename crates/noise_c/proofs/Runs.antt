@@ -5,7 +5,7 @@ use Rattle.std.specs.Option.{option_map, option_or}
 use Rattle.std.specs.Cmp.Lexicographic.{pointwise, same_text}
 use Rattle.std.proofs.lemmas.Cmp.{nat_list_eq_equiv}
 use Rattle.std.proofs.lemmas.List.Folds.{find-append}
-use Rattle.noise_c.proofs.Common.{Bool, cond, Option, Some, None, find, nat_eq, Plan, IsValid, Own, Table, TableEntry, dh_result_in, is_for, same_own, HandshakeValue, with_later, ValueMatches, Party, DhResults, FirstActAsAll, AskedIsLacking, AskedToRead, AskedToWrite, FourSuffice, FourSufficeToWrite, HasKeys, IsHandedIn, with_dh_results, NoiseHandshake, IsAdded, IsPatternOf, KeepsParty, agreement_in, handshake_from_c, pairs_in, table_in, text_from_c, and_parts, and_from}
+use Rattle.noise_c.proofs.Common.{Bool, cond, Option, Some, None, find, nat_eq, Plan, IsValid, Own, Table, TableEntry, dh_result_in, is_for, same_own, HandshakeValue, Party, DhResults, FirstActAsAll, AskedIsLacking, AskedToRead, AskedToWrite, FourSuffice, FourSufficeToWrite, HasKeys, IsHandedIn, with_dh_results, NoiseHandshake, IsAdded, IsPatternOf, KeepsParty, agreement_in, handshake_from_c, pairs_in, table_in, text_from_c, and_parts, and_from, party_with}
 use Rattle.noise_keys.specs.declared.keys.Own.TheVariants.{Ephemeral, Static}
 use Rattle.noise_c.specs.DhResults.AskedToRead.{ready as none_to_read, asked as one_to_read}
 use Rattle.noise_c.specs.DhResults.AskedToWrite.{ready as none_to_write, asked as one_to_write}
@@ -84,17 +84,9 @@ module _ (p : Plan) (v : Party) where
   keeps-with k next entries text handshake c = record {
     pattern = subst (λ (bytes : List ℕ). IsPatternOf bytes p) (sym text) c.pattern;
     later = c.later;
-    matches = subst (λ (h : HandshakeValue Table). ValueMatches pairs_in (with_later h c.later) (with_dh_results v (dh_results_in next))) (sym handshake) (record {
-      pattern = c.matches.pattern;
-      role = c.matches.role;
-      psks = c.matches.psks;
-      own = c.matches.own;
-      agree = ap (λ (h : HandshakeValue Table). agreement_in h.keys) (sym handshake);
-      remote = c.matches.remote;
-      passed = c.matches.passed;
-      state = c.matches.state;
-      ended = c.matches.ended;
-    });
+    matches = ap (λ (h : HandshakeValue Table). party_with pairs_in c.later h) handshake
+        ∙ ap (λ (z : Party). record z { agree = agreement_in (record (table_in k) { entries = entries }) }) c.matches
+        ∙ ap (λ (h : HandshakeValue Table). record v { agree = agreement_in h.keys }) (sym handshake);
   }
 
   module _ (k next : NoiseHandshake) (own : Own) (key x : List ℕ) (added : IsAdded k next (record { own = own; remote = key; answer = x })) where
@@ -129,7 +121,7 @@ module _ (p : Plan) (v : Party) where
 
 -- the pattern of the state is that of the name
 pattern-is : (p : Plan) (v : Party) (k : NoiseHandshake) → KeepsParty k p v → p ≡ v.pattern
-pattern-is p v k c = c.matches.pattern
+pattern-is p v k c = ap (λ (z : Party). z.pattern) c.matches
 
 pub reads-as : AskedIsLacking → FirstActAsAll → FourSuffice → ReadsAsLibrary
 reads-as lacks whole four p v all message k last n valid keeps among run =

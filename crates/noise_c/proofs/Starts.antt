@@ -1,7 +1,7 @@
 -- The start of a handshake.
 use Rattle.std.proofs.Common.{◌≡◌, ◌≤◌, ◌⊎◌, ◌↔◌, inl, inr, ℕ, List, true, false, sym, subst, ◌∙◌, ap, refl, arith}
 use Rattle.std.specs.Prelude.{Ok, Err, length, ◌++◌}
-use Rattle.noise_c.proofs.Common.{Result, Option, Some, None, MatchOption, IsOk, IfOk, nat_lt, nat_tests, Plan, IsValid, HandshakeValue, Table, Party, ValueMatches, with_later, NoiseHandshake, pairs_in, public_in, agreement_in, text_from_c, handshake_from_c, KeepsParty, IsPatternOf, IsPatternFault, IsNoName, IsNoText, IsNotValid, is_text, IsStartCode, fault_in, code_of, start_code, Remote, party_at_start, setup_fault, Role, setup_code}
+use Rattle.noise_c.proofs.Common.{Result, Option, Some, None, MatchOption, IsOk, IfOk, nat_lt, nat_tests, Plan, IsValid, HandshakeValue, Table, Party, IsParty, with_later, NoiseHandshake, pairs_in, public_in, agreement_in, text_from_c, handshake_from_c, KeepsParty, IsPatternOf, IsPatternFault, IsNoName, IsNoText, IsNotValid, is_text, IsStartCode, fault_in, code_of, start_code, Remote, party_at_start, setup_fault, Role, setup_code}
 use Rattle.noise_c.specs.declared.structs.NoiseSetup.{NoiseSetup}
 use Rattle.noise_keys.specs.declared.faults.SetupFault.{SetupFault}
 use Rattle.noise_keys.specs.declared.faults.SetupFault.TheVariants as setup
@@ -48,11 +48,11 @@ valid-pattern bytes p n h v one none = (λ e. absurd (none e), λ i. absurd (not
   not-both (inr t) = t.broken (subst (λ (z : Plan). IsValid z) (sym (one t.pattern t.named)) v)
 
 pub keeps-start : (new : NoiseHandshake) (h : HandshakeValue Table) (p : Plan) (text : List ℕ) (later : List (List ℕ)) (v : Party)
-    → text_from_c new ≡ text → IsPatternOf text p → h.pattern ≡ p → handshake_from_c h.pattern new ≡ h → ValueMatches pairs_in (with_later h later) v → KeepsParty new p v
+    → text_from_c new ≡ text → IsPatternOf text p → h.pattern ≡ p → handshake_from_c h.pattern new ≡ h → IsParty pairs_in (with_later h later) v → KeepsParty new p v
 keeps-start new h p text later v t named q same s = record {
   pattern = subst (λ (z : List ℕ). IsPatternOf z p) (sym t) named;
   later = later;
-  matches = subst (λ (z : HandshakeValue Table). ValueMatches pairs_in (with_later z later) v) (sym (ap (λ (z : Plan). handshake_from_c z new) (sym q) ∙ same)) s;
+  matches = subst (λ (z : HandshakeValue Table). IsParty pairs_in (with_later z later) v) (sym (ap (λ (z : Plan). handshake_from_c z new) (sym q) ∙ same)) s;
 }
 
 ok-err : (h : HandshakeValue Table) (f : SetupFault) → ◌≡◌ {A = Result (HandshakeValue Table) SetupFault} (Ok h) (Err f) → ⊥
@@ -97,10 +97,10 @@ fault-moved p role role2 t t2 m m2 n r a b c h =
     (subst (λ (z : Role). MatchOption (setup_fault p z (public_in t) m n) (IsOk r) (λ f. r ≡ Err f)) a h))
 
 pub matches-moved : (p : Plan) (prologue : List ℕ) (t : Table) (psks : List (List ℕ)) (role role2 : Role) (m m2 : Remote) (r : Result (HandshakeValue Table) SetupFault) → role ≡ role2 → m ≡ m2
-    → IfOk r (λ h. (later : List (List ℕ)) → ValueMatches pairs_in (with_later h later) (party_at_start p role prologue (public_in t) (agreement_in t) m (psks ++ later)))
-    → IfOk r (λ h. (later : List (List ℕ)) → ValueMatches pairs_in (with_later h later) (party_at_start p role2 prologue (public_in t) (agreement_in t) m2 (psks ++ later)))
+    → IfOk r (λ h. (later : List (List ℕ)) → IsParty pairs_in (with_later h later) (party_at_start p role prologue (public_in t) (agreement_in t) m (psks ++ later)))
+    → IfOk r (λ h. (later : List (List ℕ)) → IsParty pairs_in (with_later h later) (party_at_start p role2 prologue (public_in t) (agreement_in t) m2 (psks ++ later)))
 matches-moved p prologue t psks role role2 m m2 r a b h =
-    subst (λ (z : Remote). IfOk r (λ y. (later : List (List ℕ)) → ValueMatches pairs_in (with_later y later)
+    subst (λ (z : Remote). IfOk r (λ y. (later : List (List ℕ)) → IsParty pairs_in (with_later y later)
     (party_at_start p role2 prologue (public_in t) (agreement_in t) z (psks ++ later)))) b
-    (subst (λ (z : Role). IfOk r (λ y. (later : List (List ℕ)) → ValueMatches pairs_in (with_later y later)
+    (subst (λ (z : Role). IfOk r (λ y. (later : List (List ℕ)) → IsParty pairs_in (with_later y later)
     (party_at_start p z prologue (public_in t) (agreement_in t) m (psks ++ later)))) a h)

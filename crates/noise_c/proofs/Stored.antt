@@ -1,41 +1,57 @@
 -- The struct matches what the handshake stood for.
-use Rattle.std.proofs.Common.{◌≡◌, ℕ, ◌+◌, ◌-◌, ◌++◌, ◌≤◌, List, length, drop, length-append, drop-drop, ap, sym, subst, ◌∙◌, refl, arith, slice_range}
-use Rattle.noise_c.proofs.Common.{drop-append_seam, Plan, IsValid, Cause, ReadFault, HandshakeValue, ended_as, message_len_of, with_later, after_unread, IsLateWhole, Table, Party, Accepts, ValueMatches, after_message, after_own, Writes, NoiseHandshake, pairs_in, text_from_c, handshake_from_c, IsPatternOf, IsUsable, KeepsParty, WasRead, WasWritten}
-use Rattle.noise_handshake.specs.declared.faults.Unread.{Unread}
+use Rattle.std.proofs.Common.{◌≡◌, ℕ, ◌+◌, ◌-◌, ◌++◌, ◌≤◌, List, length, drop, length-append, drop-drop, ap, sym, subst, ◌∙◌, arith, slice_range}
+use Rattle.noise_c.proofs.Common.{drop-append_seam, Plan, IsValid, HandshakeValue, message_len_of, with_later, IsLateWhole, Table, Party, Accepts, IsParty, after_message, after_own, Writes, NoiseHandshake, pairs_in, text_from_c, handshake_from_c, IsPatternOf, IsUsable, KeepsParty, WasRead, WasWritten}
+use Rattle.noise_handshake.specs.Late.{MatchesWith}
+use Rattle.noise_handshake.specs.Matching.{party_of}
+use Rattle.noise_handshake.specs.Opening.{IsOpenedOf, OpenedValue}
 use Rattle.noise_c.specs.declared.codes.numbers.TheConstants.{HANDSHAKE}
-use Rattle.noise_c.proofs.Numbers.{IsPlain}
-use Rattle.noise_handshake.specs.declared.faults.ReadFault.TheVariants as read
-use Rattle.noise_handshake.specs.declared.faults.Unread.TheVariants as unread
 
 module _ (old new : NoiseHandshake) (h h2 : HandshakeValue Table) (p : Plan) (v : Party) (one : (q : Plan) → IsPatternOf (text_from_c old) q → q ≡ h.pattern) (same : h ≡ handshake_from_c h.pattern old)
     (stays : h2.pattern ≡ h.pattern) (name : text_from_c new ≡ text_from_c old) (stored : handshake_from_c h2.pattern new ≡ h2) (k : KeepsParty old p v) where
   -- the handshake that was opened matches the state
-  pub opened : ValueMatches pairs_in (with_later h k.later) v
-  opened = subst (λ (z : HandshakeValue Table). ValueMatches pairs_in (with_later z k.later) v) (ap (λ (q : Plan). handshake_from_c q old) (one p k.pattern) ∙ sym same) k.matches
+  pub opened : IsParty pairs_in (with_later h k.later) v
+  opened = subst (λ (z : HandshakeValue Table). IsParty pairs_in (with_later z k.later) v) (ap (λ (q : Plan). handshake_from_c q old) (one p k.pattern) ∙ sym same) k.matches
 
   -- and what it became is stored in the struct
-  pub keeps : (w : Party) → ValueMatches pairs_in (with_later h2 k.later) w → KeepsParty new p w
+  pub keeps : (w : Party) → IsParty pairs_in (with_later h2 k.later) w → KeepsParty new p w
   keeps w s = record {
     pattern = subst (λ (z : List ℕ). IsPatternOf z p) (sym name) k.pattern;
     later = k.later;
-    matches = subst (λ (z : HandshakeValue Table). ValueMatches pairs_in (with_later z k.later) w) (sym (ap (λ (q : Plan). handshake_from_c q new) (one p k.pattern ∙ sym stays) ∙ stored)) s;
+    matches = subst (λ (z : HandshakeValue Table). IsParty pairs_in (with_later z k.later) w) (sym (ap (λ (q : Plan). handshake_from_c q new) (one p k.pattern ∙ sym stays) ∙ stored)) s;
   }
 
   pub was-read : (message new_message : List ℕ) (start end : ℕ) → start ≤ end
-      → (xs : List (List ℕ)) → Accepts v message xs (slice_range new_message start end) → ValueMatches pairs_in (with_later h2 k.later) (after_message v xs (slice_range new_message start end))
+      → (xs : List (List ℕ)) → Accepts v message xs (slice_range new_message start end) → IsParty pairs_in (with_later h2 k.later) (after_message v xs (slice_range new_message start end))
       → WasRead p v message (slice_range new_message start (start + (end - start))) new
   was-read message new_message start end r xs a s =
       let n : end ≡ start + (end - start) = omega (arith, r) in
       subst (λ (z : ℕ). WasRead p v message (slice_range new_message start z) new) n
       (record { carried = xs; accepts = a; keeps = keeps (after_message v xs (slice_range new_message start end)) s })
 
-  pub was-written : (payload message : List ℕ) (xs : List (List ℕ)) → Writes v payload xs message → ValueMatches pairs_in (with_later h2 k.later) (after_own v xs payload) → WasWritten p v payload message new
+  pub was-written : (payload message : List ℕ) (xs : List (List ℕ)) → Writes v payload xs message → IsParty pairs_in (with_later h2 k.later) (after_own v xs payload) → WasWritten p v payload message new
   was-written payload message xs w s = record { carried = xs; writes = w; keeps = keeps (after_own v xs payload) s }
 
 -- a handshake that was opened matches what the struct matches
 pub matches-for : (old : NoiseHandshake) (h : HandshakeValue Table) (p : Plan) (v : Party) → ((q : Plan) → IsPatternOf (text_from_c old) q → q ≡ h.pattern) → h ≡ handshake_from_c h.pattern old → (k : KeepsParty old p v)
-    → ValueMatches pairs_in (with_later h k.later) v
-matches-for old h p v one same k = subst (λ (z : HandshakeValue Table). ValueMatches pairs_in (with_later z k.later) v) (ap (λ (q : Plan). handshake_from_c q old) (one p k.pattern) ∙ sym same) k.matches
+    → IsParty pairs_in (with_later h k.later) v
+matches-for old h p v one same k = subst (λ (z : HandshakeValue Table). IsParty pairs_in (with_later z k.later) v) (ap (λ (q : Plan). handshake_from_c q old) (one p k.pattern) ∙ sym same) k.matches
+
+-- and so does what it leaves
+pub opens-with : (h : HandshakeValue Table) (later : List (List ℕ)) (o : OpenedValue) (v : Party) → MatchesWith pairs_in later h v
+    → IsOpenedOf o (party_of pairs_in h) → IsOpenedOf o v
+opens-with h later o v s p =
+    subst (λ (z : Party). IsOpenedOf o z) s (record {
+      going = p.going;
+      whole = p.whole;
+      role = p.role;
+      one_way = p.one_way;
+      hash = p.hash;
+      remote_static = p.remote_static;
+      initiator = p.initiator;
+      responder = p.responder;
+      initiator_nonce = p.initiator_nonce;
+      responder_nonce = p.responder_nonce;
+    })
 
 -- how long its message is, if one is due
 pub length-for : (old : NoiseHandshake) (h : HandshakeValue Table) (p : Plan) (payload : ℕ) → ((q : Plan) → IsPatternOf (text_from_c old) q → q ≡ h.pattern) → h ≡ handshake_from_c h.pattern old

@@ -4,7 +4,7 @@ use Rattle.std.specs.Prelude.{replicate, take}
 use Rattle.std.specs.List.{copy_within}
 use Rattle.std.proofs.lemmas.List.{append_assoc, append-nil, drop_all, drop-take, take-append-drop}
 use Rattle.noise_c.specs.HandshakeStructs.{LacksLastPsk, TakesPskBack}
-use Rattle.noise_c.proofs.Common.{Plan, HandshakeValue, with_later, Party, Table, NoiseHandshake, ValueMatches, pairs_in, handshake_from_c, IsPatternOf, IsUsable, KeepsParty}
+use Rattle.noise_c.proofs.Common.{Plan, HandshakeValue, with_later, Party, Table, NoiseHandshake, IsParty, pairs_in, handshake_from_c, IsPatternOf, IsUsable, KeepsParty}
 use Rattle.noise_handshake.specs.Parts.{IsWholeValue}
 
 -- a list of nine, moved one place to the back, and one put at the front
@@ -42,7 +42,7 @@ matches-unset : (old new : NoiseHandshake) (p : Plan) (v : Party) → LacksLastP
 matches-unset old new p v g k = record {
   pattern = subst (λ (z : List ℕ). IsPatternOf z p) (sym g.text) k.pattern;
   later = later-of old p k.later;
-  matches = subst (λ (z : HandshakeValue Table). ValueMatches pairs_in z v) (same-later old new p k.later g) k.matches;
+  matches = subst (λ (z : HandshakeValue Table). IsParty pairs_in z v) (same-later old new p k.later g) k.matches;
 }
 
 -- what a call has left stays so

@@ -28,7 +28,7 @@ use Rattle.noise_handshake.specs.Late.{with_later, late_fault, IsLateWhole}
 use Rattle.noise_handshake.specs.Setup.{party_at_start, psks_of}
 use Rattle.noise_handshake.specs.Party.{Party, Accepts, Refuses}
 use Rattle.noise_handshake.specs.Writing.{Writes}
-use Rattle.noise_handshake.specs.Matching.{ValueMatches, after_message, after_own, DoesNotRead, ended_party, DoesNotWrite}
+use Rattle.noise_handshake.specs.Matching.{IsParty, after_message, after_own, DoesNotRead, ended_party, DoesNotWrite}
 use Rattle.noise_c.specs.declared.structs.NoiseKey.{NoiseKey}
 use Rattle.noise_c.specs.declared.structs.NoiseAnswer.{NoiseAnswer}
 use Rattle.noise_c.specs.declared.structs.NoiseHandshake.{NoiseHandshake}
@@ -171,7 +171,7 @@ pub record IsUsable (k : NoiseHandshake) : Type 0 where
 pub record KeepsParty (k : NoiseHandshake) (p : Plan) (v : Party) : Type 0 where
   pub pattern : IsPatternOf (text_from_c k) p
   pub later : List (List ℕ)
-  pub matches : ValueMatches pairs_in (with_later (handshake_from_c p k) later) v
+  pub matches : IsParty pairs_in (with_later (handshake_from_c p k) later) v
 
 -- for each state that it matches, and the pattern by which it does
 abbrev pub ForParty : NoiseHandshake → (Plan → Party → Type 0) → Type 0

@@ -3,7 +3,7 @@
 ghost use Rattle.std.specs.Prelude.{◌≡◌, ◌≤◌, ◌<◌, ◌↔◌, ◌⊎◌, ℕ, List, length, MatchOption, IsOk, IfOk, Err};
 ghost use Rattle.noise_names.specs.Plan.{Plan};
 ghost use Rattle.noise_names.specs.Validity.{IsValid};
-ghost use Rattle.noise_handshake.specs.Matching.{ValueMatches};
+ghost use Rattle.noise_handshake.specs.Matching.{IsParty};
 ghost use Rattle.noise_handshake.specs.Late.{with_later};
 ghost use Rattle.noise_c.specs.HandshakeStructs.{role_in, pairs_in, table_of, psks_in, begun_in, fault_in, start_code, IsBlank, IsNoName, IsNoText, IsNotValid, IsPatternOf, IsStartCode, IsStarted, StoresStart};
 ghost use Rattle.noise_c.specs.declared.codes.numbers.TheConstants.{NAME, OK, PATTERN};
@@ -27,7 +27,7 @@ fn begin<'a>(
     requires len { length prologue.now ≤ 65535 }
     requires count { setup.now.psk_count ≤ 9 }
     ensures fault { MatchOption (fault_in pattern setup.now) (IsOk result) (λ fault. result ≡ Err fault) }
-    ensures matches { IfOk result (λ h. (later : List (List ℕ)) → ValueMatches pairs_in (with_later h later)
+    ensures matches { IfOk result (λ h. (later : List (List ℕ)) → IsParty pairs_in (with_later h later)
         (begun_in pattern prologue.now setup.now later)) }
     ensures pattern { IfOk result (λ h. h.pattern ≡ pattern) }
     ensures role { IfOk result (λ h. h.role ≡ role_in setup.now.responder) }

@@ -40,7 +40,8 @@ pub record LastSealed (r : History) (text : List ℕ) : Type 0 where
   pub key : List ℕ
   pub key_is : (state_of_history before).cipher.key ≡ Some key
   pub payload : List ℕ
-  pub sealed_is : text ≡ sealed key (nonce_of (state_of_history before).cipher.nonce) (state_of_history before).hash payload
+  pub sealed_is : text ≡ sealed key (nonce_of (state_of_history before).cipher.nonce) (state_of_history before).hash
+      payload
 
 -- One sealed text, the last of two histories, opens in both, under two hashes: each with its key and its nonce.
 pub record OpensTwice (r s : History) : Type 0 where

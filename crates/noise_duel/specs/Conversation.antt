@@ -57,7 +57,8 @@ abbrev pub psks_next : Plan → ℕ → List (List ℕ) → List (List ℕ)
 psks_next p n psks = drop (count_by is_psk (tokens_at p.messages n)) psks
 
 -- the handshake messages from number n on, counted from 0, with these payloads (Noise 5.3)
-abbrev pub conversation : KeyMaterial → Plan → ℕ → List (List ℕ) → SymmetricState → List (List ℕ) → List HandshakeMessage
+abbrev pub conversation : KeyMaterial → Plan → ℕ → List (List ℕ) → SymmetricState → List (List ℕ)
+    → List HandshakeMessage
 conversation w p n psks r [] = []
 conversation w p n psks r (payload ∷ payloads) =
     record {
@@ -149,7 +150,8 @@ abbrev pub handshake_in : KeyMaterial → Plan → List ℕ → List (Role × Li
 handshake_in w p prologue lines = conversation w p 0 w.psks (start_in w p prologue) (handshake_payloads p lines)
 
 abbrev pub state_after_lines : KeyMaterial → Plan → List ℕ → List (Role × List ℕ) → SymmetricState
-state_after_lines w p prologue lines = after_conversation w p 0 w.psks (start_in w p prologue) (handshake_payloads p lines)
+state_after_lines w p prologue lines = after_conversation w p 0 w.psks (start_in w p prologue)
+    (handshake_payloads p lines)
 
 -- all messages of lines with their writers, the handshake's and then the transport messages
 abbrev pub transcript : KeyMaterial → Plan → List ℕ → ℕ → List (Role × List ℕ) → List (Role × List ℕ)
@@ -165,8 +167,8 @@ sides_at_start p a b i j = record {
 }
 
 -- Each end has written the frames of the transcript that are its own, and what the one wrote the other has accepted. As
--- many handshake messages have passed as there were lines for, the state is that after their payloads, and the ends have
--- come equally far: they have one state, and each knows the keys that the other has sent.
+-- many handshake messages have passed as there were lines for, the state is that after their payloads, and the ends
+-- have come equally far: they have one state, and each knows the keys that the other has sent.
 pub record ComeThrough (w : KeyMaterial) (p : Plan) (prologue : List ℕ) (interval : ℕ) (lines : List (Role × List ℕ))
     (d : Sides) : Type 0 where
   pub frames : (role : Role) → (side d role).frames ≡ frames_by role (transcript w p prologue interval lines)

@@ -32,7 +32,8 @@ front-state psks r (t ∷ ts) (x ∷ xs) =
     ∙ ap (λ (s : SymmetricState). after_tokens psks s ts xs) (token-state psks r t x)
 
 pub line-state : (psks : Bool) (r : History) (ts : List Token) (xs : List (List ℕ)) (payload : List ℕ)
-    → state_of_history (history_after_payload psks r ts xs payload) ≡ after_payload psks (state_of_history r) ts xs payload
+    → state_of_history (history_after_payload psks r ts xs payload) ≡ after_payload psks (state_of_history r) ts xs
+    payload
 line-state psks r ts xs payload =
     ap (λ (s : SymmetricState). after_ciphertext s (ciphertext s payload)) (front-state psks r ts xs)
 

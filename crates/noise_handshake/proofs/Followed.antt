@@ -1,6 +1,6 @@
 -- What following the tokens of a message leaves.
 use Rattle.std.proofs.Common.{◌≡◌, ℕ, suc, ◌+◌, ◌*◌, ◌<◌, ◌≤◌, Bool, true, false, List, [], ◌∷◌, ◌++◌, length, take, drop, refl, ap, sym, subst, ◌∙◌, arith, take_all, length-drop}
-use Rattle.noise_handshake.proofs.Common.{length-take-le, take-append-drop, Advances, after_payload, Ok, Err, Some, count_by, drop_at, is_psk, after_ciphertext, ciphertext, after_own, message_bytes, HasPsks, Matches, MessageLayout, LaysNext, Plan, has_key, passed_places, Token, E, S, Ee, Es, Se, Ss, Initiator, other, turn_from, has_psk, SymmetricState, keyed, nonce_now, Remote, Cause, before_payload, after_tokens, Reader, BeginsAs, remote_after, Writer, Given, tag_width, token_width, tokens_width, keyed_after, keyed_after_tokens, nonce_after_message, tokens_at, tokens_now, HandshakeValue, ValueMatches, Party, held_in, IsKept, KnowsRemote, PlacedToken, tokens_of, Carry}
+use Rattle.noise_handshake.proofs.Common.{length-take-le, take-append-drop, Advances, after_payload, Ok, Err, Some, count_by, drop_at, is_psk, after_ciphertext, ciphertext, after_own, message_bytes, HasPsks, Matches, MessageLayout, LaysNext, Plan, has_key, passed_places, Token, E, S, Ee, Es, Se, Ss, Initiator, other, turn_from, has_psk, SymmetricState, keyed, nonce_now, Remote, Cause, before_payload, after_tokens, Reader, BeginsAs, remote_after, Writer, Given, tag_width, token_width, tokens_width, keyed_after, keyed_after_tokens, nonce_after_message, tokens_at, tokens_now, HandshakeValue, IsParty, IsSupplied, party_of, Party, held_in, IsKept, KnowsRemote, PlacedToken, tokens_of, Carry}
 use Rattle.noise_names.specs.declared.token.Token.TheVariants.{Psk}
 use Rattle.noise_keys.specs.Keys.{KeyPairs}
 use Rattle.noise_handshake.specs.Steps.{after_steps}
@@ -14,9 +14,8 @@ use Rattle.noise_handshake.proofs.Apart.{front-apart, reads-leads}
 use Rattle.noise_handshake.proofs.Giving.{given-front, given-one}
 use Rattle.noise_handshake.proofs.Knowing.{knows-read, knows-wrote}
 use Rattle.noise_handshake.proofs.Layouts.{length-tokens_of}
-use Rattle.noise_handshake.proofs.LateParties.{matches-of, next-count, value-of}
+use Rattle.noise_handshake.proofs.LateParties.{next-count}
 use Rattle.noise_handshake.proofs.Next.{key-next, tokens-next, unchanged-next}
-use Rattle.noise_handshake.proofs.Standing.{tokens-are}
 use Rattle.noise_handshake.proofs.Told.{width-read, width-written}
 use Rattle.noise_handshake.proofs.Counting.{message-counted}
 use Rattle.noise_handshake.proofs.Widths.{after_tokens-keyed}
@@ -103,9 +102,6 @@ module _ {K : Type 0} (pairs : K → KeyPairs) (a : Inside K) (i : IsKept pairs 
       sym (length-tokens_of a.next.tokens.items) ∙ ap length (tokens-next pairs a i less a.next.tokens.items refl)
       ∙ ap (λ (z : HandshakeValue K). length (tokens_due z)) seen
 
-  pub count-now : (v : Party) → ValueMatches pairs h v → length a.next.tokens.items ≡ length (tokens_now v)
-  count-now v s = count-due ∙ ap length (tokens-are pairs h v s)
-
   -- all its tokens
   pub whole-due : (ds : List PlacedToken) → ds ≡ a.next.tokens.items → (count : ℕ) → count ≡ length (tokens_due h)
       → tokens_of (take count ds) ≡ tokens_at a.pattern.messages a.passed
@@ -191,30 +187,19 @@ module _ {K : Type 0} (pairs : K → KeyPairs) (h : HandshakeValue K) (state : S
         psks = sym (take-append-drop n h.psks);
       }
 
-  -- for the parties of the handshake
-  pub gone-to : (v : Party) → ValueMatches pairs h v → (xs : List (List ℕ)) (payload : List ℕ) (known : Remote)
-      → state ≡ after_payload (has_psk v.pattern) v.state (tokens_now v) xs payload → remote ≡ known
-      → ValueMatches pairs (gone_on h state remote) (record (after_own v xs payload) { remote = known })
-  gone-to v s xs payload known k e = record {
-    pattern = s.pattern;
-    role = s.role;
-    psks = ap (λ (ts : List Token). drop (count_by is_psk ts) h.psks) (tokens-are pairs h v s) ∙ ap (drop (count_by is_psk (tokens_now v))) s.psks;
-    own = s.own;
-    agree = s.agree;
-    remote = e;
-    passed = ap (λ (n : ℕ). n + 1) s.passed;
-    ended = s.ended;
-    state = k;
-  }
+  -- for the party of the handshake
+  pub gone-to : (xs : List (List ℕ)) (payload : List ℕ) (known : Remote) → let v = party_of pairs h in
+      state ≡ after_payload (has_psk v.pattern) v.state (tokens_now v) xs payload → remote ≡ known
+      → IsParty pairs (gone_on h state remote) (record (after_own v xs payload) { remote = known })
+  gone-to xs payload known k e =
+      ap (λ (z : SymmetricState). party_of pairs (gone_on h z remote)) k
+      ∙ ap (λ (z : Remote). record (after_own (party_of pairs h) xs payload) { remote = z }) e
 
--- a handshake that has all psks matches the party after a message that went past
--- whose next message it is
-pub less-now : {K : Type 0} (pairs : K → KeyPairs) (h : HandshakeValue K) (v : Party) → Matches pairs h v → v.passed < length v.pattern.messages
-    → h.passed < length h.pattern.messages
-less-now pairs h v s more =
-    subst (λ (n : ℕ). n < length h.pattern.messages) (sym s.passed) (subst (λ (p : Plan). v.passed < length p.messages) (sym s.pattern) more)
+-- a handshake that has all psks goes past a message
+module _ {K : Type 0} (pairs : K → KeyPairs) (h : HandshakeValue K) (all : IsSupplied h) (less : h.passed < length h.pattern.messages) where
+  abbrev v : Party
+  v = party_of pairs h
 
-module _ {K : Type 0} (pairs : K → KeyPairs) (h : HandshakeValue K) (v : Party) (s : Matches pairs h v) (less : h.passed < length h.pattern.messages) where
   pub gone-matches : (f : Front) (xs : List (List ℕ)) (payload message : List ℕ) (state : SymmetricState) (known : Remote)
       → IsFront f (has_psk v.pattern) v.state (tokens_now v) xs known
       → message ≡ message_bytes (has_psk v.pattern) v.state (tokens_now v) xs payload
@@ -226,7 +211,8 @@ module _ {K : Type 0} (pairs : K → KeyPairs) (h : HandshakeValue K) (v : Party
       let after : SymmetricState = after_tokens has_psks v.state (tokens_now v) xs in
       let rest : drop f.from message ≡ ciphertext after payload =
       ap (drop f.from) spelled ∙ drop_at piece (ciphertext after payload) f.from (sym q.from) in
-      matches-of pairs (gone_on h state f.remote) (record (after_own v xs payload) { remote = known })
-      (gone-to pairs h state f.remote v (value-of pairs h v s) xs payload known
-      (mixed ∙ ap (after_ciphertext f.state) rest ∙ ap (λ (z : SymmetricState). after_ciphertext z (ciphertext after payload)) q.state) q.remote)
-      (omega (arith, next-count h less s.supplied, length-drop (count_by is_psk (tokens_due h)) h.psks))
+      record {
+        is = gone-to pairs h state f.remote xs payload known
+            (mixed ∙ ap (after_ciphertext f.state) rest ∙ ap (λ (z : SymmetricState). after_ciphertext z (ciphertext after payload)) q.state) q.remote;
+        supplied = omega (arith, next-count h less all, length-drop (count_by is_psk (tokens_due h)) h.psks);
+      }

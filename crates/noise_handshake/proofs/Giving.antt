@@ -1,7 +1,7 @@
 -- The steps of writing, as the code's values have them.
-use Rattle.std.proofs.Common.{rules, ◌≡◌, ℕ, zero, suc, ◌+◌, ◌<◌, ◌≤◌, List, [], ◌∷◌, ◌++◌, take, refl, ap, sym, subst, arith, add-one, take-take}
+use Rattle.std.proofs.Common.{rules, ◌≡◌, ℕ, zero, suc, ◌+◌, ◌<◌, ◌≤◌, List, [], ◌∷◌, ◌++◌, take, refl, sym, subst, arith, add-one, take-take}
 use Rattle.std.specs.Prelude.{Bool}
-use Rattle.noise_handshake.proofs.Common.{Token, SymmetricState, Remote, token_bytes, after_token, before_payload, after_tokens, keyed_after, keyed_after_tokens, tag_width, token_width, tokens_width, added_width, Party, psks_after, tokens_now, Writer, writer, Gives, Given, LacksDhResultAt, Writes, LacksDhResult}
+use Rattle.noise_handshake.proofs.Common.{Token, SymmetricState, Remote, token_bytes, after_token, before_payload, after_tokens, keyed_after, token_width, tokens_width, Party, psks_after, tokens_now, Writer, writer, Gives, Given, LacksDhResultAt, Writes, LacksDhResult}
 use Rattle.noise_handshake.proofs.Once.{same-place}
 
 -- one token more in front
@@ -22,11 +22,6 @@ lacks-later w known psks t ts x k g l = record {
 pub widths : (has_psks keyed keyed2 : Bool) (tokens ts : List Token) (t : Token) (n k room : ℕ) → tokens ≡ t ∷ ts → tokens_width has_psks keyed tokens ≤ room
     → n ≡ token_width keyed t → keyed2 ≡ keyed_after has_psks keyed t → k ≡ tokens_width has_psks keyed2 ts → n + k ≤ room
 widths has_psks keyed keyed2 tokens ts t n k room split fits e f h = search rules
-
--- the same of the tokens and a payload
-pub widths-last : (has_psks keyed keyed2 : Bool) (ts : List Token) (n k p room : ℕ) → added_width has_psks keyed ts + p ≤ room
-    → n ≡ tokens_width has_psks keyed ts → keyed2 ≡ keyed_after_tokens has_psks keyed ts → k ≡ p + tag_width keyed2 → n + k ≤ room
-widths-last has_psks keyed keyed2 ts n k p room fits e f h = omega (arith, ap tag_width f)
 
 module _ (w : Writer) (known : Remote) (psks others : List (List ℕ)) (r : SymmetricState) (tokens ts : List Token) (t : Token) (x : List ℕ)
     (split : tokens ≡ t ∷ ts) (gives : Gives w known psks t x) (holds : others ≡ psks_after psks t) where

@@ -1,7 +1,7 @@
 -- Which DH result the next message lacks: writing.
 use Rattle.std.proofs.Common.{rules, ◌≡◌, ℕ, zero, suc, ◌<◌, ◌≤◌, List, [], ◌∷◌, length, take, refl, ap, sym, subst, ◌∙◌, arith}
 use Rattle.std.specs.Prelude.{Bool, true, false, not, is_some}
-use Rattle.noise_handshake.proofs.Common.{◌&&◌, ◌==◌, Option, Some, None, IsTrue, MatchOption, nat_tests, Token, Role, Initiator, turn_from, Plan, has_psk, Own, Remote, HandshakeValue, is_turn, ValueMatches, Party, Speaks, own_at, remote_at, psks_after, tokens_now, LacksDhResultFor, WantsToWrite, Writer, writer, Gives, Given, LacksDhResultAt, LacksDhResult, remote_known, Speaking, same-same_role, same_role-true}
+use Rattle.noise_handshake.proofs.Common.{◌&&◌, ◌==◌, Option, Some, None, IsTrue, MatchOption, Token, Role, Initiator, turn_from, has_psk, Own, Remote, HandshakeValue, is_turn, party_of, Party, Speaks, own_at, remote_at, psks_after, tokens_now, LacksDhResultFor, WantsToWrite, Writer, writer, Gives, Given, LacksDhResultAt, LacksDhResult, remote_known, Speaking, same_role-true}
 use Rattle.noise_handshake.proofs.Giving.{lacks-later}
 use Rattle.noise_handshake.proofs.Knowing.{is_some-remote}
 use Rattle.noise_handshake.proofs.Wrote.{for-view}
@@ -83,12 +83,6 @@ tests-of false true ours e = absurd (cc)
 tests-of false false true e = (refl, refl, refl)
 tests-of false false false e = absurd (cc)
 
-tests-all : (ended all ours : Bool) → ended ≡ false → all ≡ false → ours ≡ true → (not ended && not all && ours) ≡ true
-tests-all true all ours e a o = absurd (cc)
-tests-all false true ours e a o = absurd (cc)
-tests-all false false true e a o = refl
-tests-all false false false e a o = absurd (cc)
-
 module _ {K : Type 0} (h : HandshakeValue K) where
   abbrev is-due : Bool
   is-due = not h.ended && not (h.passed == length h.pattern.messages) && is_turn h.role h.passed
@@ -99,33 +93,23 @@ module _ {K : Type 0} (h : HandshakeValue K) where
   pub due-turn : is-due ≡ true → turn_from Initiator h.passed ≡ h.role
   due-turn e = same_role-true (turn_from Initiator h.passed) h.role (tests-of h.ended (h.passed == length h.pattern.messages) (is_turn h.role h.passed) e).2
 
-  module _ (pairs : K → KeyPairs) (v : Party) (s : ValueMatches pairs h v) where
-    pub due-here : Speaks v → is-due ≡ true
-    due-here l =
-        let less : h.passed < length h.pattern.messages =
-        subst (λ (k : ℕ). k < length h.pattern.messages) (sym s.passed) (subst (λ (p : Plan). v.passed < length p.messages) (sym s.pattern) l.more) in
-        let all : (h.passed == length h.pattern.messages) ≡ false = grind (arith, nat_tests) in
-        tests-all h.ended (h.passed == length h.pattern.messages) (is_turn h.role h.passed) (s.ended ∙ l.going) all
-        (same-same_role (turn_from Initiator h.passed) h.role (ap (turn_from Initiator) s.passed ∙ l.turn ∙ sym s.role))
-
-    pub due-speaking : h.passed ≤ length h.pattern.messages → is-due ≡ true → (has_psks : Bool) (psks : List (List ℕ)) (tokens : List Token)
-        → has_psks ≡ has_psk h.pattern → psks ≡ h.psks → tokens ≡ tokens_now v
-        → Speaking v h.role has_psks (pairs h.keys).public (pairs h.keys).agree psks h.remote tokens
-    due-speaking w e has_psks psks tokens b d f = record {
-      speaks = record {
-        going = sym s.ended ∙ (tests-of h.ended (h.passed == length h.pattern.messages) (is_turn h.role h.passed) e).0;
-        more = subst (λ (k : ℕ). k < length v.pattern.messages) s.passed
-            (subst (λ (p : Plan). h.passed < length p.messages) s.pattern (due-within w e));
-        turn = ap (turn_from Initiator) (sym s.passed) ∙ due-turn e ∙ s.role;
-      };
-      role_is = s.role;
-      psks_is = b ∙ ap has_psk s.pattern;
-      own_is = s.own;
-      agree_is = s.agree;
-      psks_are = d ∙ s.psks;
-      known_is = s.remote;
-      tokens_are = f;
-    }
+  pub due-speaking : (pairs : K → KeyPairs) → h.passed ≤ length h.pattern.messages → is-due ≡ true → (has_psks : Bool) (psks : List (List ℕ)) (tokens : List Token)
+      → has_psks ≡ has_psk h.pattern → psks ≡ h.psks → tokens ≡ tokens_now (party_of pairs h)
+      → Speaking (party_of pairs h) h.role has_psks (pairs h.keys).public (pairs h.keys).agree psks h.remote tokens
+  due-speaking pairs w e has_psks psks tokens b d f = record {
+    speaks = record {
+      going = (tests-of h.ended (h.passed == length h.pattern.messages) (is_turn h.role h.passed) e).0;
+      more = due-within w e;
+      turn = due-turn e;
+    };
+    role_is = refl;
+    psks_is = b;
+    own_is = refl;
+    agree_is = refl;
+    psks_are = d;
+    known_is = refl;
+    tokens_are = f;
+  }
 
 -- ---- for a party that speaks
 

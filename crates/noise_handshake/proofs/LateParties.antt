@@ -1,15 +1,12 @@
 -- A handshake for the parties whose psks begin with those that were handed in.
 use Rattle.std.proofs.Common.{rules, ◌≡◌, ℕ, zero, suc, ◌+◌, ◌-◌, ◌<◌, ◌≤◌, List, [], ◌∷◌, ◌++◌, length, take, drop, refl, ap, sym, subst, ◌∙◌, arith, take-take, length-take, length-append}
 use Rattle.std.specs.Prelude.{Bool, true, false, not, is_none, is_some, if◌then◌else◌}
-use Rattle.noise_handshake.proofs.Common.{take-append-le, drop-append-le, ◌&&◌, ◌==◌, Option, Some, None, MatchOption, count_by, Token, is_psk, Own, Cause, Agreement, ReadFault, Err, Ok, MatchResult, Result, HandshakeValue, HasPsks, Advances, IsAgreement, ended_as, is_turn, read_fault, write_fault, WriteFault, E, S, Ephemeral, Static, IsLateWhole, IsSound, KnowsRemote, is_among, places_of, IsSupplied, Matches, MatchesWith, Plan, psks_of, with_later, WantsPskToRead, WantsPskToWrite, ValueMatches, DoesNotRead, DoesNotWrite, after_message, after_own, after_not_read, after_not_written, ended_party, Party, Accepts, BeginsAs, Listens, CanBegin, Refuses, Speaks, reader, tokens_at, tokens_now, LacksDhResultFor, WantsToRead, WantsToWrite, Writes, LacksDhResult, LacksDhResultAt, writer, IsPskAfter, BeginsBefore}
+use Rattle.noise_handshake.proofs.Common.{take-append-le, drop-append-le, ◌&&◌, ◌==◌, Option, Some, None, MatchOption, count_by, Token, is_psk, Own, Cause, Agreement, ReadFault, Err, Ok, MatchResult, Result, HandshakeValue, HasPsks, Advances, IsAgreement, is_turn, read_fault, write_fault, WriteFault, E, S, Ephemeral, Static, IsLateWhole, IsSound, KnowsRemote, is_among, places_of, IsSupplied, IsParty, Matches, MatchesWith, party_of, party_with, Plan, psks_of, WantsPskToRead, WantsPskToWrite, DoesNotRead, DoesNotWrite, after_message, after_own, after_not_written, Party, Accepts, BeginsAs, Listens, CanBegin, Refuses, Speaks, reader, tokens_at, tokens_now, LacksDhResultFor, WantsToRead, WantsToWrite, Writes, LacksDhResult, LacksDhResultAt, writer, IsPskAfter, BeginsBefore}
 use Rattle.noise_handshake.specs.Calls.{HasNotWritten, HasWrittenTo}
 use Rattle.noise_handshake.specs.HandshakeValue.{after_write_fault}
-use Rattle.noise_handshake.specs.Opening.{OpenedValue, IsOpenedOf}
-use Rattle.noise_handshake.specs.Parts.{IsWholeValue}
 use Rattle.noise_handshake.proofs.Fronts.{lacks-all, lacks-first, lacks-for-all}
 use Rattle.noise_handshake.proofs.Apart.{front-apart, reads-leads}
 use Rattle.noise_handshake.specs.declared.stop.Stop.{Stop}
-use Rattle.noise_handshake.proofs.Standing.{tokens-are}
 use Rattle.noise_handshake.proofs.Later.{count-take, count-less, given-same, leads-same, reads-same, stops-same, stops-for-same, lacks-same, lacks-for-same}
 use Rattle.noise_handshake.proofs.Once.{refuses-one}
 use Rattle.noise_handshake.proofs.PskPlaces.{no-place, no-psk, psk-place}
@@ -94,89 +91,7 @@ psk-not v m n k j cause remote a h r w =
 pub psk-none : (v : Party) (m : List ℕ) (n : ℕ) (remote : Option (List ℕ)) → count_by is_psk (tokens_now v) ≤ n → WantsPskToRead v n m remote → ⊥
 psk-none v m n remote c w = no-psk (tokens_now v) w.before w.later n c w.tokens w.count
 
--- ---- the psks that were handed in
-
-module _ {K : Type 0} (pairs : K → KeyPairs) (h : HandshakeValue K) (v : Party)
-    (later : List (List ℕ)) (s : MatchesWith pairs later h v) where
-  pub matches-given : ValueMatches pairs h (holding v h.psks)
-  matches-given = record {
-    pattern = s.pattern;
-    role = s.role;
-    psks = refl;
-    own = s.own;
-    agree = s.agree;
-    remote = s.remote;
-    passed = s.passed;
-    ended = s.ended;
-    state = s.state;
-  }
-
-  pub agrees : take (length h.psks) h.psks ≡ take (length h.psks) v.psks
-  agrees = sym (take-append-le (length h.psks) h.psks later (omega arith)) ∙ ap (take (length h.psks)) s.psks
-
-  -- after c psk tokens
-  after-given : (c : ℕ) → c ≤ length h.psks → drop c h.psks ++ later ≡ drop c v.psks
-  after-given c few = sym (drop-append-le c h.psks later few) ∙ ap (drop c) s.psks
-
-  pub after-read : (h2 : HandshakeValue K) (xs : List (List ℕ)) (payload : List ℕ) → count_by is_psk (tokens_now v) ≤ length h.psks
-      → ValueMatches pairs h2 (after_message (holding v h.psks) xs payload)
-      → MatchesWith pairs later h2 (after_message v xs payload)
-  after-read h2 xs payload c t = record {
-    pattern = t.pattern;
-    role = t.role;
-    psks = ap (λ (z : List (List ℕ)). z ++ later) t.psks ∙ after-given (count_by is_psk (tokens_now v)) c;
-    own = t.own;
-    agree = t.agree;
-    remote = t.remote;
-    passed = t.passed;
-    ended = t.ended;
-    state = t.state;
-  }
-
-  pub after-written : (h2 : HandshakeValue K) (xs : List (List ℕ)) (payload : List ℕ) → count_by is_psk (tokens_now v) ≤ length h.psks
-      → ValueMatches pairs h2 (after_own (holding v h.psks) xs payload)
-      → MatchesWith pairs later h2 (after_own v xs payload)
-  after-written h2 xs payload c t = record {
-    pattern = t.pattern;
-    role = t.role;
-    psks = ap (λ (z : List (List ℕ)). z ++ later) t.psks ∙ after-given (count_by is_psk (tokens_now v)) c;
-    own = t.own;
-    agree = t.agree;
-    remote = t.remote;
-    passed = t.passed;
-    ended = t.ended;
-    state = t.state;
-  }
-
 -- ---- a handshake that has all psks
-
-module _ {K : Type 0} (pairs : K → KeyPairs) (h : HandshakeValue K) (v : Party) where
-  pub value-of : Matches pairs h v → ValueMatches pairs h v
-  value-of s = record {
-    pattern = s.pattern;
-    role = s.role;
-    psks = s.psks;
-    own = s.own;
-    agree = s.agree;
-    remote = s.remote;
-    passed = s.passed;
-    ended = s.ended;
-    state = s.state;
-  }
-
-  pub matches-of : ValueMatches pairs h v → IsSupplied h → Matches pairs h v
-  matches-of s all = record {
-    pattern = s.pattern;
-    role = s.role;
-    psks = s.psks;
-    own = s.own;
-    agree = s.agree;
-    remote = s.remote;
-    passed = s.passed;
-    ended = s.ended;
-    state = s.state;
-    supplied = all;
-  }
 
 psks-from : (ms : List (List Token)) (n : ℕ) → n < length ms → psks_of (drop n ms) ≡ count_by is_psk (tokens_at ms n) + psks_of (drop (suc n) ms)
 psks-from [] n h = absurd (omega (arith, h))
@@ -204,83 +119,10 @@ module _ {K : Type 0} (h : HandshakeValue K) (less : h.passed < length h.pattern
       ap (λ (p : Plan). psks_of (drop h2.passed p.messages)) a.pattern ∙ ap (λ (n : ℕ). psks_of (drop n h.pattern.messages)) a.passed in
       omega (arith, next-count, a.count, ap length a.psks, length-append a.taken h2.psks, rest)
 
--- ---- what a handshake may hold
-
-pub whole-late : {K : Type 0} (pairs : K → KeyPairs) (h : HandshakeValue K) (u : List (List ℕ)) → length u ≡ length h.psks
-    → IsWholeValue pairs h → IsWholeValue pairs (record h { psks = u })
-whole-late pairs h u e w = search
-
-pub opens-partial : (o : OpenedValue) (v : Party) (u : List (List ℕ)) → IsOpenedOf o (holding v u) → IsOpenedOf o v
-opens-partial o v u p = search
-
--- ---- writing
+-- ---- what a party wants
 
 wants-all : (v : Party) (own : Own) (key : List ℕ) (w : WantsToWrite v own key) → suc (length w.lacks.before) ≤ length (tokens_now v)
 wants-all v own key w = omega (arith, w.lacks.lacks.within)
-
-module _ {K : Type 0} (pairs : K → KeyPairs) (h : HandshakeValue K) (v : Party) (later : List (List ℕ))
-    (s : MatchesWith pairs later h v) where
-  abbrev n : ℕ
-  n = length h.psks
-
-  given : ValueMatches pairs h (holding v h.psks)
-  given = matches-given pairs h v later s
-
-  pub same-tokens : tokens_at h.pattern.messages h.passed ≡ tokens_now v
-  same-tokens = tokens-are pairs h (holding v h.psks) given
-
-  pub few-now : count_by is_psk (tokens_at h.pattern.messages h.passed) ≤ n → count_by is_psk (tokens_now v) ≤ n
-  few-now c = subst (λ (us : List Token). count_by is_psk us ≤ n) same-tokens c
-
-  pub write-none : count_by is_psk (tokens_at h.pattern.messages h.passed) ≤ n → ((token : ℕ) → LacksDhResult (holding v h.psks) token → ⊥)
-      → (token : ℕ) → LacksDhResult v token → ⊥
-  write-none c f token l =
-      f token (lacks-back v h.psks n (agrees pairs h v later s) token
-      (omega (arith, few-now c, count-take (tokens_now v) (suc token))) l)
-
-  pub write-dh-result : (own : Own) (key : List ℕ) → count_by is_psk (tokens_at h.pattern.messages h.passed) ≤ n
-      → WantsToWrite (holding v h.psks) own key → WantsToWrite v own key
-  write-dh-result own key c a =
-      wants-write-partial v h.psks n (agrees pairs h v later s) own key (length (tokens_now v))
-      (omega (arith, few-now c, count-take (tokens_now v) (length (tokens_now v)))) a (wants-all (holding v h.psks) own key a)
-
-  module _ (k : ℕ) (at : IsPskAfter (tokens_at h.pattern.messages h.passed) n k) where
-    pub at-now : IsPskAfter (tokens_now v) n k
-    at-now = subst (λ (us : List Token). IsPskAfter us n k) same-tokens at
-
-    first-dh-result : (own : Own) (key : List ℕ) → LacksDhResultFor (writer v) v.remote h.psks (take k (tokens_now v)) own key
-        → LacksDhResultFor (writer v) v.remote v.psks (take k (tokens_now v)) own key
-    first-dh-result own key l =
-        lacks-for-same (writer v) v.remote h.psks v.psks n (agrees pairs h v later s) (take k (tokens_now v)) own key l
-        (omega (arith, at-now.count, count-take (take k (tokens_now v)) (suc (length l.before))))
-
-    pub write-before : (own : Own) (key : List ℕ) → Speaks (holding v h.psks) → LacksDhResultFor (writer v) v.remote h.psks (take k (tokens_now v)) own key
-        → WantsToWrite v own key
-    write-before own key sp l = search (lacks-for-all, first-dh-result)
-
-    pub write-before-not : (own : Own) (key : List ℕ) → LacksDhResultFor (writer v) v.remote h.psks (take k (tokens_now v)) own key
-        → WantsPskToWrite v n → ⊥
-    write-before-not own key l x =
-        let same : x.before ≡ take k (tokens_now v) = psk-place (tokens_now v) x.before x.later n k at-now x.tokens x.count in
-        let mine = first-dh-result own key l in
-        x.computed (length mine.before) (omega (arith, mine.lacks.within, ap length same))
-        (record { speaks = x.speaks; lacks = lacks-all (writer v) v.remote v.psks (tokens_now v) k (length mine.before) mine.lacks })
-
-    pub write-psk : Speaks (holding v h.psks)
-        → ((token : ℕ) → LacksDhResultAt (writer v) v.remote h.psks (take k (tokens_now v)) token → ⊥) → WantsPskToWrite v n
-    write-psk sp f = record {
-      speaks = speaks-partial v h.psks sp;
-      before = take k (tokens_now v);
-      later = drop (suc k) (tokens_now v);
-      tokens = at-now.tokens;
-      count = at-now.count;
-      computed = λ j less l.
-          f j (lacks-same (writer v) v.remote v.psks h.psks n (sym (agrees pairs h v later s)) (take k (tokens_now v)) j
-          (omega (arith, at-now.count, count-take (take k (tokens_now v)) (suc j)))
-          (lacks-first (writer v) v.remote v.psks (tokens_now v) k j (omega (arith, less, length-take k (tokens_now v))) l.lacks));
-    }
-
--- ---- reading
 
 wants-read-all : (v : Party) (m : List ℕ) (own : Own) (key : List ℕ) (w : WantsToRead v m own key) → suc (length w.stops.before) ≤ length (tokens_now v)
 wants-read-all v m own key w = omega (arith, ap length w.stops.tokens, length-append w.stops.before (w.stops.token ∷ w.stops.later))
@@ -294,116 +136,166 @@ module _ (v : Party) (m : List ℕ) (o : Option (Own × List ℕ))
   pub wants-none : o ≡ None → (token : ℕ) → Refuses v m token Agreement → ⊥
   wants-none e = search rules
 
-module _ {K : Type 0} (pairs : K → KeyPairs) (h : HandshakeValue K) (v : Party) (later : List (List ℕ))
-    (s : MatchesWith pairs later h v)
-    (m : List ℕ) where
-  abbrev given-now : ℕ
-  given-now = length h.psks
+-- ---- the psks that were handed in
 
-  abbrev alike : take given-now h.psks ≡ take given-now v.psks
-  alike = agrees pairs h v later s
+module _ {K : Type 0} (pairs : K → KeyPairs) (h : HandshakeValue K) (later : List (List ℕ)) where
+  abbrev v : Party
+  v = party_with pairs later h
+
+  abbrev n : ℕ
+  n = length h.psks
+
+  pub agrees : take (length h.psks) h.psks ≡ take (length h.psks) (h.psks ++ later)
+  agrees = sym (take-append-le n h.psks later (omega arith))
+
+  pub after-read : (h2 : HandshakeValue K) (xs : List (List ℕ)) (payload : List ℕ) → HasPsks h
+      → IsParty pairs h2 (after_message (party_of pairs h) xs payload)
+      → MatchesWith pairs later h2 (after_message v xs payload)
+  after-read h2 xs payload few e =
+      let c : ℕ = count_by is_psk (tokens_now v) in
+      ap (λ (z : Party). record z { psks = z.psks ++ later }) e
+      ∙ ap (λ (u : List (List ℕ)). record (after_message v xs payload) { psks = u }) (sym (drop-append-le c h.psks later few))
+
+  pub after-written : (h2 : HandshakeValue K) (xs : List (List ℕ)) (payload : List ℕ) → HasPsks h
+      → IsParty pairs h2 (after_own (party_of pairs h) xs payload)
+      → MatchesWith pairs later h2 (after_own v xs payload)
+  after-written h2 xs payload few e =
+      let c : ℕ = count_by is_psk (tokens_now v) in
+      ap (λ (z : Party). record z { psks = z.psks ++ later }) e
+      ∙ ap (λ (u : List (List ℕ)). record (after_own v xs payload) { psks = u }) (sym (drop-append-le c h.psks later few))
 
   -- nothing has changed
-  pub matches-same : (h2 : HandshakeValue K) → ValueMatches pairs h2 (holding v h.psks)
-      → ValueMatches pairs (with_later h2 later) v
-  matches-same h2 t = search
+  pub still-with : (h2 : HandshakeValue K) → IsParty pairs h2 (party_of pairs h) → MatchesWith pairs later h2 v
+  still-with h2 e = ap (λ (z : Party). record z { psks = z.psks ++ later }) e
 
-  -- or it has ended
-  matches-ended_party : (h2 : HandshakeValue K) → ValueMatches pairs h2 (ended_party (holding v h.psks))
-      → ValueMatches pairs (with_later h2 later) (ended_party v)
-  matches-ended_party h2 t = search
+  -- ---- writing
 
-  pub matches-ended : (h2 : HandshakeValue K) → h2 ≡ ended_as h → ValueMatches pairs (with_later h2 later) (ended_party v)
-  matches-ended h2 e = search rules
+  pub write-none : HasPsks h → ((token : ℕ) → LacksDhResult (party_of pairs h) token → ⊥)
+      → (token : ℕ) → LacksDhResult v token → ⊥
+  write-none c f token l =
+      f token (lacks-back v h.psks n agrees token
+      (omega (arith, c, count-take (tokens_now v) (suc token))) l)
 
-  pub matches-declined : (h2 : HandshakeValue K) (fault : ReadFault) → ValueMatches pairs h2 (after_not_read (holding v h.psks) fault)
-      → ValueMatches pairs (with_later h2 later) (after_not_read v fault)
-  matches-declined h2 read.Ended t = matches-same h2 t
-  matches-declined h2 read.Done t = matches-same h2 t
-  matches-declined h2 read.NotYourTurn t = matches-same h2 t
-  matches-declined h2 (read.Refused token cause) t = matches-ended_party h2 t
+  pub write-dh-result : (own : Own) (key : List ℕ) → HasPsks h
+      → WantsToWrite (party_of pairs h) own key → WantsToWrite v own key
+  write-dh-result own key c a =
+      wants-write-partial v h.psks n agrees own key (length (tokens_now v))
+      (omega (arith, c, count-take (tokens_now v) (length (tokens_now v)))) a (wants-all (party_of pairs h) own key a)
 
-  module _ (few : count_by is_psk (tokens_at h.pattern.messages h.passed) ≤ given-now) where
-    few-here : (k : ℕ) → count_by is_psk (take k (tokens_now v)) ≤ given-now
-    few-here k = omega (arith, few-now pairs h v later s few, count-take (tokens_now v) k)
+  module _ (k : ℕ) (at : IsPskAfter (tokens_at h.pattern.messages h.passed) n k) where
+    first-dh-result : (own : Own) (key : List ℕ) → LacksDhResultFor (writer v) v.remote h.psks (take k (tokens_now v)) own key
+        → LacksDhResultFor (writer v) v.remote v.psks (take k (tokens_now v)) own key
+    first-dh-result own key l =
+        lacks-for-same (writer v) v.remote h.psks v.psks n agrees (take k (tokens_now v)) own key l
+        (omega (arith, at.count, count-take (take k (tokens_now v)) (suc (length l.before))))
 
-    pub read-accepts : (xs : List (List ℕ)) (p : List ℕ) → Accepts (holding v h.psks) m xs p → Accepts v m xs p
-    read-accepts xs p a = accepts-partial v h.psks given-now alike m xs p (few-now pairs h v later s few) a
+    pub write-before : (own : Own) (key : List ℕ) → Speaks (party_of pairs h) → LacksDhResultFor (writer v) v.remote h.psks (take k (tokens_now v)) own key
+        → WantsToWrite v own key
+    write-before own key sp l = search (lacks-for-all, first-dh-result)
 
-    pub read-dh-result : (own : Own) (key : List ℕ) → WantsToRead (holding v h.psks) m own key → WantsToRead v m own key
-    read-dh-result own key a =
-        wants-partial v h.psks given-now alike m own key (length (tokens_now v)) (few-here (length (tokens_now v))) a
-        (wants-read-all (holding v h.psks) m own key a)
+    pub write-before-not : (own : Own) (key : List ℕ) → LacksDhResultFor (writer v) v.remote h.psks (take k (tokens_now v)) own key
+        → WantsPskToWrite v n → ⊥
+    write-before-not own key l x =
+        let same : x.before ≡ take k (tokens_now v) = psk-place (tokens_now v) x.before x.later n k at x.tokens x.count in
+        let mine = first-dh-result own key l in
+        x.computed (length mine.before) (omega (arith, mine.lacks.within, ap length same))
+        (record { speaks = x.speaks; lacks = lacks-all (writer v) v.remote v.psks (tokens_now v) k (length mine.before) mine.lacks })
 
-    -- where no DH result lacks
-    pub read-lacks : ((token : ℕ) → Refuses (holding v h.psks) m token Agreement → ⊥) → (token : ℕ) → Refuses v m token Agreement → ⊥
-    read-lacks none token r = none token (refuses-back v h.psks given-now alike m token Agreement (few-here (suc token)) r)
-
-    declines-partial : (fault : ReadFault) → DoesNotRead (holding v h.psks) m fault → DoesNotRead v m fault
-    declines-partial read.Ended d = d
-    declines-partial read.Done d = d
-    declines-partial read.NotYourTurn d = speaks-partial v h.psks d
-    declines-partial (read.Refused token cause) d = refuses-partial v h.psks given-now alike m token cause (few-here (suc token)) d
-
-    pub read-declines : (fault : ReadFault) → DoesNotRead (holding v h.psks) m fault
-        × ((token : ℕ) → Refuses (holding v h.psks) m token Agreement → ⊥)
-        → DoesNotRead v m fault × ((token : ℕ) → Refuses v m token Agreement → ⊥)
-    read-declines fault d = (
-      declines-partial fault d.0,
-      λ token r. d.1 token (refuses-back v h.psks given-now alike m token Agreement (few-here (suc token)) r),
-    )
-
-    pub read-none : (remote : Option (List ℕ)) → WantsPskToRead v given-now m remote → ⊥
-    read-none remote x = psk-none v m given-now remote (few-now pairs h v later s few) x
-
-  module _ (k : ℕ) (at : IsPskAfter (tokens_at h.pattern.messages h.passed) given-now k) where
-    at-read : IsPskAfter (tokens_now v) given-now k
-    at-read = at-now pairs h v later s k at
-
-    few-before : (j : ℕ) → j ≤ k → count_by is_psk (take j (tokens_now v)) ≤ given-now
-    few-before j less = omega (arith, at-read.count, count-less (tokens_now v) j k less)
-
-    leads-here : (remote : Option (List ℕ)) → BeginsBefore (reader v) v.remote h.psks v.state (tokens_now v) m k remote
-        → BeginsBefore (reader v) v.remote v.psks v.state (tokens_now v) m k remote
-    leads-here remote l = record {
-      carried = l.carried;
-      rest = l.rest;
-      leads = leads-same (reader v) v.remote h.psks v.psks v.state given-now alike (take k (tokens_now v)) l.carried m l.rest
-          (few-before k (omega arith)) l.leads;
-      remote_is = l.remote_is;
+    pub write-psk : Speaks (party_of pairs h)
+        → ((token : ℕ) → LacksDhResultAt (writer v) v.remote h.psks (take k (tokens_now v)) token → ⊥) → WantsPskToWrite v n
+    write-psk sp f = record {
+      speaks = speaks-partial v h.psks sp;
+      before = take k (tokens_now v);
+      later = drop (suc k) (tokens_now v);
+      tokens = at.tokens;
+      count = at.count;
+      computed = λ j less l.
+          f j (lacks-same (writer v) v.remote v.psks h.psks n (sym agrees) (take k (tokens_now v)) j
+          (omega (arith, at.count, count-take (take k (tokens_now v)) (suc j)))
+          (lacks-first (writer v) v.remote v.psks (tokens_now v) k j (omega (arith, less, length-take k (tokens_now v))) l.lacks));
     }
 
-    pub before-psk : (remote : Option (List ℕ)) → h.passed ≤ length h.pattern.messages → read_fault h ≡ None
-        → BeginsBefore (reader v) v.remote h.psks v.state (tokens_now v) m k remote → WantsPskToRead v given-now m remote
-    before-psk remote within none b = search (rules, wants-psk, leads-here)
+  -- ---- reading
 
-    pub before-one : (remote other : Option (List ℕ)) → BeginsBefore (reader v) v.remote h.psks v.state (tokens_now v) m k remote
-        → WantsPskToRead v given-now m other → remote ≡ other
-    before-one remote other b x = psk-one v m given-now k remote other at-read (leads-here remote b) x
+  module _ (m : List ℕ) where
+    module _ (few : HasPsks h) where
+      few-here : (k : ℕ) → count_by is_psk (take k (tokens_now v)) ≤ n
+      few-here k = omega (arith, few, count-take (tokens_now v) k)
 
-    module _ (stop : Stop) (stops : (stop.token < k) × Refuses (holding v h.psks) m stop.token stop.cause
-        × MatchOption stop.want ((j : ℕ) → Refuses (holding v h.psks) m j Agreement → ⊥)
-        (λ want. WantsToRead (holding v h.psks) m want.0 want.1)) where
-      few-to : count_by is_psk (take (suc stop.token) (tokens_now v)) ≤ given-now
-      few-to = few-before (suc stop.token) stops.0
+      pub read-accepts : (xs : List (List ℕ)) (p : List ℕ) → Accepts (party_of pairs h) m xs p → Accepts v m xs p
+      read-accepts xs p a = accepts-partial v h.psks n agrees m xs p few a
 
-      pub before-refused : Refuses v m stop.token stop.cause
-      before-refused = refuses-partial v h.psks given-now alike m stop.token stop.cause few-to stops.1
+      pub read-dh-result : (own : Own) (key : List ℕ) → WantsToRead (party_of pairs h) m own key → WantsToRead v m own key
+      read-dh-result own key a =
+          wants-partial v h.psks n agrees m own key (length (tokens_now v)) (few-here (length (tokens_now v))) a
+          (wants-read-all (party_of pairs h) m own key a)
 
-      pub before-not : (remote : Option (List ℕ)) → WantsPskToRead v given-now m remote → ⊥
-      before-not remote x = psk-not v m given-now k stop.token stop.cause remote at-read stops.0 before-refused x
+      -- where no DH result lacks
+      pub read-lacks : ((token : ℕ) → Refuses (party_of pairs h) m token Agreement → ⊥) → (token : ℕ) → Refuses v m token Agreement → ⊥
+      read-lacks none token r = none token (refuses-back v h.psks n agrees m token Agreement (few-here (suc token)) r)
 
-      pub before-declined : stop.want ≡ None → (j : ℕ) → Refuses v m j Agreement → ⊥
-      before-declined e j r =
-          refuses-not v h.psks given-now alike m stop.token j stop.cause few-to stops.1
-          (wants-none (holding v h.psks) m stop.want stops.2 e) r
+      declines-partial : (fault : ReadFault) → DoesNotRead (party_of pairs h) m fault → DoesNotRead v m fault
+      declines-partial read.Ended d = d
+      declines-partial read.Done d = d
+      declines-partial read.NotYourTurn d = speaks-partial v h.psks d
+      declines-partial (read.Refused token cause) d = refuses-partial v h.psks n agrees m token cause (few-here (suc token)) d
 
-      pub before-dh-result : (want : Own × List ℕ) → stop.want ≡ Some want → WantsToRead v m want.0 want.1
-      before-dh-result want e =
-          let a = wants-some (holding v h.psks) m stop.want stops.2 want e in
-          let one = refuses-one (holding v h.psks) m (length a.stops.before) stop.token Agreement stop.cause
-          (record { listens = a.listens; stops = a.stops.stops }) stops.1 in
-          wants-partial v h.psks given-now alike m want.0 want.1 k (few-before k (omega arith)) a (omega (arith, one.0, stops.0))
+      pub read-declines : (fault : ReadFault) → DoesNotRead (party_of pairs h) m fault
+          × ((token : ℕ) → Refuses (party_of pairs h) m token Agreement → ⊥)
+          → DoesNotRead v m fault × ((token : ℕ) → Refuses v m token Agreement → ⊥)
+      read-declines fault d = (
+        declines-partial fault d.0,
+        λ token r. d.1 token (refuses-back v h.psks n agrees m token Agreement (few-here (suc token)) r),
+      )
+
+      pub read-none : (remote : Option (List ℕ)) → WantsPskToRead v n m remote → ⊥
+      read-none remote x = psk-none v m n remote few x
+
+    module _ (k : ℕ) (at : IsPskAfter (tokens_at h.pattern.messages h.passed) n k) where
+      few-before : (j : ℕ) → j ≤ k → count_by is_psk (take j (tokens_now v)) ≤ n
+      few-before j less = omega (arith, at.count, count-less (tokens_now v) j k less)
+
+      leads-here : (remote : Option (List ℕ)) → BeginsBefore (reader v) v.remote h.psks v.state (tokens_now v) m k remote
+          → BeginsBefore (reader v) v.remote v.psks v.state (tokens_now v) m k remote
+      leads-here remote l = record {
+        carried = l.carried;
+        rest = l.rest;
+        leads = leads-same (reader v) v.remote h.psks v.psks v.state n agrees (take k (tokens_now v)) l.carried m l.rest
+            (few-before k (omega arith)) l.leads;
+        remote_is = l.remote_is;
+      }
+
+      pub before-psk : (remote : Option (List ℕ)) → h.passed ≤ length h.pattern.messages → read_fault h ≡ None
+          → BeginsBefore (reader v) v.remote h.psks v.state (tokens_now v) m k remote → WantsPskToRead v n m remote
+      before-psk remote within none b = search (rules, wants-psk, leads-here)
+
+      pub before-one : (remote other : Option (List ℕ)) → BeginsBefore (reader v) v.remote h.psks v.state (tokens_now v) m k remote
+          → WantsPskToRead v n m other → remote ≡ other
+      before-one remote other b x = psk-one v m n k remote other at (leads-here remote b) x
+
+      module _ (stop : Stop) (stops : (stop.token < k) × Refuses (party_of pairs h) m stop.token stop.cause
+          × MatchOption stop.want ((j : ℕ) → Refuses (party_of pairs h) m j Agreement → ⊥)
+          (λ want. WantsToRead (party_of pairs h) m want.0 want.1)) where
+        few-to : count_by is_psk (take (suc stop.token) (tokens_now v)) ≤ n
+        few-to = few-before (suc stop.token) stops.0
+
+        pub before-refused : Refuses v m stop.token stop.cause
+        before-refused = refuses-partial v h.psks n agrees m stop.token stop.cause few-to stops.1
+
+        pub before-not : (remote : Option (List ℕ)) → WantsPskToRead v n m remote → ⊥
+        before-not remote x = psk-not v m n k stop.token stop.cause remote at stops.0 before-refused x
+
+        pub before-declined : stop.want ≡ None → (j : ℕ) → Refuses v m j Agreement → ⊥
+        before-declined e j r =
+            refuses-not v h.psks n agrees m stop.token j stop.cause few-to stops.1
+            (wants-none (party_of pairs h) m stop.want stops.2 e) r
+
+        pub before-dh-result : (want : Own × List ℕ) → stop.want ≡ Some want → WantsToRead v m want.0 want.1
+        before-dh-result want e =
+            let a = wants-some (party_of pairs h) m stop.want stops.2 want e in
+            let one = refuses-one (party_of pairs h) m (length a.stops.before) stop.token Agreement stop.cause
+            (record { listens = a.listens; stops = a.stops.stops }) stops.1 in
+            wants-partial v h.psks n agrees m want.0 want.1 k (few-before k (omega arith)) a (omega (arith, one.0, stops.0))
 
 -- ---- faults
 
@@ -507,10 +399,9 @@ module _ {K : Type 0} (pairs : K → KeyPairs) (h h2 : HandshakeValue K)
     (less : h.passed < length h.pattern.messages) (all : IsSupplied h) (v : Party) (payload : List ℕ) where
   pub writes-supplied : (bytes : List ℕ) (result : Result ℕ WriteFault)
       → MatchResult result (λ _. Advances h h2) (λ fault. h2 ≡ after_write_fault h fault)
-      → MatchResult result (HasWrittenTo (ValueMatches pairs) v payload bytes h2)
-      (HasNotWritten (ValueMatches pairs) v (length payload) h2)
+      → MatchResult result (HasWrittenTo (IsParty pairs) v payload bytes h2)
+      (HasNotWritten (IsParty pairs) v (length payload) h2)
       → MatchResult result (HasWrittenTo (Matches pairs) v payload bytes h2)
       (HasNotWritten (Matches pairs) v (length payload) h2)
-  writes-supplied bytes (Ok n) a w = (w.0, w.1, matches-of pairs h2 _ w.2 (supplied-after h less all h2 a))
-  writes-supplied bytes (Err fault) a w =
-      (w.0, matches-of pairs h2 _ w.1 (subst (λ (z : HandshakeValue K). IsSupplied z) (sym a) (supplied-fault h fault all)))
+  writes-supplied bytes (Ok len) a w = (w.0, w.1, record { is = w.2; supplied = supplied-after h less all h2 a })
+  writes-supplied bytes (Err fault) a w = (w.0, record { is = w.1; supplied = subst (λ (z : HandshakeValue K). IsSupplied z) (sym a) (supplied-fault h fault all) })

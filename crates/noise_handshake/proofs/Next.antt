@@ -1,16 +1,16 @@
 -- The next message of a handshake: what its fields give a reader or a writer, and what they hold after it.
 use Rattle.std.proofs.Common.{rules, ◌≡◌, ℕ, ◌+◌, ◌-◌, ◌<◌, ◌≤◌, ◌^◌, List, Bool, true, length, take, drop, sym, ap, subst, refl, ◌∙◌, arith, length-drop, drop-drop}
 use Rattle.std.specs.Prelude.{is_some, not}
-use Rattle.noise_handshake.proofs.Common.{None, Some, count_by, ◌&&◌, ◌==◌, list_all, Token, Initiator, is_psk, other, turn_from, Plan, has_psk, has_key, overhead_of, keyed, nonce_now, SymmetricState, MessageLayout, PlacedToken, Remote, HandshakeValue, HasPsks, is_turn, message_len_of, read_fault, write_fault, added_width, keyed_after_tokens, nonce_after_message, ValueMatches, passed_places, Party, tokens_at, tokens_now, held_in, IsKept, IsPskAfter, KnowsRemote, are_known, is_known, tokens_of, ArePlaced, LaysNext, Listening, Speaking, has_own}
+use Rattle.noise_handshake.proofs.Common.{None, Some, count_by, ◌&&◌, ◌==◌, list_all, Token, Initiator, is_psk, other, turn_from, Plan, has_psk, has_key, overhead_of, keyed, nonce_now, SymmetricState, MessageLayout, PlacedToken, Remote, HandshakeValue, HasPsks, is_turn, message_len_of, read_fault, write_fault, added_width, keyed_after_tokens, nonce_after_message, party_of, passed_places, tokens_at, held_in, IsKept, IsPskAfter, KnowsRemote, are_known, is_known, tokens_of, ArePlaced, LaysNext, Listening, Speaking, has_own}
 use Rattle.noise_handshake.specs.declared.handshake.Handshake.TheInside.{Inside}
 use Rattle.noise_handshake.proofs.Keeping.{key-after, sound-after}
 use Rattle.noise_handshake.proofs.Knowing.{reading-known, writing-known}
 use Rattle.noise_handshake.proofs.Lacked.{due-speaking, due-turn, due-within}
 use Rattle.noise_handshake.proofs.Layouts.{length-tokens_of, places-laid, tokens-laid}
 use Rattle.noise_handshake.proofs.Owned.{owned}
-use Rattle.noise_handshake.proofs.Standing.{due, listening, listens, reads-turn, tokens-are}
+use Rattle.noise_handshake.proofs.Standing.{due, listening, listens, reads-turn}
 use Rattle.noise_handshake.proofs.Parties.{items-from}
-use Rattle.noise_handshake.proofs.Wrote.{short-view, speaking, writes-added, writes-due, writes-length, writes-short, writes-turn}
+use Rattle.noise_handshake.proofs.Wrote.{speaking, writes-added, writes-due, writes-length, writes-short, writes-turn}
 use Rattle.noise_keys.specs.Keys.{KeyPairs}
 
 -- there is a message, of the other party
@@ -169,36 +169,37 @@ module _ {K : Type 0} (pairs : K → KeyPairs) (a : Inside K) (i : IsKept pairs 
         i.6,
       )
 
-  -- for the parties of the handshake
-  module _ (h : HandshakeValue K) (seen : held_in a ≡ h) (v : Party) (s : ValueMatches pairs h v) where
-    matches-in : ValueMatches pairs (held_in a) v
-    matches-in = subst (λ (z : HandshakeValue K). ValueMatches pairs z v) (sym seen) s
-
-    here : tokens_of placed ≡ tokens_now v
-    here = tokens-next ∙ tokens-are pairs (held_in a) v matches-in
-
-    pub trial-next : (state : SymmetricState) → state ≡ a.state → state ≡ v.state
-    trial-next state e = subst (λ (z : SymmetricState). z ≡ v.state) (sym e) matches-in.state
+  -- for the party of the handshake
+  module _ (h : HandshakeValue K) (seen : held_in a ≡ h) where
+    pub trial-next : (state : SymmetricState) → state ≡ a.state → state ≡ h.state
+    trial-next state e = e ∙ ap (λ (z : HandshakeValue K). z.state) seen
 
     module _ (ds : List (List ℕ)) (f : ds ≡ a.psks.items) where
+      abbrev left : List (List ℕ)
+      left = take (length ds - a.used) (drop a.used ds)
+
       pub listening-next : read_fault h ≡ None
-          → Listening v a.means.role a.means.has_psks (pairs a.means.keys).agree (take (length ds - a.used) (drop a.used ds)) a.remote (tokens_of placed)
+          → Listening (party_of pairs h) a.means.role a.means.has_psks (pairs a.means.keys).agree (take (length ds - a.used) (drop a.used ds)) a.remote (tokens_of placed)
       listening-next none =
-          listening pairs (held_in a) v matches-in a.means.has_psks (take (length ds - a.used) (drop a.used ds)) (tokens_of placed)
-          (listens pairs (held_in a) v matches-in i.2.within (none-read pairs a i h seen none)) i.0
-          (items-from ds a.psks.items a.used f) here
+          subst (λ (z : HandshakeValue K). Listening (party_of pairs z) a.means.role a.means.has_psks (pairs a.means.keys).agree left a.remote (tokens_of placed)) seen
+          (listening pairs (held_in a) a.means.has_psks left (tokens_of placed)
+          (listens pairs (held_in a) i.2.within (none-read pairs a i h seen none)) i.0 (items-from ds a.psks.items a.used f) tokens-next)
 
       pub due-next : (not h.ended && not (h.passed == length h.pattern.messages) && is_turn h.role h.passed) ≡ true
-          → Speaking v a.means.role a.means.has_psks (pairs a.means.keys).public (pairs a.means.keys).agree (take (length ds - a.used) (drop a.used ds)) a.remote (tokens_of placed)
+          → Speaking (party_of pairs h) a.means.role a.means.has_psks (pairs a.means.keys).public (pairs a.means.keys).agree (take (length ds - a.used) (drop a.used ds)) a.remote (tokens_of placed)
       due-next speaks =
-          due-speaking (held_in a) pairs v matches-in i.2.within (due-in pairs a i h seen speaks) a.means.has_psks
-          (take (length ds - a.used) (drop a.used ds)) (tokens_of placed) i.0 (items-from ds a.psks.items a.used f) here
+          subst (λ (z : HandshakeValue K). Speaking (party_of pairs z) a.means.role a.means.has_psks (pairs a.means.keys).public (pairs a.means.keys).agree left a.remote (tokens_of placed)) seen
+          (due-speaking (held_in a) pairs i.2.within (due-in pairs a i h seen speaks) a.means.has_psks left (tokens_of placed) i.0
+          (items-from ds a.psks.items a.used f) tokens-next)
 
       pub speaking-next : (len : ℕ) → write_fault h len ≡ None
-          → Speaking v a.means.role a.means.has_psks (pairs a.means.keys).public (pairs a.means.keys).agree (take (length ds - a.used) (drop a.used ds)) a.remote (tokens_of placed)
+          → Speaking (party_of pairs h) a.means.role a.means.has_psks (pairs a.means.keys).public (pairs a.means.keys).agree (take (length ds - a.used) (drop a.used ds)) a.remote (tokens_of placed)
       speaking-next len none =
-          speaking pairs (held_in a) i.2 len (none-write pairs a i h seen len none) v matches-in a.means.has_psks
-          (take (length ds - a.used) (drop a.used ds)) (tokens_of placed) i.0 (items-from ds a.psks.items a.used f) here
+          subst (λ (z : HandshakeValue K). Speaking (party_of pairs z) a.means.role a.means.has_psks (pairs a.means.keys).public (pairs a.means.keys).agree left a.remote (tokens_of placed)) seen
+          (speaking pairs (held_in a) i.2 len (none-write pairs a i h seen len none) a.means.has_psks left (tokens_of placed) i.0
+          (items-from ds a.psks.items a.used f) tokens-next)
 
-    pub short-next : (len : ℕ) → write_fault h len ≡ None → overhead_of v.pattern (v.passed + 1) + len ≤ 65535
-    short-next len none = short-view pairs (held_in a) i.2 len (none-write pairs a i h seen len none) v matches-in
+    pub short-next : (len : ℕ) → write_fault h len ≡ None → overhead_of h.pattern (h.passed + 1) + len ≤ 65535
+    short-next len none =
+        subst (λ (z : HandshakeValue K). overhead_of z.pattern (z.passed + 1) + len ≤ 65535) seen
+        (writes-short pairs (held_in a) i.2 len (none-write pairs a i h seen len none))

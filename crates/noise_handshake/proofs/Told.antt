@@ -87,13 +87,6 @@ module _ {S : Type 0} (after : S → Token → ℕ → ℕ → SymmetricState �
         told-on w.has_psks r t us x ys place place2 old mid new from here e
         ∙ ap (λ (z : List ℕ). after_steps after w.has_psks r place (t ∷ us) (z ∷ ys) old) same
 
-    pub all-written : ((ys : List (List ℕ)) → Given w known others ts ys
-        → new ≡ after_steps after w.has_psks (after_token w.has_psks r t x) place2 ts ys mid)
-        → (xs : List (List ℕ)) → Given w known psks tokens xs → new ≡ after_steps after w.has_psks r place tokens xs old
-    all-written later xs g =
-        subst (λ (us : List Token). new ≡ after_steps after w.has_psks r place us xs old) (sym split)
-        (first-written ts later xs (subst (λ (us : List Token). Given w known psks us xs) split g))
-
     pub before-written : (k : ℕ)
         → ((ys : List (List ℕ)) → Given w known others (take k ts) ys
         → new ≡ after_steps after w.has_psks (after_token w.has_psks r t x) place2 (take k ts) ys mid)

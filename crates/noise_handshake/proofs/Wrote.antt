@@ -1,8 +1,7 @@
 -- What a handshake that writes asks and leaves.
-use Rattle.std.proofs.Common.{rules, ◌≡◌, ℕ, ◌+◌, ◌<◌, ◌≤◌, List, Bool, true, false, length, sym, ap, subst, refl, ◌∙◌, arith, not}
+use Rattle.std.proofs.Common.{rules, ◌≡◌, ℕ, ◌+◌, ◌<◌, ◌≤◌, List, Bool, true, false, length, sym, ap, refl, ◌∙◌, arith, not}
 use Rattle.std.specs.Prelude.{nat_lt, if◌then◌else◌}
-use Rattle.noise_handshake.proofs.Common.{nat_tests, Option, None, Some, ◌==◌, IsTrue, list_all, Token, Role, Initiator, turn_from, Plan, has_psk, has_key, overhead_of, keyed, Own, WriteFault, Remote, Writer, writer, Given, LacksDhResultAt, Writes, LacksDhResult, message_bytes, added_width, Party, Speaks, tokens_at, tokens_now, Speaking, has_own, HandshakeValue, write_fault, is_turn, length_now, length_unless, message_len_of, IsSound, passed_places, ValueMatches, same_role-true}
-use Rattle.noise_handshake.proofs.Owned.{owned}
+use Rattle.noise_handshake.proofs.Common.{nat_tests, Option, None, Some, ◌==◌, Token, Role, Initiator, turn_from, has_psk, has_key, overhead_of, keyed, Own, WriteFault, Remote, Writer, writer, Given, LacksDhResultAt, Writes, LacksDhResult, message_bytes, added_width, Party, Speaks, tokens_at, tokens_now, Speaking, HandshakeValue, write_fault, is_turn, length_now, length_unless, message_len_of, IsSound, passed_places, party_of, same_role-true}
 use Rattle.noise_handshake.proofs.Places.{overhead-is}
 use Rattle.noise_handshake.specs.declared.faults.WriteFault.TheVariants as write
 use Rattle.noise_keys.specs.Keys.{KeyPairs}
@@ -49,37 +48,22 @@ module _ {K : Type 0} (pairs : K → KeyPairs) (h : HandshakeValue K) (s : IsSou
         ∙ ap (λ (ts : List Token). added_width (has_psk h.pattern) (has_key h.pattern (passed_places h.pattern h.passed)) ts) e
         ∙ sym (overhead-is h.pattern h.passed writes-due)
 
-    -- with the keys of its own that it sends
-    pub writes-own : IsTrue (list_all (has_own (pairs h.keys).public) tokens)
-    writes-own =
-        subst (λ (ts : List Token). IsTrue (list_all (has_own (pairs h.keys).public) ts)) (sym e)
-        (owned (pairs h.keys).public h.pattern h.role h.passed writes-turn s.has_e s.has_s)
+  speaks : Speaks (party_of pairs h)
+  speaks = record { going = clear-now.going; more = writes-due; turn = writes-turn }
 
-  module _ (v : Party) (t : ValueMatches pairs h v) where
-    speaks : Speaks v
-    speaks = record {
-      going = sym t.ended ∙ clear-now.going;
-      more = subst (λ (k : ℕ). k < length v.pattern.messages) t.passed (subst (λ (p : Plan). h.passed < length p.messages) t.pattern writes-due);
-      turn = ap (turn_from Initiator) (sym t.passed) ∙ writes-turn ∙ t.role;
-    }
-
-    pub speaking : (has_psks : Bool) (psks : List (List ℕ)) (tokens : List Token) → has_psks ≡ has_psk h.pattern → psks ≡ h.psks → tokens ≡ tokens_now v
-        → Speaking v h.role has_psks (pairs h.keys).public (pairs h.keys).agree psks h.remote tokens
-    speaking has_psks psks tokens b d e = record {
-      speaks = speaks;
-      role_is = t.role;
-      psks_is = b ∙ ap has_psk t.pattern;
-      own_is = t.own;
-      agree_is = t.agree;
-      psks_are = d ∙ t.psks;
-      known_is = t.remote;
-      tokens_are = e;
-    }
-
-    -- the party's message has that length too
-    pub short-view : overhead_of v.pattern (v.passed + 1) + len ≤ 65535
-    short-view = subst (λ (k : ℕ). overhead_of v.pattern (k + 1) + len ≤ 65535) t.passed
-        (subst (λ (p : Plan). overhead_of p (h.passed + 1) + len ≤ 65535) t.pattern writes-short)
+  pub speaking : (has_psks : Bool) (psks : List (List ℕ)) (tokens : List Token) → has_psks ≡ has_psk h.pattern → psks ≡ h.psks
+      → tokens ≡ tokens_now (party_of pairs h)
+      → Speaking (party_of pairs h) h.role has_psks (pairs h.keys).public (pairs h.keys).agree psks h.remote tokens
+  speaking has_psks psks tokens b d e = record {
+    speaks = speaks;
+    role_is = refl;
+    psks_is = b;
+    own_is = refl;
+    agree_is = refl;
+    psks_are = d;
+    known_is = refl;
+    tokens_are = e;
+  }
 
 -- what holds of a party's parts holds of the party that it speaks for
 module _ (v : Party) (role : Role) (has_psks : Bool) (own : Own → Option (List ℕ)) (agree : Own → List ℕ → Option (List ℕ)) (psks : List (List ℕ))

@@ -10,7 +10,7 @@ use Rattle.noise_keys.specs.declared.keys.Own.{Own}
 use Rattle.noise_keys.specs.declared.faults.SetupFault.{SetupFault}
 use Rattle.noise_handshake.specs.declared.remote.Remote.{Remote}
 use Rattle.noise_handshake.specs.HandshakeValue.{HandshakeValue}
-use Rattle.noise_handshake.specs.Matching.{ValueMatches}
+use Rattle.noise_handshake.specs.Matching.{party_of}
 use Rattle.noise_handshake.specs.Parts.{IsWholeValue}
 use Rattle.noise_handshake.specs.Party.{Party, tokens_at}
 use Rattle.noise_handshake.specs.Setup.{psks_of, setup_fault}
@@ -39,7 +39,10 @@ late_fault p role own remote psks =
 abbrev pub IsLateWhole : {K : Type 0} → (K → KeyPairs) → HandshakeValue K → Type 0
 IsLateWhole pairs h = (later : List (List ℕ)) × IsWholeValue pairs (with_later h later)
 
--- With these psks after those that were handed in, the handshake matches the party.
 module _ {K : Type 0} (pairs : K → KeyPairs) where
+  -- the party of a handshake with these psks after those that were handed in
+  abbrev pub party_with : List (List ℕ) → HandshakeValue K → Party
+  party_with later h = party_of pairs (with_later h later)
+
   abbrev pub MatchesWith : List (List ℕ) → HandshakeValue K → Party → Type 0
-  MatchesWith later h v = ValueMatches pairs (with_later h later) v
+  MatchesWith later h v = party_with later h ≡ v

@@ -49,31 +49,28 @@ IsKeyed v = IsKeyedAt v.pattern v.passed v.state
 abbrev pub IsSupplied : {K : Type 0} → HandshakeValue K → Type 0
 IsSupplied h = length h.psks ≡ psks_of (drop h.passed h.pattern.messages)
 
--- The handshake matches the party, by the meaning of its keys, and it has all psks.
 module _ {K : Type 0} (pairs : K → KeyPairs) where
-  pub record Matches (h : HandshakeValue K) (v : Party) : Type 0 where
-    pub pattern : h.pattern ≡ v.pattern
-    pub role : h.role ≡ v.role
-    pub psks : h.psks ≡ v.psks
-    pub own : (pairs h.keys).public ≡ v.own
-    pub agree : (pairs h.keys).agree ≡ v.agree
-    pub remote : h.remote ≡ v.remote
-    pub passed : h.passed ≡ v.passed
-    pub ended : h.ended ≡ v.ended
-    pub state : h.state ≡ v.state
-    pub supplied : IsSupplied h
+  -- the party that a handshake is, by the meaning of its keys, with the psks that were handed in
+  abbrev pub party_of : HandshakeValue K → Party
+  party_of h = record {
+    pattern = h.pattern;
+    role = h.role;
+    psks = h.psks;
+    own = (pairs h.keys).public;
+    agree = (pairs h.keys).agree;
+    remote = h.remote;
+    passed = h.passed;
+    state = h.state;
+    ended = h.ended;
+  }
 
-  -- The same of a handshake that may lack psks: the party has no others than those that were handed in.
-  pub record ValueMatches (h : HandshakeValue K) (v : Party) : Type 0 where
-    pub pattern : h.pattern ≡ v.pattern
-    pub role : h.role ≡ v.role
-    pub psks : h.psks ≡ v.psks
-    pub own : (pairs h.keys).public ≡ v.own
-    pub agree : (pairs h.keys).agree ≡ v.agree
-    pub remote : h.remote ≡ v.remote
-    pub passed : h.passed ≡ v.passed
-    pub ended : h.ended ≡ v.ended
-    pub state : h.state ≡ v.state
+  abbrev pub IsParty : HandshakeValue K → Party → Type 0
+  IsParty h v = party_of h ≡ v
+
+  -- The handshake is this party, and has all psks.
+  pub record Matches (h : HandshakeValue K) (v : Party) : Type 0 where
+    pub is : IsParty h v
+    pub supplied : IsSupplied h
 
 -- Why a party doesn't accept a message.
 abbrev pub DoesNotRead : Party → List ℕ → ReadFault → Type 0

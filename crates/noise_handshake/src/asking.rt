@@ -1,13 +1,13 @@
 //! Reading and writing the messages of a handshake that asks for what it lacks: DH results and psks.
 
-ghost use Rattle.std.specs.Prelude.{◌≡◌, ◌≤◌, ℕ, List, length, drop, true, None, Some, IfOk, IfErr, OnErr, MatchResult, MatchOption, ◌==◌, Option};
+ghost use Rattle.std.specs.Prelude.{◌≡◌, ◌≤◌, ℕ, List, length, drop, true, None, Some, IfOk, IfErr, OnErr, MatchResult, MatchOption, Option};
 ghost use Rattle.std.specs.Option.{ForSome};
 
 use crate::stop::Stop;
 use crate::{Handshake, Keys, Unread, Unwritten, Want};
 
 impl<K: Keys> Handshake<K> {
-    ghost use Rattle.noise_handshake.specs.Party.{Party, Refuses};
+    ghost use Rattle.noise_handshake.specs.Party.{Refuses};
     ghost use Rattle.noise_handshake.specs.declared.faults.Cause.TheVariants.{Agreement};
     ghost use Rattle.noise_handshake.specs.declared.faults.ReadFault.TheVariants.{Refused};
     ghost use Rattle.noise_handshake.specs.declared.faults.Want.{Want};
@@ -17,7 +17,7 @@ impl<K: Keys> Handshake<K> {
     ghost use Rattle.noise_handshake.specs.Calls.{HasReadAt, HasWrittenTo, IsLeftUnread, IsLeftUnwritten, IsPlaceIn, IsSameAround, speaks_now};
     ghost use Rattle.noise_handshake.specs.HandshakeValue.{read_fault, write_fault, message_len_of, Advances, HasPsks};
     ghost use Rattle.noise_handshake.specs.HandshakeValue.{after_unread, after_unwritten, IsOfDue, IsOfTurn, IsWant};
-    ghost use Rattle.noise_handshake.specs.Late.{LacksPskAt, MatchesWith};
+    ghost use Rattle.noise_handshake.specs.Late.{LacksPskAt, MatchesWith, party_with};
     ghost use Rattle.noise_handshake.specs.Writing.{LacksDhResult};
 
     // What reading a due message lacks at or before token k, its first psk token without a psk; or where it is refused
@@ -26,11 +26,12 @@ impl<K: Keys> Handshake<K> {
         requires due { read_fault self.now ≡ None }
         requires within { self.now.passed ≤ length self.now.pattern.messages }
         requires psk { LacksPskAt self.now k }
-        ensures wants { (v : Party) (later : List (List ℕ)) → MatchesWith K.pairs later self.now v
-            → let leaves = LeavesUnread v (length self.now.psks) message.now in MatchResult result
-            (λ want. leaves (Unread.Wants want)) (λ s. leaves (Unread.Declined (Refused s.token s.cause))) }
-        ensures asked { (v : Party) (later : List (List ℕ)) → MatchesWith K.pairs later self.now v
-            → (remote : Option (List ℕ)) → WantsPskToRead v (length self.now.psks) message.now remote
+        ensures wants { (later : List (List ℕ))
+            → let leaves = LeavesUnread (party_with K.pairs later self.now) (length self.now.psks) message.now in
+            MatchResult result (λ want. leaves (Unread.Wants want))
+            (λ s. leaves (Unread.Declined (Refused s.token s.cause))) }
+        ensures asked { (later : List (List ℕ)) (remote : Option (List ℕ))
+            → WantsPskToRead (party_with K.pairs later self.now) (length self.now.psks) message.now remote
             → result ≡ Ok (Want.Psk remote) }
     {
         match self.read_before(k, message) {
@@ -60,11 +61,12 @@ impl<K: Keys> Handshake<K> {
             (λ fault. result ≡ Err (Unread.Declined fault)) }
         ensures state { MatchResult result (λ _. Advances self.old self.new)
             (λ unread. self.new ≡ after_unread self.old unread) }
-        ensures reads { (v : Party) (later : List (List ℕ)) → let matches = MatchesWith K.pairs later in
-            matches self.old v → MatchResult result (HasReadAt matches v message.old message.new self.new)
+        ensures reads { (later : List (List ℕ)) → let matches = MatchesWith K.pairs later in
+            let v = party_with K.pairs later self.old in
+            MatchResult result (HasReadAt matches v message.old message.new self.new)
             (IsLeftUnread matches v (length self.old.psks) message.old self.new) }
-        ensures asked { (v : Party) (later : List (List ℕ)) → MatchesWith K.pairs later self.old v
-            → (remote : Option (List ℕ)) → WantsPskToRead v (length self.old.psks) message.old remote
+        ensures asked { (later : List (List ℕ)) (remote : Option (List ℕ))
+            → WantsPskToRead (party_with K.pairs later self.old) (length self.old.psks) message.old remote
             → result ≡ Err (Unread.Wants (Want.Psk remote)) }
     {
         if let Some(fault) = self.read_fault() {
@@ -97,11 +99,11 @@ impl<K: Keys> Handshake<K> {
     /// The DH result or psk that reading this message lacks now, as `read_or_ask` returns it. None where it lacks
     /// neither, and where no message is due. Nothing changes.
     pub fn wants_to_read(&self, message: &[u8]) -> Option<Want>
-        ensures wants { (v : Party) (later : List (List ℕ)) → MatchesWith K.pairs later self.now v
-            → MatchOption result ((token : ℕ) → Refuses v message.now token Agreement → ⊥)
+        ensures wants { (later : List (List ℕ)) → let v = party_with K.pairs later self.now in
+            MatchOption result ((token : ℕ) → Refuses v message.now token Agreement → ⊥)
             (λ want. LeavesUnread v (length self.now.psks) message.now (Unread.Wants want)) }
-        ensures asked { (v : Party) (later : List (List ℕ)) → MatchesWith K.pairs later self.now v
-            → (remote : Option (List ℕ)) → WantsPskToRead v (length self.now.psks) message.now remote
+        ensures asked { (later : List (List ℕ)) (remote : Option (List ℕ))
+            → WantsPskToRead (party_with K.pairs later self.now) (length self.now.psks) message.now remote
             → result ≡ Some (Want.Psk remote) }
     {
         if let Some(_) = self.read_fault() {
@@ -125,11 +127,12 @@ impl<K: Keys> Handshake<K> {
     /// The DH result or psk that writing a message lacks now. None where a message is due and lacks neither, and
     /// where none is due. Nothing changes.
     pub fn wants_to_write(&self) -> Option<Want>
-        ensures wants { (v : Party) (later : List (List ℕ)) → MatchesWith K.pairs later self.now v
-            → MatchOption result ((token : ℕ) → LacksDhResult v token → ⊥)
+        ensures wants { (later : List (List ℕ)) → let v = party_with K.pairs later self.now in
+            MatchOption result ((token : ℕ) → LacksDhResult v token → ⊥)
             (λ want. Wants v (length self.now.psks) want) }
-        ensures asked { (v : Party) (later : List (List ℕ)) → MatchesWith K.pairs later self.now v
-            → WantsPskToWrite v (length self.now.psks) → result ≡ Some (Want.Psk self.now.remote.s) }
+        ensures asked { (later : List (List ℕ))
+            → WantsPskToWrite (party_with K.pairs later self.now) (length self.now.psks)
+            → result ≡ Some (Want.Psk self.now.remote.s) }
         ensures psks { speaks_now self.now ≡ true → result ≡ None → HasPsks self.now }
     {
         if !self.speaks() {
@@ -170,11 +173,12 @@ impl<K: Keys> Handshake<K> {
             (λ unwritten. self.new ≡ after_unwritten self.old unwritten) }
         ensures beyond { IfOk result (λ n. drop n out.new ≡ drop n out.old) }
         ensures asks { IfErr result (λ unwritten. IsWant unwritten → out.new ≡ out.old) }
-        ensures writes { (v : Party) (later : List (List ℕ)) → let matches = MatchesWith K.pairs later in
-            matches self.old v → MatchResult result (HasWrittenTo matches v payload.now out.new self.new)
+        ensures writes { (later : List (List ℕ)) → let matches = MatchesWith K.pairs later in
+            let v = party_with K.pairs later self.old in
+            MatchResult result (HasWrittenTo matches v payload.now out.new self.new)
             (IsLeftUnwritten matches v (length self.old.psks) (length payload.now) self.new) }
-        ensures asked { write_fault self.old (length payload.now) ≡ None → (v : Party) (later : List (List ℕ))
-            → MatchesWith K.pairs later self.old v → WantsPskToWrite v (length self.old.psks)
+        ensures asked { write_fault self.old (length payload.now) ≡ None → (later : List (List ℕ))
+            → WantsPskToWrite (party_with K.pairs later self.old) (length self.old.psks)
             → result ≡ Err (Unwritten.Wants (Want.Psk self.old.remote.s)) }
     {
         if let Some(fault) = self.withheld(payload.len()) {

@@ -37,9 +37,9 @@ impl<K: Keys> Handshake<K> {
     ghost use Rattle.noise_handshake.specs.declared.faults.Cause.{Cause};
     ghost use Rattle.noise_handshake.specs.Calls.{speaks_now};
     ghost use Rattle.noise_handshake.specs.HandshakeValue.{HasPsks, read_fault};
-    ghost use Rattle.noise_handshake.specs.Matching.{Matches, after_message, after_own};
-    ghost use Rattle.noise_handshake.specs.Message.{before_payload};
-    ghost use Rattle.noise_handshake.specs.Party.{Party, Accepts, BeginsAs, Listens, Refuses, Speaks, reader, remote_after, tokens_now};
+    ghost use Rattle.noise_handshake.specs.Matching.{IsSupplied, after_message, after_own, party_of};
+    ghost use Rattle.noise_handshake.specs.Past.{GoesPast};
+    ghost use Rattle.noise_handshake.specs.Party.{Accepts, BeginsAs, Listens, Refuses, Speaks, reader, remote_after, tokens_now};
     ghost use Rattle.noise_handshake.specs.Steps.{after_steps};
     ghost use Rattle.noise_handshake.specs.Writing.{Given, LacksDhResult, Writes, writer};
     ghost use Rattle.noise_handshake.specs.inner.Following.{Fronts, TokensLeave, tokens_due};
@@ -51,8 +51,9 @@ impl<K: Keys> Handshake<K> {
         ensures nonces { IfSome result (λ f. nonce_now f.state < 2 ^ 64 - 1) }
         ensures psks { IfSome result (λ _. HasPsks self.now) }
         ensures leaves { count ≡ length (tokens_due self.now) → IfSome result (TokensLeave self.now) }
-        ensures front { (v : Party) (xs : List (List ℕ)) (rest : List ℕ) → Matches K.pairs self.now v
-            → count ≤ length (tokens_now v) → let ts = take count (tokens_now v) in
+        ensures front { (xs : List (List ℕ)) (rest : List ℕ) → IsSupplied self.now
+            → let v = party_of K.pairs self.now in
+            count ≤ length (tokens_now v) → let ts = take count (tokens_now v) in
             BeginsAs (reader v) v.remote v.psks v.state ts xs message.now rest
             → Fronts S.after result (has_psk v.pattern) v.state ts xs (remote_after v.remote ts xs) steps.old
             steps.new }
@@ -92,8 +93,8 @@ impl<K: Keys> Handshake<K> {
         ensures nonces { IfSome result (λ f. nonce_now f.state < 2 ^ 64 - 1) }
         ensures psks { IfSome result (λ _. HasPsks self.now) }
         ensures leaves { count ≡ length (tokens_due self.now) → IfSome result (TokensLeave self.now) }
-        ensures front { (v : Party) (xs : List (List ℕ)) → Matches K.pairs self.now v
-            → count ≤ length (tokens_now v) → let ts = take count (tokens_now v) in
+        ensures front { (xs : List (List ℕ)) → IsSupplied self.now → let v = party_of K.pairs self.now in
+            count ≤ length (tokens_now v) → let ts = take count (tokens_now v) in
             Given (writer v) v.remote v.psks ts xs
             → Fronts S.after result (has_psk v.pattern) v.state ts xs v.remote steps.old steps.new }
     {
@@ -132,13 +133,14 @@ impl<K: Keys> Handshake<K> {
         ensures more { IfSome result (λ _. self.now.passed < length self.now.pattern.messages) }
         ensures psks { IfSome result (λ _. HasPsks self.now) }
         ensures leaves { count ≡ length (tokens_due self.now) → IfSome result (TokensLeave self.now) }
-        ensures read { (v : Party) (xs : List (List ℕ)) (rest : List ℕ) → Matches K.pairs self.now v → Listens v
-            → count ≤ length (tokens_now v) → let ts = take count (tokens_now v) in
+        ensures read { (xs : List (List ℕ)) (rest : List ℕ) → IsSupplied self.now
+            → let v = party_of K.pairs self.now in
+            Listens v → count ≤ length (tokens_now v) → let ts = take count (tokens_now v) in
             BeginsAs (reader v) v.remote v.psks v.state ts xs message.now rest
             → Fronts S.after result (has_psk v.pattern) v.state ts xs (remote_after v.remote ts xs) steps.old
             steps.new }
-        ensures written { (v : Party) (xs : List (List ℕ)) → Matches K.pairs self.now v → Speaks v
-            → count ≤ length (tokens_now v) → let ts = take count (tokens_now v) in
+        ensures written { (xs : List (List ℕ)) → IsSupplied self.now → let v = party_of K.pairs self.now in
+            Speaks v → count ≤ length (tokens_now v) → let ts = take count (tokens_now v) in
             Given (writer v) v.remote v.psks ts xs
             → Fronts S.after result (has_psk v.pattern) v.state ts xs v.remote steps.old steps.new }
     {
@@ -163,16 +165,12 @@ impl<K: Keys> Handshake<K> {
     /// The handshake is one beside that of the party, put together of what `progress` gives: two that go on with one
     /// key would encrypt at the same nonce.
     pub fn follow<S: Steps>(&mut self, message: &[u8], steps: &mut S) -> Option<usize>
-        ensures accepted { (v : Party) (xs : List (List ℕ)) (payload : List ℕ) → Matches K.pairs self.old v
-            → Accepts v message.now xs payload
-            → (result ≡ Some (length (before_payload (has_psk v.pattern) v.state (tokens_now v) xs)))
-            × (steps.new ≡ after_steps S.after (has_psk v.pattern) v.state 0 (tokens_now v) xs steps.old)
-            × Matches K.pairs self.new (after_message v xs payload) }
-        ensures written { (v : Party) (xs : List (List ℕ)) (payload : List ℕ) → Matches K.pairs self.old v
-            → Writes v payload xs message.now
-            → (result ≡ Some (length (before_payload (has_psk v.pattern) v.state (tokens_now v) xs)))
-            × (steps.new ≡ after_steps S.after (has_psk v.pattern) v.state 0 (tokens_now v) xs steps.old)
-            × Matches K.pairs self.new (after_own v xs payload) }
+        ensures accepted { (xs : List (List ℕ)) (payload : List ℕ) → IsSupplied self.old
+            → let v = party_of K.pairs self.old in Accepts v message.now xs payload
+            → GoesPast S.after K.pairs v xs result steps.old steps.new self.new (after_message v xs payload) }
+        ensures written { (xs : List (List ℕ)) (payload : List ℕ) → IsSupplied self.old
+            → let v = party_of K.pairs self.old in Writes v payload xs message.now
+            → GoesPast S.after K.pairs v xs result steps.old steps.new self.new (after_own v xs payload) }
         ensures unchanged { result ≡ None → self.new ≡ self.old }
     {
         let count = self.next.tokens.len();
@@ -196,10 +194,10 @@ impl<K: Keys> Handshake<K> {
     /// for want of its DH result. The payload counts as the token after the last. Of a message of its own `message`
     /// isn't looked at.
     pub fn follow_before<S: Steps>(&self, message: &[u8], token: u8, steps: &mut S)
-        ensures refused { (v : Party) (cause : Cause) → Matches K.pairs self.now v
-            → (refused : Refuses v message.now token cause) → steps.new ≡ after_steps S.after (has_psk v.pattern)
+        ensures refused { (cause : Cause) → IsSupplied self.now → let v = party_of K.pairs self.now in
+            (refused : Refuses v message.now token cause) → steps.new ≡ after_steps S.after (has_psk v.pattern)
             v.state 0 (take token (tokens_now v)) refused.stops.carried steps.old }
-        ensures lacks { (v : Party) → Matches K.pairs self.now v → (lacks : LacksDhResult v token)
+        ensures lacks { IsSupplied self.now → let v = party_of K.pairs self.now in (lacks : LacksDhResult v token)
             → steps.new ≡ after_steps S.after (has_psk v.pattern) v.state 0 (take token (tokens_now v))
             lacks.lacks.before steps.old }
     {

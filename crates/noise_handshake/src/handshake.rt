@@ -62,12 +62,12 @@ impl<K: Keys> Handshake<K> {
     ghost use Rattle.noise_handshake.specs.declared.faults.ReadFault.{ReadFault};
     ghost use Rattle.noise_handshake.specs.declared.faults.WriteFault.{WriteFault};
     ghost use Rattle.noise_handshake.specs.Passed.{passed_places};
-    ghost use Rattle.noise_handshake.specs.Party.{Party, Refuses, Speaks, reader, tokens_at, tokens_now};
+    ghost use Rattle.noise_handshake.specs.Party.{Refuses, Speaks, reader, tokens_at, tokens_now};
     ghost use Rattle.noise_handshake.specs.HandshakeValue.{is_turn, read_fault, after_read_fault, write_fault, after_write_fault, message_len_of, IsRefusal};
     ghost use Rattle.noise_handshake.specs.HandshakeValue.{IsAgreement, HasPsks, Advances, ended_as};
     ghost use Rattle.noise_handshake.specs.Calls.{HasBegun, HasNotRead, HasNotWritten, HasRead, HasReadAt, HasWrittenTo, IsPlaceIn, IsSameAround, ReadingWants, WritingWants, speaks_now};
-    ghost use Rattle.noise_handshake.specs.Late.{IsLateWhole, LacksPskAt, MatchesWith, late_fault, with_later};
-    ghost use Rattle.noise_handshake.specs.Matching.{Matches, ValueMatches, DoesNotWrite};
+    ghost use Rattle.noise_handshake.specs.Late.{IsLateWhole, LacksPskAt, MatchesWith, late_fault, party_with, with_later};
+    ghost use Rattle.noise_handshake.specs.Matching.{DoesNotWrite, IsParty, IsSupplied, Matches, party_of};
     ghost use Rattle.noise_handshake.specs.Opening.{IsOpenedOf};
     ghost use Rattle.noise_handshake.specs.Parts.{held_of, HasProgress};
     ghost use Rattle.noise_handshake.specs.Setup.{party_at_start, psks_of, setup_fault};
@@ -118,7 +118,8 @@ impl<K: Keys> Handshake<K> {
         psks: &[[u8; 32]],
     ) -> Result<Handshake<K>, SetupFault>
         requires len { length prologue.now ≤ 65535 }
-        ensures fault { MatchOption (late_fault pattern role (K.pairs keys).public remote (length psks.now)) (IsOk result)
+        ensures fault { MatchOption (late_fault pattern role (K.pairs keys).public remote (length psks.now))
+            (IsOk result)
             (λ fault. result ≡ Err fault) }
         ensures matches { IfOk result (λ h. (later : List (List ℕ)) → MatchesWith K.pairs later h
             (party_at_start pattern role prologue.now (K.pairs keys).public (K.pairs keys).agree
@@ -149,8 +150,8 @@ impl<K: Keys> Handshake<K> {
         requires len { length prologue.now ≤ 65535 }
         requires right { setup_fault pattern role (K.pairs keys).public remote (psks_of pattern.messages) ≡ None }
         requires few { length psks.items ≤ psks_of pattern.messages }
-        ensures matches { ValueMatches K.pairs result
-            (party_at_start pattern role prologue.now (K.pairs keys).public (K.pairs keys).agree remote psks.items) }
+        ensures matches { party_of K.pairs result
+            ≡ party_at_start pattern role prologue.now (K.pairs keys).public (K.pairs keys).agree remote psks.items }
         ensures parts { HasBegun pattern role keys result }
         ensures psks { result.psks ≡ psks.items }
     {
@@ -198,9 +199,8 @@ impl<K: Keys> Handshake<K> {
         ensures put { IsTrue result → self.new ≡ with_later self.old (psk ∷ []) }
         ensures few { length self.new.psks ≤ 9 }
         ensures unchanged { result ≡ false → self.new ≡ self.old }
-        ensures matches { IsTrue result → (v : Party) (later : List (List ℕ))
-            → MatchesWith K.pairs (psk ∷ later) self.old v
-            → MatchesWith K.pairs later self.new v }
+        ensures matches { IsTrue result → (later : List (List ℕ))
+            → party_with K.pairs later self.new ≡ party_with K.pairs (psk ∷ later) self.old }
     {
         let due = self.psks_to_come();
         let mut psks = ArrayVec::new();
@@ -403,8 +403,8 @@ impl<K: Keys> Handshake<K> {
         ensures beyond { IfOk result (IsSameAround message.old message.new) }
         ensures unchanged { OnErr result (message.new ≡ message.old) }
         ensures state { MatchResult result (λ _. Advances self.old self.new) (λ _. self.new ≡ self.old) }
-        ensures reads { (v : Party) → ValueMatches K.pairs self.old v → MatchResult result
-            (HasReadAt (ValueMatches K.pairs) v message.old message.new self.new)
+        ensures reads { let v = party_of K.pairs self.old in MatchResult result
+            (HasReadAt (IsParty K.pairs) v message.old message.new self.new)
             (λ stop. Refuses v message.old stop.token stop.cause × ReadingWants v message.old stop.want) }
     {
         let psks = &self.psks[self.used..];
@@ -438,7 +438,7 @@ impl<K: Keys> Handshake<K> {
         ensures fault { MatchOption (read_fault self.old) (IfErr result IsRefusal) (λ fault. result ≡ Err fault) }
         ensures state { MatchResult result (λ _. Advances self.old self.new)
             (λ fault. self.new ≡ after_read_fault self.old fault) }
-        ensures reads { (v : Party) → Matches K.pairs self.old v → MatchResult result
+        ensures reads { IsSupplied self.old → let v = party_of K.pairs self.old in MatchResult result
             (HasReadAt (Matches K.pairs) v message.old message.new self.new)
             (HasNotRead (Matches K.pairs) v message.old self.new) }
         ensures psks { IfOk result (λ _. HasPsks self.old) }
@@ -476,7 +476,7 @@ impl<K: Keys> Handshake<K> {
         ensures fault { MatchOption (read_fault self.old) (IfErr result IsRefusal) (λ fault. result ≡ Err fault) }
         ensures state { MatchResult result (λ _. Advances self.old self.new)
             (λ fault. self.new ≡ after_read_fault self.old fault) }
-        ensures reads { (v : Party) → Matches K.pairs self.old v → MatchResult result
+        ensures reads { IsSupplied self.old → let v = party_of K.pairs self.old in MatchResult result
             (λ payload. HasRead (Matches K.pairs) v message.old payload.now self.new)
             (HasNotRead (Matches K.pairs) v message.old self.new) }
         ensures psks { IfOk result (λ _. HasPsks self.old) }
@@ -487,13 +487,12 @@ impl<K: Keys> Handshake<K> {
         Ok(&mut message[from..to])
     }
 
-    // The key pair of this party and the public key of the other of the DH whose result reading a due message lacks, for
-    // which no psk is lacking. None where the message wouldn't be refused for that.
+    // The key pair of this party and the public key of the other of the DH whose result reading a due message lacks,
+    // for which no psk is lacking. None where the message wouldn't be refused for that.
     pub(crate) fn read_lacking(&self, message: &[u8]) -> Option<(Own, [u8; 32])>
         requires due { read_fault self.now ≡ None }
         requires psks { HasPsks self.now }
-        ensures wants { (v : Party) → ValueMatches K.pairs self.now v
-            → ReadingWants v message.now result }
+        ensures wants { ReadingWants (party_of K.pairs self.now) message.now result }
     {
         let psks = &self.psks[self.used..];
         read_lacking(
@@ -509,9 +508,7 @@ impl<K: Keys> Handshake<K> {
     /// The handshake hash (Noise, 11.2), 32 bytes, of the start and the messages that passed, also after the handshake
     /// has ended.
     pub fn hash(&self) -> [u8; 32]
-        ensures hash { (v : Party) → Matches K.pairs self.now v → result ≡ v.state.hash }
-        ensures late { (v : Party) (later : List (List ℕ)) → MatchesWith K.pairs later self.now v
-            → result ≡ v.state.hash }
+        ensures { result ≡ self.now.state.hash }
     {
         self.state.hash()
     }
@@ -539,8 +536,7 @@ impl<K: Keys> Handshake<K> {
     pub(crate) fn withheld(&self, payload_len: usize) -> Option<WriteFault>
         ensures value { result ≡ write_fault self.now payload_len }
         ensures due { result ≡ None → self.now.passed < length self.now.pattern.messages }
-        ensures withholds { (v : Party) → ValueMatches K.pairs self.now v
-            → IfSome result (λ fault. DoesNotWrite v payload_len fault) }
+        ensures withholds { IfSome result (DoesNotWrite (party_of K.pairs self.now) payload_len) }
     {
         self.write_fault(payload_len)
     }
@@ -570,7 +566,7 @@ impl<K: Keys> Handshake<K> {
         ensures state { MatchResult result (λ _. Advances self.old self.new)
             (λ fault. self.new ≡ after_write_fault self.old fault) }
         ensures beyond { IfOk result (λ n. drop n out.new ≡ drop n out.old) }
-        ensures writes { (v : Party) → Matches K.pairs self.old v → MatchResult result
+        ensures writes { IsSupplied self.old → let v = party_of K.pairs self.old in MatchResult result
             (HasWrittenTo (Matches K.pairs) v payload.now out.new self.new)
             (HasNotWritten (Matches K.pairs) v (length payload.now) self.new) }
         ensures psks { IfOk result (λ _. HasPsks self.old) }
@@ -598,9 +594,9 @@ impl<K: Keys> Handshake<K> {
         ensures state { MatchResult result (λ _. Advances self.old self.new)
             (λ fault. self.new ≡ after_write_fault self.old fault) }
         ensures beyond { IfOk result (λ n. drop n out.new ≡ drop n out.old) }
-        ensures writes { (v : Party) → ValueMatches K.pairs self.old v → MatchResult result
-            (HasWrittenTo (ValueMatches K.pairs) v payload.now out.new self.new)
-            (HasNotWritten (ValueMatches K.pairs) v (length payload.now) self.new) }
+        ensures writes { let v = party_of K.pairs self.old in MatchResult result
+            (HasWrittenTo (IsParty K.pairs) v payload.now out.new self.new)
+            (HasNotWritten (IsParty K.pairs) v (length payload.now) self.new) }
     {
         let psks = &self.psks[self.used..];
         let mut state = self.state.for_trial();
@@ -640,7 +636,7 @@ impl<K: Keys> Handshake<K> {
     pub(crate) fn write_lacking(&self) -> Option<(Own, [u8; 32])>
         requires due { speaks_now self.now ≡ true }
         requires psks { HasPsks self.now }
-        ensures wants { (v : Party) → ValueMatches K.pairs self.now v → WritingWants v result }
+        ensures wants { WritingWants (party_of K.pairs self.now) result }
     {
         let psks = &self.psks[self.used..];
         write_lacking(&self.remote, &self.means, psks, &self.next.tokens)
@@ -676,7 +672,7 @@ impl<K: Keys> Handshake<K> {
         requires within { k ≤ length (tokens_at self.now.pattern.messages self.now.passed) }
         requires psks { count_by is_psk (take k (tokens_at self.now.pattern.messages self.now.passed))
             ≤ length self.now.psks }
-        ensures reads { (v : Party) → ValueMatches K.pairs self.now v → MatchResult result
+        ensures reads { let v = party_of K.pairs self.now in MatchResult result
             (BeginsBefore (reader v) v.remote v.psks v.state (tokens_now v) message.now k)
             (StopsBefore v message.now k) }
     {
@@ -698,8 +694,8 @@ impl<K: Keys> Handshake<K> {
         requires within { k ≤ length (tokens_at self.now.pattern.messages self.now.passed) }
         requires psks { count_by is_psk (take k (tokens_at self.now.pattern.messages self.now.passed))
             ≤ length self.now.psks }
-        ensures wants { (v : Party) → ValueMatches K.pairs self.now v
-            → Speaks v × WriterWants (writer v) v.remote v.psks (take k (tokens_now v)) result }
+        ensures wants { let v = party_of K.pairs self.now in
+            Speaks v × WriterWants (writer v) v.remote v.psks (take k (tokens_now v)) result }
     {
         let psks = &self.psks[self.used..];
         write_lacking_before(&self.remote, &self.means, psks, &self.next.tokens, k)
@@ -708,9 +704,7 @@ impl<K: Keys> Handshake<K> {
     /// What the handshake leaves once all messages have passed and it hasn't ended; else it comes back as it was.
     pub fn finish(self) -> Result<Opened, Handshake<K>>
         ensures when { IsOk result ↔ ((self.ended ≡ false) × (self.passed ≡ length self.pattern.messages)) }
-        ensures opened { (v : Party) → Matches K.pairs self v → IfOk result (λ o. IsOpenedOf o v) }
-        ensures late { (v : Party) (later : List (List ℕ)) → MatchesWith K.pairs later self v
-            → IfOk result (λ o. IsOpenedOf o v) }
+        ensures opened { IfOk result (λ o. IsOpenedOf o (party_of K.pairs self)) }
         ensures back { IfErr result (λ h. h ≡ self) }
     {
         if self.ended || (self.passed as usize) < self.pattern.pattern().messages().len() {

@@ -1,12 +1,8 @@
 //! What a handshake holds, for a caller that keeps it itself.
 
-ghost use Rattle.std.specs.Prelude.{◌≡◌, ◌≤◌, ◌<◌, ◌*◌, ◌↔◌, ℕ, List, not, ◌&&◌, length, drop, is_some, IsTrue, MatchOption};
+ghost use Rattle.std.specs.Prelude.{◌≡◌, ◌≤◌, ◌<◌, ◌*◌, ◌↔◌, ℕ, List, not, ◌&&◌, length, drop, IsTrue, MatchOption};
 ghost use Rattle.noise_names.specs.declared.token.Token.TheVariants.{E, S};
 ghost use Rattle.noise_names.specs.Tokens.{other};
-ghost use Rattle.noise_names.specs.Validity.{is_among};
-ghost use Rattle.noise_names.specs.Overhead.{has_key};
-ghost use Rattle.noise_handshake.specs.Nonces.{nonce_due};
-ghost use Rattle.noise_handshake.specs.Passed.{passed_places};
 ghost use Rattle.noise_handshake.specs.Setup.{lacks_own, psks_of};
 ghost use Rattle.noise_handshake.specs.Parts.{held_of, IsWholeValue};
 ghost use Rattle.noise_handshake.specs.inner.Parts.{HasDueState, HasShownKeys};
@@ -44,7 +40,8 @@ pub struct Parts<K> {
 impl<K: Keys> Parts<K> {
     // Whether the party has each key of its own that the pattern has a token for.
     fn has_own(&self) -> bool
-        ensures { result ≡ (not (lacks_own self.now.pattern self.now.role E ((K.pairs self.now.keys).public Own.Ephemeral))
+        ensures { result ≡ (not (lacks_own self.now.pattern self.now.role E
+            ((K.pairs self.now.keys).public Own.Ephemeral))
             && not (lacks_own self.now.pattern self.now.role S ((K.pairs self.now.keys).public Own.Static))) }
     {
         let pattern = self.pattern.pattern();

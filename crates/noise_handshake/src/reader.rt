@@ -1,6 +1,6 @@
 //! Reading the tokens of a message.
 
-ghost use Rattle.std.specs.Prelude.{◌≡◌, ◌≤◌, ◌<◌, ◌+◌, ◌-◌, ◌*◌, ◌^◌, ℕ, length, take, drop, count_by, is_some, Bool, Option, Some, None, IfOk, IfSome, IfErr, OnOk, OnErr, slice_index_or, nat_lt, if◌then◌else◌, IsTrue};
+ghost use Rattle.std.specs.Prelude.{◌≡◌, ◌≤◌, ◌<◌, ◌+◌, ◌-◌, ◌*◌, ◌^◌, ℕ, length, take, drop, count_by, is_some, Option, Some, None, IfOk, IfErr, OnErr, slice_index_or, nat_lt, if◌then◌else◌, IsTrue};
 ghost use Rattle.noise_state.specs.Standing.{keyed, nonce_now};
 ghost use Rattle.noise_handshake.specs.inner.Known.{are_known};
 ghost use Rattle.noise_handshake.specs.Length.{token_width};
@@ -110,7 +110,8 @@ fn read_token<K: Keys>(
     ensures width { IfOk result (λ n. n ≡ token_width (keyed state.old) placed.token) }
     ensures range { IfOk result (λ n. n ≤ length message.now) }
     ensures unchanged { OnErr result (known.new ≡ known.old) }
-    ensures read { ReadsToken (reader_of K.pairs means.now) state.old state.new known.old known.new psks.now placed.token
+    ensures read { ReadsToken (reader_of K.pairs means.now) state.old state.new known.old known.new psks.now
+        placed.token
         message.now result }
 {
     match placed.token {

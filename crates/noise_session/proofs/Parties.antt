@@ -2,6 +2,7 @@
 use Rattle.std.proofs.Common.{rules, ◌≡◌, ◌≢◌, ℕ, ◌==◌, ◌<◌, ◌≤◌, nat_lt, List, length, Bool, true, false, Option, Some, None, IsTrue, if◌then◌else◌, refl, sym, ◌∙◌, ap, subst, arith}
 use Rattle.noise_session.proofs.Common.{nat_tests, Role, Phase, is_open, idle_step, refusal, StepValue, SendFault, HandshakeValue, Handshaking, Open, HasEnded, EndValue, EndState, EndMatches, IsReportedBy, PhaseMatches, HandshakeMatches, OpenMatches, hash_in, progress_in, progress_of, remote_static_in, session_hash, session_remote_static, ended_session, TransportValue, eqb-true, ne_eqb}
 use Rattle.noise_names.specs.Plan.{Plan, is_one_way}
+use Rattle.noise_handshake.specs.Party.{Party}
 use Rattle.noise_session.specs.inner.Phases.{ended_in}
 use Rattle.std.proofs.lemmas.Bool.{eq-eqb}
 use Rattle.noise_session.specs.declared.phase.Phase.TheVariants as phase
@@ -47,7 +48,8 @@ closed-yet v more opens = let all = open-passed v opens in omega arith
 
 module _ {K : Type 0} (pairs : K → KeyPairs) where
   pub phase-progress : (p : Phase K) (v : EndState) → PhaseMatches pairs p v → progress_in p ≡ progress_of v
-  phase-progress (phase.Handshaking h every) v s = search progress-handshaking
+  phase-progress (phase.Handshaking h every) v s =
+      ap (λ (z : Party). Handshaking z.pattern z.role z.passed) s.party.is ∙ sym (progress-handshaking v s.going s.more)
   phase-progress (phase.Open t) v s = search progress-open
   phase-progress (phase.Ended role reported) v s = ap HasEnded s.role ∙ sym (progress-ended_session v s.ended)
 
@@ -76,7 +78,7 @@ module _ {K : Type 0} (pairs : K → KeyPairs) where
   phase-hash (phase.Ended role reported) v s = s.hash
 
   phase-remote : (p : Phase K) (v : EndState) → PhaseMatches pairs p v → remote_static_in p ≡ session_remote_static v
-  phase-remote (phase.Handshaking h every) v s = rw (s.going, s.party.remote) refl
+  phase-remote (phase.Handshaking h every) v s = rw (s.going, ap (λ (z : Party). z.remote) s.party.is) refl
   phase-remote (phase.Open t) v s = rw (s.going, s.transport.remote_static) refl
   phase-remote (phase.Ended role reported) v s = rw s.ended refl
 
@@ -92,7 +94,7 @@ module _ {K : Type 0} (pairs : K → KeyPairs) where
 
   -- what is left of it where the session ends
   pub phase-ended : (p : Phase K) (v : EndState) → PhaseMatches pairs p v → PhaseMatches pairs (ended_in p) (ended_session v)
-  phase-ended (phase.Handshaking h every) v s = record { ended = refl; role = s.party.role; hash = sym (no-hash v s.more) }
+  phase-ended (phase.Handshaking h every) v s = record { ended = refl; role = ap (λ (z : Party). z.role) s.party.is; hash = sym (no-hash v s.more) }
   phase-ended (phase.Open t) v s = search whole-hash
   phase-ended (phase.Ended role reported) v s = record { ended = refl; role = s.role; hash = s.hash }
 

@@ -1,8 +1,8 @@
 //! Whether a handshake message is one of a given payload.
 
 ghost use Rattle.std.specs.Prelude.{◌≡◌, ◌≤◌, ◌↔◌, ℕ, List, length, true};
-ghost use Rattle.noise_handshake.specs.Matching.{Matches};
-ghost use Rattle.noise_handshake.specs.Party.{Party, Accepts, Listens};
+ghost use Rattle.noise_handshake.specs.Matching.{IsSupplied, party_of};
+ghost use Rattle.noise_handshake.specs.Party.{Accepts, Listens};
 ghost use Rattle.noise_theorems.specs.Taking.{IsReadAs, LeavesMessage};
 
 use crate::laws::read_exactly;
@@ -14,10 +14,10 @@ use noise_handshake::{Handshake, Keys};
 /// The handshake and the message are left as `Handshake::read` leaves them.
 pub fn reads_as<K: Keys>(handshake: &mut Handshake<K>, message: &mut [u8], payload: &[u8]) -> bool
     requires short { length message.old ≤ 65535 }
-    ensures exactly { (v : Party) → Matches K.pairs handshake.old v → Listens v
-        → (result ≡ true ↔ ((xs : List (List ℕ)) × Accepts v message.old xs payload.now)) }
-    ensures reads { (v : Party) → Matches K.pairs handshake.old v
-        → IsReadAs K.pairs v message.old payload.now handshake.new result }
+    ensures exactly { IsSupplied handshake.old → let v = party_of K.pairs handshake.old in
+        Listens v → (result ≡ true ↔ ((xs : List (List ℕ)) × Accepts v message.old xs payload.now)) }
+    ensures reads { IsSupplied handshake.old
+        → IsReadAs K.pairs (party_of K.pairs handshake.old) message.old payload.now handshake.new result }
     ensures message { LeavesMessage message.old message.new payload.now result }
 {
     read_exactly();

@@ -1,16 +1,12 @@
 -- What is on the output of a log that is compared.
-use Rattle.std.proofs.Common.{◌≡◌, refl, sym, subst, inl, inr, ℕ, Bool, List, Option, Some, None, Result, Ok, Err}
-use Rattle.std.specs.Prelude.{IfOk, IsTrue}
-use Rattle.noise_tool.proofs.Common.{IfSome, status_of, AppendsPrefix, EndsTest, IsReportedOf, LeavesOutput, Unreadable, error_text, fault_line, Fault}
+use Rattle.std.proofs.Common.{◌≡◌, sym, subst, ℕ, List, Option, Some, None, Result, Ok, Err}
+use Rattle.std.specs.Prelude.{IfOk}
+use Rattle.noise_tool.proofs.Common.{IfSome, status_of, AppendsPrefix, LeavesOutput, Fault}
 use Rattle.noise_compare.specs.declared.comparison.LogReport.{LogReport}
-use Rattle.noise_tool.specs.Comparing.{Compares, ComparesPrefix, IfMade, StopsComparing, compared_name}
+use Rattle.noise_tool.specs.Comparing.{Compares, ComparesPrefix, IfMade}
 use Rattle.noise_tool.specs.declared.comparison.Comparison.{Comparison}
 use Rattle.noise_tool.specs.declared.comparison.Comparison.TheVariants.{Made, Unread, Wrong}
-use Rattle.noise_tool.specs.declared.comparison.ComparedFile.{ComparedFile}
 use Rattle.noise_tool.proofs.ExplainLemmas.{left-at-three}
-use Rattle.noise_tool.proofs.TestingLemmas.{reported-ends}
-use Rattle.noise_lines.specs.Verdicts.{named_fault}
-use Rattle.noise_words.specs.declared.orders.Compared.{Compared}
 
 -- a fault from outside, after a part of the report
 pub begun-left : {O : Type 0} (contents : O → Option (List ℕ)) (log file : Option (List ℕ)) (a : Option (List ℕ)) (why : Fault) (middle new : O)

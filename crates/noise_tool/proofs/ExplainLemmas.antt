@@ -1,10 +1,9 @@
 -- What is said of files that are explained.
 use Rattle.std.proofs.Common.{rules, ◌≡◌, ◌∙◌, refl, sym, ap, subst, ◌⊎◌, inl, inr, arith, ◌≤◌, if◌then◌else◌, ℕ, Bool, true, false, nat_le, List, [], ◌∷◌, ◌++◌, Option, Some, None, String, drop, length, string_bytes, take, append_assoc}
 use Rattle.std.specs.Prelude.{IfNone, IfOk, IsTrue, Result, Ok, Err, map}
-use Rattle.noise_tool.proofs.Common.{Global, IfSome, Appends, Keeps, Appends-trans, flat_map_more, map-append, map_push, take_all, take-append-drop, Contains, All-push, Contains-append_right, fold-append, status_of, AppendsPrefix, IsReportedOf, LeavesOutput, error_text, Fault, AreSaid, ExplainsPrefix, HasExplained, IsExplainedAt, IsUnreadName, Said, StopsExplaining, said_text, worse, EndsTest}
+use Rattle.noise_tool.proofs.Common.{Global, Appends, Keeps, Appends-trans, flat_map_more, map-append, map_push, take_all, take-append-drop, Contains, All-push, Contains-append_right, fold-append, status_of, AppendsPrefix, IsReportedOf, LeavesOutput, error_text, Fault, AreSaid, ExplainsPrefix, HasExplained, IsExplainedAt, IsUnreadName, Said, StopsExplaining, said_text, worse, EndsTest}
 use Rattle.noise_explain.specs.declared.explanation.Explained.{Explained}
 use Rattle.noise_explain.specs.Shown.{unread_head}
-use Rattle.noise_tool.specs.Explaining.{SaysNamed}
 use Rattle.noise_tool.specs.PatternNames.{NamesText}
 use Rattle.noise_tool.proofs.TestingLemmas.{after-prefix, kept-appends, reported-ends, reported-left, whole-prefix}
 use Rattle.noise_lines.specs.declared.faults.Fault.TheVariants as fault

@@ -1,6 +1,6 @@
 -- A run, event by event, with the lines of the key schedules.
 use Rattle.std.proofs.Common.{rules, ◌≡◌, ◌∙◌, sym, ap, subst, ℕ, List, [], ◌∷◌, ◌++◌, length, drop, append_assoc, append-nil}
-use Rattle.noise_tool.proofs.Common.{Role, Event, Entry, notes_of, DuelMatches, DuelValue, Note, Run, Sides, agreement_of, public_of, FileKeys, EndsTraced, HasRunTraced, HasTracedTo, IsNewSides, happened_traces, run_traces, Selection, TracedEnds}
+use Rattle.noise_tool.proofs.Common.{Role, Event, Entry, notes_of, DuelMatches, DuelValue, Note, Run, Sides, FileKeys, EndsTraced, HasRunTraced, HasTracedTo, IsNewSides, happened_traces, run_traces, Selection, TracedEnds}
 use Rattle.noise_duel.specs.declared.report.Report.{Report}
 use Rattle.noise_duel.specs.OneEvent.{HasHappened}
 use Rattle.noise_duel.specs.Runs.Run.{ends, begins}

@@ -145,7 +145,8 @@ IsCompareStop unreadable names text =
     × (text ≡ named_fault (compared_name names which) (fault_line Unreadable)))
 
 -- the error output grew by a prefix of it
-pub record StopsComparing (names : Compared) (unreadable : List ℕ → Bool) (before after : Option (List ℕ)) : Type 0 where
+pub record StopsComparing (names : Compared) (unreadable : List ℕ → Bool)
+    (before after : Option (List ℕ)) : Type 0 where
   pub text : List ℕ
   pub why : IsCompareStop unreadable names text
   pub grown : AppendsPrefix before after text

@@ -52,7 +52,8 @@ module _ {O E : Type 0} (printed : O → Option (List ℕ)) (reported : E → Op
   pub record CompareOutcome (names : Compared) (out out_after : O) (err err_after : E) (status : ℕ) : Type 0 where
     pub compared : (2 ≤ status)
         ⊎ ComparesFiles names bytes_at (printed out) (printed out_after) err err_after status
-    pub fault : status ≡ 2 → IsNotCompared names (bytes_at (string_bytes names.log)) (bytes_at (string_bytes names.file))
+    pub fault : status ≡ 2 → IsNotCompared names (bytes_at (string_bytes names.log))
+        (bytes_at (string_bytes names.file))
         (reported err) (reported err_after)
     pub twice : NamesInputTwice names → IsRefusedTwice names (reported err) (reported err_after) status
     pub outside : status ≡ 3 → StopsComparing names unreadable (reported err) (reported err_after)

@@ -54,19 +54,22 @@ unsent_use v payload next reported (lacks_dh_result _ _ token free lacks) = stop
 unsent_use v payload next reported (sends_handshake _ _ message xs free w) = Nothing
 unsent_use v payload next reported (sends_transport _ _ free opens) = Nothing
 
-abbrev pub written_use : (s : Side) (payload : List ℕ) (next : Side) (note : Note) → SideWrites s payload note next → KeyUseValue
+abbrev pub written_use : (s : Side) (payload : List ℕ) (next : Side) (note : Note) → SideWrites s payload note next
+    → KeyUseValue
 written_use s payload next note (writes_nothing _ _ why after sends) = unsent_use s.state payload after _ sends
 written_use s payload next note (writes_handshake _ message _ xs free w) = message_use s.state xs payload
 written_use s payload next note (writes_transport _ message _ free opens is) = sent_use s.state
 
 -- the message, if there is one
-abbrev pub written_message : (s : Side) (payload : List ℕ) (next : Side) (note : Note) → SideWrites s payload note next → List ℕ
+abbrev pub written_message : (s : Side) (payload : List ℕ) (next : Side) (note : Note)
+    → SideWrites s payload note next → List ℕ
 written_message s payload next note (writes_nothing _ _ why after sends) = []
 written_message s payload next note (writes_handshake _ message _ xs free w) = message
 written_message s payload next note (writes_transport _ message _ free opens is) = message
 
 -- its frame
-abbrev pub written_frame : (s : Side) (payload : List ℕ) (next : Side) (note : Note) → SideWrites s payload note next → List ℕ
+abbrev pub written_frame : (s : Side) (payload : List ℕ) (next : Side) (note : Note)
+    → SideWrites s payload note next → List ℕ
 written_frame s payload next note (writes_nothing _ _ why after sends) = []
 written_frame s payload next note (writes_handshake _ message _ xs free w) = frame message
 written_frame s payload next note (writes_transport _ message _ free opens is) = frame message
@@ -103,7 +106,8 @@ blanks notes = map (λ note. []) notes
 
 -- of what is selected
 module _ (selection : Selection) where
-  abbrev pub written_trace : Role → (s : Side) (payload : List ℕ) (next : Side) (note : Note) → SideWrites s payload note next
+  abbrev pub written_trace : Role → (s : Side) (payload : List ℕ) (next : Side) (note : Note)
+      → SideWrites s payload note next
       → List (List ℕ)
   written_trace role s payload next note w = key_use_lines selection (about role s.state Writing)
       (written_message s payload next note w) (written_use s payload next note w)

@@ -1,5 +1,5 @@
 -- The handshake that a key schedule follows.
-use Rattle.std.proofs.Common.{◌≡◌, ℕ, List, Bool, false, refl, sym, ap, subst, ◌∙◌}
+use Rattle.std.proofs.Common.{◌≡◌, ℕ, List, Bool, false, sym, ap, subst, ◌∙◌}
 use Rattle.std.specs.Prelude.{None, Some, IfSome, IsSome}
 use Rattle.noise_trace.proofs.Common.{same_Some, Option, Party, Remote, Plan, Role, SymmetricState, E, S, Follows, going}
 use Rattle.noise_keys.specs.declared.keys.Own.{Own}
@@ -7,7 +7,7 @@ use Rattle.noise_keys.specs.declared.keys.Own.TheVariants.{Ephemeral, Static}
 use Rattle.noise_keys.specs.Keys.{KeyPairs}
 use Rattle.noise_handshake.specs.HandshakeValue.{HandshakeValue}
 use Rattle.noise_handshake.specs.Late.{IsLateWhole}
-use Rattle.noise_handshake.specs.Matching.{Matches}
+use Rattle.noise_handshake.specs.Matching.{Matches, party_of}
 use Rattle.noise_handshake.specs.Setup.{lacks_own}
 use Rattle.noise_trace.specs.declared.schedule.Following.{Following}
 
@@ -50,7 +50,7 @@ module _ {K : Type 0} (pairs : K → KeyPairs) (h : HandshakeValue K) (keys : K)
     pub beside-whole : IsLateWhole pairs h → IsLateWhole pairs beside
     beside-whole q =
         let w = q.1 in
-        let same : (pairs keys).public ≡ (pairs h.keys).public = own ∙ sym s.own in (
+        let same : (pairs keys).public ≡ (pairs h.keys).public = own ∙ sym (ap (λ (z : Party). z.own) s.is) in (
           q.0,
           record {
             within = w.within;
@@ -66,14 +66,8 @@ module _ {K : Type 0} (pairs : K → KeyPairs) (h : HandshakeValue K) (keys : K)
 
     pub beside-matches : (pairs keys).agree ≡ v.agree → Matches pairs beside (going v)
     beside-matches agree = record {
-      pattern = s.pattern;
-      role = s.role;
-      psks = s.psks;
-      own = own;
-      agree = agree;
-      remote = s.remote;
-      passed = s.passed;
-      ended = refl;
-      state = s.state;
+      is = ap (λ (f : Own → Option (List ℕ)). record (party_of pairs beside) { own = f }) own
+          ∙ ap (λ (f : Own → List ℕ → Option (List ℕ)). record (party_of pairs beside) { own = v.own; agree = f }) agree
+          ∙ ap (λ (z : Party). record z { own = v.own; agree = v.agree; ended = false }) s.is;
       supplied = s.supplied;
     }

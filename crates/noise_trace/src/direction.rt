@@ -42,7 +42,8 @@ impl Direction {
     pub(crate) fn pass(&mut self, interval: u64) -> KeyUse
         ensures shown { (r : SymmetricState) (writer : Role) (n : ℕ) → self.old ≡ direction r writer interval n
             → n ≢ last_nonce → use_value result ≡ counted_use r writer interval n }
-        ensures next { (r : SymmetricState) (writer : Role) (n : ℕ) → self.old ≡ direction r writer interval n → n ≢ last_nonce
+        ensures next { (r : SymmetricState) (writer : Role) (n : ℕ) → self.old ≡ direction r writer interval n
+            → n ≢ last_nonce
             → self.new ≡ direction r writer interval (n + 1) }
         ensures last { self.old.nonce ≡ last_nonce → (use_value result ≡ Nothing) × (self.new ≡ self.old) }
     {

@@ -19,7 +19,8 @@ abbrev pub Fails : Reader → Remote → List (List ℕ) → SymmetricState → 
 Fails v known psks r t m = (x rest : List ℕ) → Fits v known psks t x → m ≡ token_bytes r t x ++ rest → ⊥
 
 -- Reading stops at token k for this cause, and these keys of the other party are known there.
-abbrev pub StopsKnowing : Reader → Remote → List (List ℕ) → SymmetricState → List Token → List ℕ → ℕ → Cause → Remote → Type 0
+abbrev pub StopsKnowing : Reader → Remote → List (List ℕ) → SymmetricState → List Token → List ℕ → ℕ → Cause
+    → Remote → Type 0
 StopsKnowing v known psks r ts m k cause here = (s : Stops v known psks r ts m k cause)
     × (here ≡ remote_after known (take k ts) s.carried)
 

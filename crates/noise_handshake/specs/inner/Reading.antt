@@ -49,7 +49,8 @@ ReadsToken v r state known after psks t bytes result = MatchResult result
     (λ cause. Fails v known psks r t bytes × (cause ≡ cause_of (is_some r.cipher.key) t bytes))
 
 -- tokens from a place in a message on
-abbrev pub ReadsTokens : Reader → SymmetricState → SymmetricState → Remote → Remote → List (List ℕ) → List Token → List ℕ → ℕ
+abbrev pub ReadsTokens : Reader → SymmetricState → SymmetricState → Remote → Remote → List (List ℕ) → List Token
+    → List ℕ → ℕ
     → Result ℕ (ℕ × Cause) → Type 0
 ReadsTokens v r state known after psks ts message place result = MatchResult result
     (λ n. (xs : List (List ℕ)) × BeginsAs v known psks r ts xs (drop place message) (drop (place + n) message)
@@ -65,7 +66,8 @@ ReadsBefore v r known psks ts k message result = MatchResult result
     × ReaderWants v known psks r ts message stop.want)
 
 -- a message, with its payload at a place
-abbrev pub ReadsMessage : Reader → SymmetricState → SymmetricState → Remote → Remote → List (List ℕ) → List Token → List ℕ
+abbrev pub ReadsMessage : Reader → SymmetricState → SymmetricState → Remote → Remote → List (List ℕ) → List Token
+    → List ℕ
     → List ℕ → Result (ℕ × ℕ) (ℕ × Cause) → Type 0
 ReadsMessage v r state known after psks ts message new result = MatchResult result
     (λ place. let payload = slice_range new place.0 place.1 in (xs : List (List ℕ))

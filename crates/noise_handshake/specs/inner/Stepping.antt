@@ -15,7 +15,8 @@ module _ {S : Type 0} (after : S → Token → ℕ → ℕ → SymmetricState �
       → BeginsAs v known psks r ts xs (drop place message) rest → new ≡ after_steps after v.has_psks r place ts xs old
 
   -- of all tokens, or of those before the one at which reading stops
-  abbrev pub TellsRead : Reader → SymmetricState → Remote → List (List ℕ) → List Token → List ℕ → ℕ → Result ℕ (ℕ × Cause)
+  abbrev pub TellsRead : Reader → SymmetricState → Remote → List (List ℕ) → List Token → List ℕ → ℕ
+      → Result ℕ (ℕ × Cause)
       → S → S → Type 0
   TellsRead v r known psks ts message place result old new = MatchResult result
       (λ n. TellsFront v r known psks ts message place old new)
@@ -27,7 +28,8 @@ module _ {S : Type 0} (after : S → Token → ℕ → ℕ → SymmetricState �
       → new ≡ after_steps after w.has_psks r place ts xs old
 
   -- of all tokens, or of those before the first DH without a result
-  abbrev pub TellsWritten : Writer → SymmetricState → Remote → List (List ℕ) → List Token → ℕ → Result ℕ ℕ → S → S → Type 0
+  abbrev pub TellsWritten : Writer → SymmetricState → Remote → List (List ℕ) → List Token → ℕ → Result ℕ ℕ → S → S
+      → Type 0
   TellsWritten w r known psks ts place result old new = MatchResult result
       (λ n. TellsGiven w r known psks ts place old new)
       (λ k. TellsGiven w r known psks (take k ts) place old new)

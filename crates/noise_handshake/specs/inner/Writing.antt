@@ -12,7 +12,8 @@ GivesOrNone w known psks t text =
     MatchOption text ((x : List ℕ) → Gives w known psks t x → ⊥) (λ x. Gives w known psks t x)
 
 -- a token, at the front of a buffer
-abbrev pub WritesToken : Writer → SymmetricState → SymmetricState → Remote → List (List ℕ) → Token → List ℕ → Option ℕ → Type 0
+abbrev pub WritesToken : Writer → SymmetricState → SymmetricState → Remote → List (List ℕ) → Token → List ℕ
+    → Option ℕ → Type 0
 WritesToken w r state known psks t out result = MatchOption result
     ((x : List ℕ) → Gives w known psks t x → ⊥)
     (λ n. (x : List ℕ) × Gives w known psks t x × (take n out ≡ token_bytes r t x)
@@ -27,7 +28,8 @@ WritesTokens w r state known psks ts out result = MatchResult result
     (λ k. LacksDhResultAt w known psks ts k)
 
 -- a message with this payload
-abbrev pub WritesMessage : Writer → SymmetricState → SymmetricState → Remote → List (List ℕ) → List Token → List ℕ → List ℕ
+abbrev pub WritesMessage : Writer → SymmetricState → SymmetricState → Remote → List (List ℕ) → List Token → List ℕ
+    → List ℕ
     → Result ℕ ℕ → Type 0
 WritesMessage w r state known psks ts payload out result = MatchResult result
     (λ n. (xs : List (List ℕ)) × Given w known psks ts xs × (take n out ≡ message_bytes w.has_psks r ts xs payload)

@@ -10,7 +10,8 @@ use Rattle.noise_trace.specs.Values.{values_of}
 -- with one step more, where there is room
 abbrev pub with_step : StepList → Step → StepList
 with_step list step =
-    if nat_lt (length list.steps.items) 11 then record { steps = record { items = list.steps.items ++ step ∷ [] } } else list
+    if nat_lt (length list.steps.items) 11 then record { steps = record { items = list.steps.items ++ step ∷ [] } }
+    else list
 
 -- with that of a token
 abbrev pub with_token : StepList → Token → ℕ → ℕ → SymmetricState → StepList

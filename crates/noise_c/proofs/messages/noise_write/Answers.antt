@@ -1,7 +1,7 @@
 use Rattle.std.specs.Prelude.{Ok, Err, replicate}
 use Rattle.std.proofs.Common.{◌≡◌, ◌≤◌, ℕ, inl, inr, refl, ap, sym, subst, ◌∙◌, arith, List, length, take}
 use Rattle.std.proofs.lemmas.Option.{same_Some}
-use Rattle.noise_c.proofs.Common.{Result, Option, Some, None, MatchOption, false≢true, Plan, Table, Want, HandshakeValue, length_unless, message_len_of, write_fault, LeavesUnwritten, IsOfTurn, IsWant, WantsPskToWrite, Party, write_code, handshake_from_c, text_from_c, IsPatternOf, IsUsable, KeepsParty, NoiseHandshake, NoiseResult, ReportsWant}
+use Rattle.noise_c.proofs.Common.{Result, Option, Some, None, MatchOption, false≢true, Plan, Table, Want, HandshakeValue, length_unless, message_len_of, write_fault, LeavesUnwritten, IsOfTurn, IsWant, WantsPskToWrite, Party, write_code, handshake_from_c, text_from_c, IsPatternOf, IsUsable, KeepsParty, NoiseHandshake, NoiseResult, ReportsWant, MatchesWith, party_with, pairs_in}
 use Rattle.noise_handshake.specs.declared.faults.WriteFault.{WriteFault}
 use Rattle.noise_handshake.specs.declared.faults.Unwritten.{Unwritten}
 use Rattle.noise_handshake.specs.declared.faults.Want.TheVariants.{Psk}
@@ -16,6 +16,7 @@ use Rattle.noise_c.proofs.Wanting.{writes-outcome}
 use goal.{in-Some-message_len+else-needed-out, in_default}
 use Rattle.noise_handshake.specs.declared.faults.WriteFault.TheVariants as write
 use Rattle.noise_handshake.specs.declared.faults.Unwritten.TheVariants as unwritten
+use Rattle.noise_handshake.specs.Calls.{HasWrittenTo}
 use Rattle.noise_c.proofs.messages.noise_write.Goals as goal
 
 pub returns-in-None : goal.returns-in-None
@@ -95,7 +96,8 @@ returns-in-Ok c =
           refl c.in-Ok.ensures.len.1 c.in-Ok.ensures.beyond
           (λ p v k.
           let s = opened old new h h2 p v c.in-Some.ensures.one c.in-Some.ensures.value stays c.store_progress.ensures.text same k in
-          let r = c.in-Ok.ensures.writes v k.later s in
+          let r = subst (λ (z : Party). HasWrittenTo (MatchesWith pairs_in k.later) z c.args.payload.now c.write_or_ask.new.out h2 c.in-Ok.len) s
+          (c.in-Ok.ensures.writes k.later) in
           was-written old new h h2 p v c.in-Some.ensures.one c.in-Some.ensures.value stays c.store_progress.ensures.text same k
           c.args.payload.now (take c.in-Ok.len c.write_or_ask.new.out) r.0 r.1 r.2);
       short = λ p named m e more.
@@ -108,7 +110,7 @@ returns-in-Ok c =
           let f : message_len_of h n ≡ Some m = sym (length-for old h p n c.in-Some.ensures.one c.in-Some.ensures.value k.pattern) ∙ e in
           let s = matches-for old h p v c.in-Some.ensures.one c.in-Some.ensures.value k in
           let x = subst (λ (i : ℕ). WantsPskToWrite v i) (sym c.in-Some.ensures.count) w in
-          ok-err c.in-Ok.len _ (c.in-Ok.ensures.asked (due _ _ m f) v k.later s x);
+          ok-err c.in-Ok.len _ (c.in-Ok.ensures.asked (due _ _ m f) k.later (subst (λ (z : Party). WantsPskToWrite z (length h.psks)) (sym s) x));
     }
 
 pub returns-in-Err-Wants : goal.returns-in-Err-Wants
@@ -121,8 +123,9 @@ returns-in-Err-Wants c =
     let code : ℕ = c.report_want.result in
     let t : ReportsWant want results code = subst (λ (w : Want). ReportsWant w results code) c.in-Err-Wants.want-is c.report_want.ensures.want in
     let leaves : (p : Plan) (v : Party) → KeepsParty old p v → LeavesUnwritten v (length h.psks) n (unwritten.Wants want) =
-    λ p v k. subst (λ (u : Unwritten). LeavesUnwritten v (length h.psks) n u) c.in-Err-Wants.field-0-is
-    (c.in-Err-Wants.ensures.writes v k.later (matches-for old h p v c.in-Some.ensures.one c.in-Some.ensures.value k)).0 in
+    λ p v k. subst (λ (z : Party). LeavesUnwritten z (length h.psks) n (unwritten.Wants want)) (matches-for old h p v c.in-Some.ensures.one c.in-Some.ensures.value k)
+    (subst (λ (u : Unwritten). LeavesUnwritten (party_with pairs_in k.later h) (length h.psks) n u) c.in-Err-Wants.field-0-is
+    (c.in-Err-Wants.ensures.writes k.later).0) in
     record {
       unusable = (wants-other want results code 23 t refl refl, λ none. absurd (none (c.in-Some.ensures.usable.0 refl)));
       outcome = writes-outcome old _ c.args.payload.now c.args.out.now c.write_or_ask.new.out c.args.results.now (length h.psks) want results code t
@@ -139,7 +142,7 @@ returns-in-Err-Wants c =
           let s = matches-for old h p v c.in-Some.ensures.one c.in-Some.ensures.value k in
           let x = subst (λ (i : ℕ). WantsPskToWrite v i) (sym c.in-Some.ensures.count) w in
           let same : want ≡ Psk h.remote.s = want-same c.in-Err-Wants.field-0 want _
-          (c.in-Err-Wants.ensures.asked (due _ _ m f) v k.later s x) c.in-Err-Wants.field-0-is in
+          (c.in-Err-Wants.ensures.asked (due _ _ m f) k.later (subst (λ (z : Party). WantsPskToWrite z (length h.psks)) (sym s) x)) c.in-Err-Wants.field-0-is in
           (subst (λ (z : Want). ReportsWant z results code) same t).0;
     }
 
@@ -188,8 +191,9 @@ returns-in-Err-Withheld c =
     let is : code ≡ write_code fault = c.withhold.ensures.code ∙ ap write_code c.in-Err-Withheld.fault-is in
     let within : (10 ≤ code) × (code ≤ 14) = withheld-within fault code is in
     let leaves : (p : Plan) (v : Party) → KeepsParty old p v → LeavesUnwritten v (length h.psks) n (unwritten.Withheld fault) =
-    λ p v k. subst (λ (u : Unwritten). LeavesUnwritten v (length h.psks) n u) c.in-Err-Withheld.field-0-is
-    (c.in-Err-Withheld.ensures.writes v k.later (matches-for old h p v c.in-Some.ensures.one c.in-Some.ensures.value k)).0 in
+    λ p v k. subst (λ (z : Party). LeavesUnwritten z (length h.psks) n (unwritten.Withheld fault)) (matches-for old h p v c.in-Some.ensures.one c.in-Some.ensures.value k)
+    (subst (λ (u : Unwritten). LeavesUnwritten (party_with pairs_in k.later h) (length h.psks) n u) c.in-Err-Withheld.field-0-is
+    (c.in-Err-Withheld.ensures.writes k.later).0) in
     record {
       unusable = (not-after code 14 23 within.1 refl, λ none. absurd (none (c.in-Some.ensures.usable.0 refl)));
       outcome = withheld-as old c.args.payload.now c.args.out.now c.write_or_ask.new.out c.withhold.new.out c.args.results.now fault code is
@@ -208,5 +212,5 @@ returns-in-Err-Withheld c =
           let f : message_len_of h n ≡ Some m = sym (length-for old h p n c.in-Some.ensures.one c.in-Some.ensures.value k.pattern) ∙ e in
           let s = matches-for old h p v c.in-Some.ensures.one c.in-Some.ensures.value k in
           let x = subst (λ (i : ℕ). WantsPskToWrite v i) (sym c.in-Some.ensures.count) w in
-          withheld-not c.in-Err-Withheld.field-0 fault _ (c.in-Err-Withheld.ensures.asked (due _ _ m f) v k.later s x) c.in-Err-Withheld.field-0-is;
+          withheld-not c.in-Err-Withheld.field-0 fault _ (c.in-Err-Withheld.ensures.asked (due _ _ m f) k.later (subst (λ (z : Party). WantsPskToWrite z (length h.psks)) (sym s) x)) c.in-Err-Withheld.field-0-is;
     }

@@ -1,6 +1,6 @@
 use Rattle.std.specs.Prelude.{Ok, Err, drop, ◌+◌, ◌-◌}
 use Rattle.std.proofs.Common.{false, ◌≡◌, ◌≤◌, ◌⊎◌, ℕ, List, length, refl, ap, sym, subst, ◌∙◌, arith}
-use Rattle.noise_c.proofs.Common.{Result, false≢true, Table, Short, Tag, Agreement, ReadFault, Want, HandshakeValue, LeavesUnread, WantsPskToRead, DoesNotRead, Party, Refuses, read_code, NoiseResult, handshake_from_c, IsUsable, ReportsWant}
+use Rattle.noise_c.proofs.Common.{Result, false≢true, Table, Short, Tag, Agreement, ReadFault, Want, HandshakeValue, LeavesUnread, WantsPskToRead, DoesNotRead, Party, Refuses, read_code, NoiseResult, handshake_from_c, IsUsable, ReportsWant, MatchesWith, party_with, pairs_in}
 use Rattle.noise_handshake.specs.declared.faults.Unread.{Unread}
 use Rattle.noise_handshake.specs.declared.faults.Want.TheVariants.{Psk}
 use Rattle.noise_c.specs.HalfStructs.{IsAround}
@@ -10,6 +10,7 @@ use Rattle.noise_c.proofs.Numbers.{IsPlain, other, above, not-after, too-long, w
 use Rattle.noise_c.proofs.Wanting.{reads-outcome}
 use Rattle.noise_handshake.specs.declared.faults.ReadFault.TheVariants as read
 use Rattle.noise_handshake.specs.declared.faults.Unread.TheVariants as unread
+use Rattle.noise_handshake.specs.Calls.{HasReadAt}
 use Rattle.noise_c.proofs.messages.read_next.Goals as goal
 
 pub returns-in-None : goal.returns-in-None
@@ -71,14 +72,15 @@ returns-in-Ok c =
           (around c.args.message.now m start end c.in-Ok.ensures.range.0 c.in-Ok.ensures.beyond)
           (λ p v k.
           let s = opened old new h h2 p v c.in-Some.ensures.one c.in-Some.ensures.value stays c.store_progress.ensures.text same k in
-          let r = c.in-Ok.ensures.reads v k.later s in
+          let r = subst (λ (z : Party). HasReadAt (MatchesWith pairs_in k.later) z c.args.message.now m h2 (start, end)) s
+          (c.in-Ok.ensures.reads k.later) in
           was-read old new h h2 p v c.in-Some.ensures.one c.in-Some.ensures.value stays c.store_progress.ensures.text same k
           c.args.message.now m start end c.in-Ok.ensures.range.0 r.0 r.1 r.2);
       unchanged = above 1 0 refl;
       asked = λ _ _ p v k remote asks.
           let s = matches-for old h p v c.in-Some.ensures.one c.in-Some.ensures.value k in
           let w = subst (λ (i : ℕ). WantsPskToRead v i c.args.message.now remote) (sym c.in-Some.ensures.count) asks in
-          ok-err (c.in-Ok.start, c.in-Ok.end) _ (c.in-Ok.ensures.asked v k.later s remote w);
+          ok-err (c.in-Ok.start, c.in-Ok.end) _ (c.in-Ok.ensures.asked k.later remote (subst (λ (z : Party). WantsPskToRead z (length h.psks) c.args.message.now remote) (sym s) w));
     }
 
 declined-not : {A : Type 0} (u : Unread) (fault : ReadFault) (b : Want) → ◌≡◌ {A = Result (ℕ × ℕ) Unread} (Err u) (Err (unread.Wants b))
@@ -110,8 +112,9 @@ returns-in-Refused c =
       outcome = refused code within.0 within.1 refl refl (λ u. u) c.in-Err-Declined.ensures.unchanged
           (λ p v k.
           let s = matches-for old h p v c.in-Some.ensures.one c.in-Some.ensures.value k in
-          let r = subst (λ (z : Unread). LeavesUnread v (length h.psks) c.args.message.now z)
-          c.in-Err-Declined.field-0-is (c.in-Err-Declined.ensures.reads v k.later s).0 in
+          let r = subst (λ (z : Party). LeavesUnread z (length h.psks) c.args.message.now (unread.Declined fault)) s
+          (subst (λ (z : Unread). LeavesUnread (party_with pairs_in k.later h) (length h.psks) c.args.message.now z) c.in-Err-Declined.field-0-is
+          (c.in-Err-Declined.ensures.reads k.later).0) in
           let far : code ≡ 14 → ⊥ = λ e. let known = agreement-of v c.args.message.now fault (sym is ∙ e) r.0 in r.1 known.0 known.1 in (
             far,
             record {
@@ -124,7 +127,7 @@ returns-in-Refused c =
       asked = λ _ _ p v k remote asks.
           let s = matches-for old h p v c.in-Some.ensures.one c.in-Some.ensures.value k in
           let w = subst (λ (i : ℕ). WantsPskToRead v i c.args.message.now remote) (sym c.in-Some.ensures.count) asks in
-          declined-not c.in-Err-Declined.field-0 fault (Psk remote) (c.in-Err-Declined.ensures.asked v k.later s remote w) c.in-Err-Declined.field-0-is;
+          declined-not c.in-Err-Declined.field-0 fault (Psk remote) (c.in-Err-Declined.ensures.asked k.later remote (subst (λ (z : Party). WantsPskToRead z (length h.psks) c.args.message.now remote) (sym s) w)) c.in-Err-Declined.field-0-is;
     }
 
 pub returns-in_default : goal.returns-in_default
@@ -144,13 +147,14 @@ returns-in_default c =
       outcome = declined code among refl refl c.in-Err-Declined.ensures.unchanged
           (λ p v k.
           let s = matches-for old h p v c.in-Some.ensures.one c.in-Some.ensures.value k in
-          let r = subst (λ (z : Unread). LeavesUnread v (length h.psks) c.args.message.now z)
-          c.in-Err-Declined.field-0-is (c.in-Err-Declined.ensures.reads v k.later s).0 in
+          let r = subst (λ (z : Party). LeavesUnread z (length h.psks) c.args.message.now (unread.Declined fault)) s
+          (subst (λ (z : Unread). LeavesUnread (party_with pairs_in k.later h) (length h.psks) c.args.message.now z) c.in-Err-Declined.field-0-is
+          (c.in-Err-Declined.ensures.reads k.later).0) in
           record { fault = fault; code_is = is; declines = r.0 });
       asked = λ _ _ p v k remote asks.
           let s = matches-for old h p v c.in-Some.ensures.one c.in-Some.ensures.value k in
           let w = subst (λ (i : ℕ). WantsPskToRead v i c.args.message.now remote) (sym c.in-Some.ensures.count) asks in
-          declined-not c.in-Err-Declined.field-0 fault (Psk remote) (c.in-Err-Declined.ensures.asked v k.later s remote w) c.in-Err-Declined.field-0-is;
+          declined-not c.in-Err-Declined.field-0 fault (Psk remote) (c.in-Err-Declined.ensures.asked k.later remote (subst (λ (z : Party). WantsPskToRead z (length h.psks) c.args.message.now remote) (sym s) w)) c.in-Err-Declined.field-0-is;
     }
 
 want-same : (u : Unread) (a b : Want) → ◌≡◌ {A = Result (ℕ × ℕ) Unread} (Err u) (Err (unread.Wants b)) → u ≡ unread.Wants a → a ≡ b
@@ -181,13 +185,16 @@ returns-in-Err-Wants-clause-outcome c =
     c.in-Err-Wants.want c.report_want.new.results c.report_want.result
     (wanted c.in-Err-Wants.want _ c.report_want.new.results c.report_want.result c.in-Err-Wants.want-is c.report_want.ensures.want)
     c.report_want.ensures.answer c.report_want.ensures.remote c.in-Some.ensures.count c.in-Err-Wants.ensures.unchanged
-    (λ p v k. subst (λ (u : Unread). LeavesUnread v (length h.psks) c.args.message.now u) c.in-Err-Wants.field-0-is
-    (c.in-Err-Wants.ensures.reads v k.later (matches-for c.args.handshake.now h p v c.in-Some.ensures.one c.in-Some.ensures.value k)).0)
+    (λ p v k. subst (λ (z : Party). LeavesUnread z (length h.psks) c.args.message.now (unread.Wants c.in-Err-Wants.want))
+    (matches-for c.args.handshake.now h p v c.in-Some.ensures.one c.in-Some.ensures.value k)
+    (subst (λ (u : Unread). LeavesUnread (party_with pairs_in k.later h) (length h.psks) c.args.message.now u) c.in-Err-Wants.field-0-is
+    (c.in-Err-Wants.ensures.reads k.later).0))
 
 pub returns-in-Err-Wants-clause-asked : goal.returns-in-Err-Wants-clause-asked
 returns-in-Err-Wants-clause-asked c usable len p v k remote asks =
-    let s = matches-for c.args.handshake.now c.in-Some.value p v c.in-Some.ensures.one c.in-Some.ensures.value k in
+    let h = c.in-Some.value in
+    let s = matches-for c.args.handshake.now h p v c.in-Some.ensures.one c.in-Some.ensures.value k in
     let w = subst (λ (i : ℕ). WantsPskToRead v i c.args.message.now remote) (sym c.in-Some.ensures.count) asks in
     let same : c.in-Err-Wants.want ≡ Psk remote =
-    want-same c.in-Err-Wants.field-0 c.in-Err-Wants.want (Psk remote) (c.in-Err-Wants.ensures.asked v k.later s remote w) c.in-Err-Wants.field-0-is in
+    want-same c.in-Err-Wants.field-0 c.in-Err-Wants.want (Psk remote) (c.in-Err-Wants.ensures.asked k.later remote (subst (λ (z : Party). WantsPskToRead z (length h.psks) c.args.message.now remote) (sym s) w)) c.in-Err-Wants.field-0-is in
     subst (λ (z : Want). ReportsWant z c.report_want.new.results c.report_want.result) (c.in-Err-Wants.want-is ∙ same) c.report_want.ensures.want

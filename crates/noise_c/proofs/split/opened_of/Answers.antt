@@ -1,7 +1,7 @@
 use Rattle.std.proofs.Common.{◌≡◌, true, false, inl, inr, refl, ap, sym, ◌∙◌, arith}
 use Rattle.noise_c.proofs.Common.{false≢true, nat_tests, HandshakeValue, Table, IsUsable}
 use Rattle.noise_c.specs.Finishing.{finish_code}
-use Rattle.noise_c.proofs.Stored.{matches-for}
+use Rattle.noise_c.proofs.Stored.{matches-for, opens-with}
 use Rattle.noise_c.proofs.Finished.{finish-done, finish-early, finish-ended, stored-by, contrary}
 use Rattle.noise_c.proofs.Numbers.{other}
 use Rattle.noise_c.proofs.split.opened_of.Goals as goal
@@ -24,7 +24,8 @@ returns-in-Ok-clause-code c =
 
 pub returns-in-Ok-clause-opens : goal.returns-in-Ok-clause-opens
 returns-in-Ok-clause-opens c p v k =
-    c.in-Ok.ensures.late v k.later (matches-for c.args.handshake.now c.in-Some.value p v c.in-Some.ensures.one c.in-Some.ensures.value k)
+    opens-with c.in-Some.value k.later c.in-Ok.opened v
+    (matches-for c.args.handshake.now c.in-Some.value p v c.in-Some.ensures.one c.in-Some.ensures.value k) c.in-Ok.ensures.opened
 
 pub returns-in-Err-clause-code : goal.returns-in-Err-clause-code
 returns-in-Err-clause-code c =

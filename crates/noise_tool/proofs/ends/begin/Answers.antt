@@ -1,5 +1,5 @@
 use Rattle.std.proofs.Common.{rules, ◌≡◌, ◌∙◌, sym, refl, subst}
-use Rattle.noise_tool.proofs.Common.{err_from_is_err_and, same_from_all_zip, Initiator, Responder, public_of, agreement_of}
+use Rattle.noise_tool.proofs.Common.{err_from_is_err_and, same_from_all_zip, Initiator, Responder}
 use Rattle.noise_handshake.specs.Party.{Party}
 use Rattle.noise_handshake.specs.Matching.{Matches}
 use Rattle.noise_tool.proofs.EndLemmas.{begun-same, both-set-up, setup-same, none-reported, reported-first, reported-second}

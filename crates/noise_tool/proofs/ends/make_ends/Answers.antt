@@ -1,5 +1,5 @@
 use Rattle.std.proofs.Common.{ℕ, subst}
-use Rattle.noise_tool.proofs.Common.{Initiator, Responder, DuelMatches, both_sides, end_of, public_of, agreement_of, file_start}
+use Rattle.noise_tool.proofs.Common.{Initiator, Responder, DuelMatches, both_sides, end_of, file_start}
 use Rattle.noise_duel.specs.Messages.{begun_as}
 use Rattle.noise_tool.proofs.ends.make_ends.Goals as goal
 use Rattle.noise_vectors.specs.FileKeys.{pairs_of}

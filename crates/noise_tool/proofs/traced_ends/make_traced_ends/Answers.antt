@@ -1,5 +1,6 @@
 use Rattle.std.proofs.Common.{◌≡◌, ◌∙◌, ap, sym, subst, ℕ, None}
 use Rattle.noise_tool.proofs.Common.{Initiator, Responder, Plan, DuelMatches, both_sides, end_of, bytes_of, public_of, agreement_of, setup_of, file_start, TracedMatches, start_traces}
+use Rattle.noise_handshake.specs.Party.{Party}
 use Rattle.noise_duel.specs.Messages.{begun_as}
 use Rattle.noise_tool.proofs.EndLemmas.{same-setup, same-start}
 use Rattle.noise_tool.proofs.traced_ends.make_traced_ends.Goals as goal
@@ -10,7 +11,7 @@ returns-clause-ends c =
     let file = c.args.file in
     let a = c.in_ok-initiator.ensures.made in
     let same = c.in_ok-initiator.ensures.value in
-    let plan_is : c.pattern.result.now ≡ a.plan = c.pattern.ensures.value ∙ a.initiator.pattern in
+    let plan_is : c.pattern.result.now ≡ a.plan = c.pattern.ensures.value ∙ ap (λ (z : Party). z.pattern) a.initiator.is in
     let follows = c.follow.ensures.traced _ a.initiator (ap public_of (sym c.requires.same.initiator)) (ap agreement_of (sym c.requires.same.initiator)) in
     let follows-2 = c.follow-2.ensures.traced _ a.responder (ap public_of (sym c.requires.same.responder)) (ap agreement_of (sym c.requires.same.responder)) in
     record {

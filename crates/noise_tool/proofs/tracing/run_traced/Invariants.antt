@@ -1,5 +1,5 @@
 use Rattle.std.proofs.Common.{◌≡◌, [], drop}
-use Rattle.noise_tool.proofs.Common.{DuelMatches, Sides, events_of, agreement_of, public_of, traces_of, EndsTraced, HasTracedTo, IsNewSides}
+use Rattle.noise_tool.proofs.Common.{DuelMatches, Sides, events_of, traces_of, EndsTraced, HasTracedTo, IsNewSides}
 use Rattle.noise_tool.proofs.tracing.run_traced.Given as goal
 use Rattle.noise_vectors.specs.FileKeys.{pairs_of}
 

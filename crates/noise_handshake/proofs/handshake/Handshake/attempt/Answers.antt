@@ -1,6 +1,6 @@
 use Rattle.std.proofs.Common.{rules, ◌≡◌, ◌<◌, ◌∙◌, ℕ, List, length, slice_range, refl, ap, sym, subst, arith, take, drop, ◌-◌}
 use Rattle.std.specs.Prelude.{Bool}
-use Rattle.noise_handshake.proofs.Common.{SymmetricState, PlacedToken, HandshakeValue, ValueMatches, Advances, after_message, after_payload, remote_after, tokens_of, after_tokens, ciphertext, Ok, reader_of, StopsKnowing}
+use Rattle.noise_handshake.proofs.Common.{SymmetricState, PlacedToken, HandshakeValue, Party, party_of, Advances, after_payload, remote_after, tokens_of, after_tokens, ciphertext, Ok, reader_of, StopsKnowing}
 use Rattle.noise_handshake.specs.inner.Reading.{ReadsMessage}
 use Rattle.noise_handshake.proofs.Advancing.{unended-read}
 use Rattle.noise_handshake.proofs.Followed.{gone-advances, gone-to, leaves-read}
@@ -52,15 +52,16 @@ returns-in-Ok-clause-state g c =
     (gone-advances g.K.Keys.pairs h c.read_message.new.state c.read_message.new.known c.requires.psks (unended-read h c.requires.due))
 
 pub returns-in-Ok-clause-reads : goal.returns-in-Ok-clause-reads
-returns-in-Ok-clause-reads g c v s =
+returns-in-Ok-clause-reads g c =
     let P = g.K.Keys.pairs in
+    let v : Party = party_of P c.args.self.now in
     let a = c.self.inside in
     let less = reads-next g.K.Keys.pairs c.self.inside c.self.invariant c.args.self.now c.self.view_is c.requires.due in
-    let l = listening-next g.K.Keys.pairs c.self.inside c.self.invariant less c.deref-2.result.now c.deref-2.ensures.0 c.args.self.now c.self.view_is v s
+    let l = listening-next g.K.Keys.pairs c.self.inside c.self.invariant less c.deref-2.result.now c.deref-2.ensures.0 c.args.self.now c.self.view_is
     c.deref.result.now c.deref.ensures.0 c.requires.due in
     let q = subst (λ (z : SymmetricState). ReadsMessage (reader_of P a.means) z c.read_message.new.state a.remote c.read_message.new.known
     (take (length c.deref.result.now - c.self.inside.used) (drop c.self.inside.used c.deref.result.now)) (tokens_of c.deref-2.result.now) c.args.message.now c.read_message.new.message (Ok c.in-Ok.place))
-    (trial-next g.K.Keys.pairs c.self.inside c.self.invariant less c.deref-2.result.now c.deref-2.ensures.0 c.args.self.now c.self.view_is v s c.for_trial-state.result c.for_trial-state.ensures) c.in-Ok.ensures.read in
+    (trial-next g.K.Keys.pairs c.self.inside c.self.invariant less c.deref-2.result.now c.deref-2.ensures.0 c.args.self.now c.self.view_is c.for_trial-state.result c.for_trial-state.ensures) c.in-Ok.ensures.read in
     let h = c.args.self.now in
     let payload : List ℕ = slice_range c.read_message.new.message c.in-Ok.place.0 c.in-Ok.place.1 in
     let left = for-view v a.means.role a.means.has_psks (P a.means.keys).agree _ a.remote _ l
@@ -68,20 +69,20 @@ returns-in-Ok-clause-reads g c v s =
     (q.2, q.3) in (
       q.0,
       accepted v a.means.role a.means.has_psks (P a.means.keys).agree _ a.remote _ l c.args.message.now q.0 _ c.requires.fits q.1,
-      subst (λ (z : HandshakeValue g.row.K.Denot). ValueMatches P z (after_message v q.0 payload)) (sym c.go_on.ensures.value)
-          (gone-to P h c.read_message.new.state c.read_message.new.known v s q.0 payload _ left.0 left.1),
+      ap (party_of P) c.go_on.ensures.value ∙ gone-to P h c.read_message.new.state c.read_message.new.known q.0 payload _ left.0 left.1,
     )
 
 pub returns-in-Err-clause-reads : goal.returns-in-Err-clause-reads
-returns-in-Err-clause-reads g c v s =
+returns-in-Err-clause-reads g c =
     let P = g.K.Keys.pairs in
+    let v : Party = party_of P c.args.self.now in
     let a = c.self.inside in
     let less = reads-next g.K.Keys.pairs c.self.inside c.self.invariant c.args.self.now c.self.view_is c.requires.due in
-    let l = listening-next g.K.Keys.pairs c.self.inside c.self.invariant less c.deref-2.result.now c.deref-2.ensures.0 c.args.self.now c.self.view_is v s
+    let l = listening-next g.K.Keys.pairs c.self.inside c.self.invariant less c.deref-2.result.now c.deref-2.ensures.0 c.args.self.now c.self.view_is
     c.deref.result.now c.deref.ensures.0 c.requires.due in
     let q = subst (λ (z : SymmetricState). StopsKnowing (reader_of P a.means) a.remote (take (length c.deref.result.now - c.self.inside.used) (drop c.self.inside.used c.deref.result.now)) z (tokens_of c.deref-2.result.now)
     c.args.message.now c.in-Err.token c.in-Err.cause c.read_message.new.known)
-    (trial-next g.K.Keys.pairs c.self.inside c.self.invariant less c.deref-2.result.now c.deref-2.ensures.0 c.args.self.now c.self.view_is v s c.for_trial-state.result c.for_trial-state.ensures) c.in-Err.ensures.read in (
+    (trial-next g.K.Keys.pairs c.self.inside c.self.invariant less c.deref-2.result.now c.deref-2.ensures.0 c.args.self.now c.self.view_is c.for_trial-state.result c.for_trial-state.ensures) c.in-Err.ensures.read in (
       refused v a.means.role a.means.has_psks (P a.means.keys).agree _ a.remote _ l c.args.message.now _ _ q.0,
       wants v c.args.message.now c.lacked.result a.means.role a.means.has_psks (P a.means.keys).agree _ a.remote _ l
           (c.lacked.ensures (record { role = a.means.role; has_psks = a.means.has_psks; agree = (P a.means.keys).agree }) a.remote _ v.state c.args.message.now refl

@@ -1,6 +1,5 @@
-use Rattle.std.proofs.Common.{◌≡◌, ◌++◌, ℕ, List, length, drop, ap, sym, subst, ◌∙◌, arith}
-use Rattle.noise_handshake.proofs.Common.{IsSupplied, None, Plan, ValueMatches, party_at_start, psks_of, setup_fault}
-use Rattle.noise_handshake.proofs.LateParties.{matches-of}
+use Rattle.std.proofs.Common.{◌≡◌, ◌++◌, ℕ, List, length, drop, ap, sym, ◌∙◌, arith}
+use Rattle.noise_handshake.proofs.Common.{IsSupplied, None, Plan, party_at_start, psks_of, setup_fault}
 use Rattle.noise_handshake.proofs.Setting.{counted}
 use Rattle.noise_handshake.proofs.handshake.Handshake.new.Goals as goal
 
@@ -36,6 +35,7 @@ returns-clause-matches g c =
     let all : IsSupplied c.begin.result =
     ap length (c.begin.ensures.psks ∙ same) ∙ counted p c.args.role own c.args.remote n none
     ∙ sym (ap (λ (z : Plan). psks_of (drop c.begin.result.passed z.messages)) begun.0 ∙ ap (λ (k : ℕ). psks_of (drop k p.messages)) begun.3) in
-    matches-of P c.begin.result _
-    (subst (λ (z : List (List ℕ)). ValueMatches P c.begin.result (party_at_start p c.args.role c.args.prologue.now own (P c.args.keys).agree c.args.remote z)) same
-    c.begin.ensures.matches) all
+    record {
+      is = c.begin.ensures.matches ∙ ap (party_at_start p c.args.role c.args.prologue.now own (P c.args.keys).agree c.args.remote) same;
+      supplied = all;
+    }

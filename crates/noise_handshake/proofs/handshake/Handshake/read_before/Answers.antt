@@ -1,5 +1,5 @@
 use Rattle.std.proofs.Common.{rules, ℕ, ◌<◌, ◌≤◌, length, refl, ap, sym, subst, arith, take, drop, ◌-◌}
-use Rattle.noise_handshake.proofs.Common.{MatchOption, MatchResult, Agreement, HandshakeValue, Stops, tokens_at, StopsFor, BeginsBefore, reader_of, SymmetricState, tokens_of}
+use Rattle.noise_handshake.proofs.Common.{Party, party_of, MatchOption, MatchResult, Agreement, HandshakeValue, Stops, tokens_at, StopsFor, BeginsBefore, reader_of, SymmetricState, tokens_of}
 use Rattle.noise_handshake.specs.inner.Reading.{ReadsBefore}
 use Rattle.noise_handshake.proofs.Before.{before-of}
 use Rattle.noise_handshake.proofs.Layouts.{length-tokens_of}
@@ -30,13 +30,14 @@ read_before-requires-clause-within g c =
 
 pub returns : goal.returns
 returns g c = record {
-  reads = λ v s.
+  reads =
       let P = g.K.Keys.pairs in
+      let v : Party = party_of P c.args.self.now in
       let a = c.self.inside in
       let less = reads-next g.K.Keys.pairs c.self.inside c.self.invariant c.args.self.now c.self.view_is c.requires.due in
-      let l = listening-next g.K.Keys.pairs c.self.inside c.self.invariant less c.deref-2.result.now c.deref-2.ensures.0 c.args.self.now c.self.view_is v s
+      let l = listening-next g.K.Keys.pairs c.self.inside c.self.invariant less c.deref-2.result.now c.deref-2.ensures.0 c.args.self.now c.self.view_is
       c.deref.result.now c.deref.ensures.0 c.requires.due in
-      let trial = trial-next g.K.Keys.pairs c.self.inside c.self.invariant less c.deref-2.result.now c.deref-2.ensures.0 c.args.self.now c.self.view_is v s a.state refl in
+      let trial = trial-next g.K.Keys.pairs c.self.inside c.self.invariant less c.deref-2.result.now c.deref-2.ensures.0 c.args.self.now c.self.view_is a.state refl in
       let q = for-view v a.means.role a.means.has_psks (P a.means.keys).agree _ a.remote _ l
       (λ w z s us. MatchResult c.read_before.result (λ remote. BeginsBefore w z s v.state us c.args.message.now c.args.k remote)
       (λ stop. (stop.token < c.args.k) × Stops w z s v.state us c.args.message.now stop.token stop.cause × MatchOption stop.want

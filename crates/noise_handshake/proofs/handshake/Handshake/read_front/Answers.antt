@@ -1,29 +1,29 @@
 use Rattle.std.proofs.Common.{◌≡◌, ◌+◌, ◌-◌, ◌<◌, ◌≤◌, ◌^◌, ℕ, Bool, List, length, take, ap, ◌∙◌, arith, length-take, subst, drop}
-use Rattle.noise_handshake.proofs.Common.{after_ciphertext, reader_of, count_by, is_psk, Some, Token, SymmetricState, keyed, nonce_now, Reader, BeginsAs, remote_after, ArePlaced, PlacedToken, tokens_of, tokens_at, after_tokens, Ok, StopsKnowing}
+use Rattle.noise_handshake.proofs.Common.{Party, party_of, after_ciphertext, reader_of, count_by, is_psk, Some, Token, SymmetricState, keyed, nonce_now, Reader, BeginsAs, remote_after, ArePlaced, PlacedToken, tokens_of, tokens_at, after_tokens, Ok, StopsKnowing}
 use Rattle.noise_handshake.specs.inner.Reading.{ReadsTokens}
 use Rattle.noise_handshake.specs.inner.Stepping.{TellsFront}
 use Rattle.noise_handshake.specs.declared.following.Front.{Front}
 use Rattle.noise_handshake.specs.inner.Following.{Fronts}
 use Rattle.noise_handshake.proofs.Counting.{after_tokens-most}
-use Rattle.noise_handshake.proofs.Followed.{count-now, front-read, front-unread, leaves-read, whole-due}
+use Rattle.noise_handshake.proofs.Followed.{count-due, front-read, front-unread, leaves-read, whole-due}
 use Rattle.noise_handshake.proofs.Fronts.{tokens-take, placed-take}
 use Rattle.noise_handshake.proofs.Later.{count-take}
 use Rattle.noise_handshake.proofs.Layouts.{length-tokens_of}
-use Rattle.noise_handshake.proofs.LateParties.{supplied-not, value-of}
+use Rattle.noise_handshake.proofs.LateParties.{supplied-not}
 use Rattle.noise_handshake.proofs.Next.{reads-next, reads-theirs, places-next, psks-before, nonces-next, trial-next, listening-next}
 use Rattle.noise_handshake.proofs.Standing.{for-view}
 use Rattle.noise_handshake.proofs.Widths.{fit-carry}
 use Rattle.noise_handshake.proofs.handshake.Handshake.read_front.Goals as goal
 
 pub returns-in-Some-clause-front : goal.returns-in-Some-clause-front
-returns-in-Some-clause-front g c v xs rest s within begins = absurd (supplied-not c.args.self.now c.requires.more s.supplied _ c.in-Some.ensures.lacks)
+returns-in-Some-clause-front g c xs rest all within begins = absurd (supplied-not c.args.self.now c.requires.more all _ c.in-Some.ensures.lacks)
 
 pub returns-then-count-len-clause-front : goal.returns-then-count-len-clause-front
-returns-then-count-len-clause-front g c v xs rest s within begins =
+returns-then-count-len-clause-front g c xs rest all within begins =
     let P = g.K.Keys.pairs in
     let a = c.self.inside in
     let less = reads-next P a c.self.invariant c.args.self.now c.self.view_is c.requires.due in
-    let n = count-now P a c.self.invariant less c.args.self.now c.self.view_is v (value-of P c.args.self.now v s) in
+    let n = count-due P a c.self.invariant less c.args.self.now c.self.view_is in
     absurd (omega (arith, c.if-count-len.true, c.len.ensures.value, n, within))
 
 pub read_tokens-requires-clause-placed : goal.read_tokens-requires-clause-placed
@@ -114,7 +114,7 @@ returns-in-Ok-clause-leaves g c all =
     (reads-theirs P a c.self.invariant c.args.self.now c.self.view_is c.requires.due) f.remote q.3
 
 pub returns-in-Ok-clause-front : goal.returns-in-Ok-clause-front
-returns-in-Ok-clause-front g c v xs rest s within begins =
+returns-in-Ok-clause-front g c xs rest all within begins =
     let P = g.K.Keys.pairs in
     let a = c.self.inside in
     let less = reads-next P a c.self.invariant c.args.self.now c.self.view_is c.requires.due in
@@ -125,10 +125,10 @@ returns-in-Ok-clause-front g c v xs rest s within begins =
     let placed : ArePlaced a.means.has_psks (keyed c.for_trial-state.result) 0 (take count ds) =
     placed-take a.means.has_psks (keyed c.for_trial-state.result) 0 ds count
     (places-next P a c.self.invariant less ds d c.for_trial-state.result c.for_trial-state.ensures) in
-    let t = value-of P c.args.self.now v s in
+    let v : Party = party_of P c.args.self.now in
     let trial : c.for_trial-state.result ≡ v.state =
-    trial-next P a c.self.invariant less ds d c.args.self.now c.self.view_is v t c.for_trial-state.result c.for_trial-state.ensures in
-    let l = listening-next P a c.self.invariant less ds d c.args.self.now c.self.view_is v t c.deref.result.now c.deref.ensures.0 c.requires.due in
+    trial-next P a c.self.invariant less ds d c.args.self.now c.self.view_is c.for_trial-state.result c.for_trial-state.ensures in
+    let l = listening-next P a c.self.invariant less ds d c.args.self.now c.self.view_is c.deref.result.now c.deref.ensures.0 c.requires.due in
     let w : Reader = reader_of P a.means in
     let m : List ℕ = c.args.message.now in
     let f : Front = record { from = c.in-Ok.from; state = c.read_tokens.new.state; remote = c.read_tokens.new.known } in
@@ -143,7 +143,7 @@ returns-in-Ok-clause-front g c v xs rest s within begins =
     c.read_tokens.new.steps) trial (c.in-Ok.ensures.told 0 (omega arith) placed))) xs rest begins
 
 pub returns-in-Err-clause-front : goal.returns-in-Err-clause-front
-returns-in-Err-clause-front g c v xs rest s within begins =
+returns-in-Err-clause-front g c xs rest all within begins =
     let P = g.K.Keys.pairs in
     let a = c.self.inside in
     let less = reads-next P a c.self.invariant c.args.self.now c.self.view_is c.requires.due in
@@ -154,10 +154,10 @@ returns-in-Err-clause-front g c v xs rest s within begins =
     let placed : ArePlaced a.means.has_psks (keyed c.for_trial-state.result) 0 (take count ds) =
     placed-take a.means.has_psks (keyed c.for_trial-state.result) 0 ds count
     (places-next P a c.self.invariant less ds d c.for_trial-state.result c.for_trial-state.ensures) in
-    let t = value-of P c.args.self.now v s in
+    let v : Party = party_of P c.args.self.now in
     let trial : c.for_trial-state.result ≡ v.state =
-    trial-next P a c.self.invariant less ds d c.args.self.now c.self.view_is v t c.for_trial-state.result c.for_trial-state.ensures in
-    let l = listening-next P a c.self.invariant less ds d c.args.self.now c.self.view_is v t c.deref.result.now c.deref.ensures.0 c.requires.due in
+    trial-next P a c.self.invariant less ds d c.args.self.now c.self.view_is c.for_trial-state.result c.for_trial-state.ensures in
+    let l = listening-next P a c.self.invariant less ds d c.args.self.now c.self.view_is c.deref.result.now c.deref.ensures.0 c.requires.due in
     let w : Reader = reader_of P a.means in
     let m : List ℕ = c.args.message.now in
     absurd (for-view v a.means.role a.means.has_psks (P a.means.keys).agree _ a.remote _ l

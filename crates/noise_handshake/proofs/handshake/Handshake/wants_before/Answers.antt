@@ -1,5 +1,5 @@
 use Rattle.std.proofs.Common.{rules, ℕ, ◌≤◌, length, take, ap, sym, subst, arith}
-use Rattle.noise_handshake.proofs.Common.{MatchOption, HandshakeValue, tokens_at, LacksDhResultFor, LacksDhResultAt}
+use Rattle.noise_handshake.proofs.Common.{Party, party_of, MatchOption, HandshakeValue, tokens_at, LacksDhResultFor, LacksDhResultAt}
 use Rattle.noise_handshake.proofs.Layouts.{length-tokens_of}
 use Rattle.noise_handshake.proofs.Next.{speaks-next, speaks-ours, tokens-next, psks-before, own-ours, known-ours, due-next}
 use Rattle.noise_handshake.proofs.Wrote.{for-view}
@@ -25,11 +25,12 @@ write_lacking_before-requires-clause-within g c =
 
 pub returns : goal.returns
 returns g c = record {
-  wants = λ v s.
+  wants =
       let P = g.K.Keys.pairs in
+      let v : Party = party_of P c.args.self.now in
       let a = c.self.inside in
       let less = speaks-next g.K.Keys.pairs c.self.inside c.self.invariant c.args.self.now c.self.view_is c.requires.due in
-      let l = due-next g.K.Keys.pairs c.self.inside c.self.invariant less c.deref-2.result.now c.deref-2.ensures.0 c.args.self.now c.self.view_is v s
+      let l = due-next g.K.Keys.pairs c.self.inside c.self.invariant less c.deref-2.result.now c.deref-2.ensures.0 c.args.self.now c.self.view_is
       c.deref.result.now c.deref.ensures.0 c.requires.due in (
         l.speaks,
         for-view v a.means.role a.means.has_psks (P a.means.keys).public (P a.means.keys).agree _ a.remote _ l

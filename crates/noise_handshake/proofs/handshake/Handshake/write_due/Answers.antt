@@ -1,12 +1,11 @@
-use Rattle.std.proofs.Common.{rules, ℕ, ◌+◌, ◌<◌, ◌≤◌, List, length, take, refl, ap, sym, subst, true, ◌∙◌, arith, length-take, drop, ◌-◌, ◌≡◌}
+use Rattle.std.proofs.Common.{rules, ℕ, ◌+◌, ◌<◌, ◌≤◌, List, length, take, ap, sym, subst, ◌∙◌, arith, length-take, drop, ◌-◌, ◌≡◌}
 use Rattle.std.specs.Prelude.{Bool}
-use Rattle.noise_handshake.proofs.Common.{Some, Token, SymmetricState, after_tokens, ciphertext, PlacedToken, tokens_of, Advances, after_own, after_payload, HandshakeValue, ValueMatches, held_in, Ok, writer_of}
+use Rattle.noise_handshake.proofs.Common.{Some, Token, SymmetricState, after_tokens, ciphertext, PlacedToken, tokens_of, Advances, after_payload, HandshakeValue, Party, party_of, ended_party, Ok, writer_of}
 use Rattle.noise_handshake.specs.inner.Writing.{WritesMessage}
 use Rattle.noise_handshake.proofs.Advancing.{unended-write}
 use Rattle.noise_handshake.proofs.Followed.{gone-advances, gone-to, leaves-wrote}
 use Rattle.noise_handshake.proofs.Layouts.{length-tokens_of}
 use Rattle.noise_handshake.proofs.Next.{writes-next, writes-ours, writes-long, writes-wide, writes-room, writes-most, psks-next, nonces-next, own-ours, tokens-next, trial-next, speaking-next, short-next}
-use Rattle.noise_handshake.proofs.Standing.{ends}
 use Rattle.noise_handshake.proofs.Widths.{given-carry}
 use Rattle.noise_handshake.proofs.Wrote.{for-view, written, lacking}
 use Rattle.noise_handshake.proofs.handshake.Handshake.write_due.Goals as goal
@@ -81,14 +80,15 @@ returns-in-Ok-clause-len g c =
     (long ∙ ap Some (sym wide), omega (arith, c.requires.room _ long, wide))
 
 pub returns-in-Ok-clause-writes : goal.returns-in-Ok-clause-writes
-returns-in-Ok-clause-writes g c v s =
+returns-in-Ok-clause-writes g c =
     let P = g.K.Keys.pairs in
+    let v : Party = party_of P c.args.self.now in
     let a = c.self.inside in
     let less = writes-next g.K.Keys.pairs c.self.inside c.self.invariant c.args.self.now c.self.view_is
     (length c.args.payload.now) c.requires.due in
-    let l = speaking-next g.K.Keys.pairs c.self.inside c.self.invariant less c.deref-2.result.now c.deref-2.ensures.0 c.args.self.now c.self.view_is v s
+    let l = speaking-next g.K.Keys.pairs c.self.inside c.self.invariant less c.deref-2.result.now c.deref-2.ensures.0 c.args.self.now c.self.view_is
     c.deref.result.now c.deref.ensures.0 (length c.args.payload.now) c.requires.due in
-    let trial = trial-next g.K.Keys.pairs c.self.inside c.self.invariant less c.deref-2.result.now c.deref-2.ensures.0 c.args.self.now c.self.view_is v s c.for_trial-state.result c.for_trial-state.ensures in
+    let trial = trial-next g.K.Keys.pairs c.self.inside c.self.invariant less c.deref-2.result.now c.deref-2.ensures.0 c.args.self.now c.self.view_is c.for_trial-state.result c.for_trial-state.ensures in
     let most = writes-most g.K.Keys.pairs c.self.inside c.self.invariant c.args.self.now c.self.view_is
     (length c.args.payload.now) c.requires.due c.deref-2.result.now c.deref-2.ensures.0 c.for_trial-state.result c.for_trial-state.ensures in
     let fits : length (take c.in-Ok.len c.write_message.new.out) ≤ 65535 =
@@ -99,25 +99,25 @@ returns-in-Ok-clause-writes g c v s =
     (λ w z s us. c.write_message.new.state ≡ after_payload w.has_psks v.state us q.0 c.args.payload.now) q.3 in (
       q.0,
       written v a.means.role a.means.has_psks (P a.means.keys).public (P a.means.keys).agree _ a.remote _ l c.args.payload.now q.0 (take c.in-Ok.len c.write_message.new.out) fits q.1 q.2,
-      subst (λ (z : HandshakeValue g.row.K.Denot). ValueMatches P z (after_own v q.0 c.args.payload.now)) (sym c.go_on.ensures.value)
-          (gone-to P c.args.self.now c.write_message.new.state a.remote v s q.0 c.args.payload.now v.remote left l.known_is),
+      ap (party_of P) c.go_on.ensures.value
+          ∙ gone-to P c.args.self.now c.write_message.new.state a.remote q.0 c.args.payload.now v.remote left l.known_is,
     )
 
 pub returns-in-Err-clause-writes : goal.returns-in-Err-clause-writes
-returns-in-Err-clause-writes g c v s =
+returns-in-Err-clause-writes g c =
     let P = g.K.Keys.pairs in
+    let v : Party = party_of P c.args.self.now in
     let a = c.self.inside in
     let less = writes-next g.K.Keys.pairs c.self.inside c.self.invariant c.args.self.now c.self.view_is
     (length c.args.payload.now) c.requires.due in
-    let l = speaking-next g.K.Keys.pairs c.self.inside c.self.invariant less c.deref-2.result.now c.deref-2.ensures.0 c.args.self.now c.self.view_is v s
+    let l = speaking-next g.K.Keys.pairs c.self.inside c.self.invariant less c.deref-2.result.now c.deref-2.ensures.0 c.args.self.now c.self.view_is
     c.deref.result.now c.deref.ensures.0 (length c.args.payload.now) c.requires.due in
-    let trial = trial-next g.K.Keys.pairs c.self.inside c.self.invariant less c.deref-2.result.now c.deref-2.ensures.0 c.args.self.now c.self.view_is v s c.for_trial-state.result c.for_trial-state.ensures in
-    let q = c.in-Err.ensures.written in
-    let s0 : ValueMatches P (held_in a) v = subst (λ (z : HandshakeValue g.row.K.Denot). ValueMatches P z v) (sym c.self.view_is) s in (
+    let trial = trial-next g.K.Keys.pairs c.self.inside c.self.invariant less c.deref-2.result.now c.deref-2.ensures.0 c.args.self.now c.self.view_is c.for_trial-state.result c.for_trial-state.ensures in
+    let q = c.in-Err.ensures.written in (
       (
-        short-next g.K.Keys.pairs c.self.inside c.self.invariant less c.deref-2.result.now c.deref-2.ensures.0 c.args.self.now c.self.view_is v s
+        short-next g.K.Keys.pairs c.self.inside c.self.invariant less c.deref-2.result.now c.deref-2.ensures.0 c.args.self.now c.self.view_is
             (length c.args.payload.now) c.requires.due,
         lacking v a.means.role a.means.has_psks (P a.means.keys).public (P a.means.keys).agree _ a.remote _ l _ q,
       ),
-      ends P (held_in a) v s0 true refl,
+      ap (λ (z : HandshakeValue g.row.K.Denot). ended_party (party_of P z)) c.self.view_is,
     )

@@ -1,28 +1,28 @@
 use Rattle.std.proofs.Common.{◌≡◌, ◌+◌, ◌-◌, ◌<◌, ◌≤◌, ◌^◌, ℕ, Bool, List, length, take, ap, sym, subst, ◌∙◌, arith, length-take, drop}
-use Rattle.noise_handshake.proofs.Common.{after_ciphertext, writer_of, count_by, is_psk, IsTrue, list_all, Some, Token, SymmetricState, keyed, nonce_now, Writer, Given, after_tokens, has_own, ArePlaced, PlacedToken, tokens_of, tokens_at, Ok}
+use Rattle.noise_handshake.proofs.Common.{Party, party_of, after_ciphertext, writer_of, count_by, is_psk, IsTrue, list_all, Some, Token, SymmetricState, keyed, nonce_now, Writer, Given, after_tokens, has_own, ArePlaced, PlacedToken, tokens_of, tokens_at, Ok}
 use Rattle.noise_handshake.specs.inner.Writing.{WritesTokens}
 use Rattle.noise_handshake.specs.inner.Stepping.{TellsGiven}
 use Rattle.noise_handshake.specs.inner.Following.{Fronts}
 use Rattle.noise_handshake.proofs.Counting.{after_tokens-most}
-use Rattle.noise_handshake.proofs.Followed.{count-now, front_of, front-written, front-unwritten, leaves-wrote, whole-due, widths-most}
+use Rattle.noise_handshake.proofs.Followed.{count-due, front_of, front-written, front-unwritten, leaves-wrote, whole-due, widths-most}
 use Rattle.noise_handshake.proofs.Fronts.{all-take, tokens-take, placed-take}
 use Rattle.noise_handshake.proofs.Later.{count-take}
 use Rattle.noise_handshake.proofs.Layouts.{length-tokens_of}
-use Rattle.noise_handshake.proofs.LateParties.{supplied-not, value-of}
+use Rattle.noise_handshake.proofs.LateParties.{supplied-not}
 use Rattle.noise_handshake.proofs.Next.{speaks-next, speaks-ours, places-next, psks-before, nonces-next, own-ours, trial-next, due-next}
 use Rattle.noise_handshake.proofs.Widths.{given-carry}
 use Rattle.noise_handshake.proofs.Wrote.{for-view}
 use Rattle.noise_handshake.proofs.handshake.Handshake.write_front.Goals as goal
 
 pub returns-in-Some-clause-front : goal.returns-in-Some-clause-front
-returns-in-Some-clause-front g c v xs s within given = absurd (supplied-not c.args.self.now c.requires.more s.supplied _ c.in-Some.ensures.lacks)
+returns-in-Some-clause-front g c xs all within given = absurd (supplied-not c.args.self.now c.requires.more all _ c.in-Some.ensures.lacks)
 
 pub returns-then-count-len-clause-front : goal.returns-then-count-len-clause-front
-returns-then-count-len-clause-front g c v xs s within given =
+returns-then-count-len-clause-front g c xs all within given =
     let P = g.K.Keys.pairs in
     let a = c.self.inside in
     let less = speaks-next P a c.self.invariant c.args.self.now c.self.view_is c.requires.due in
-    let n = count-now P a c.self.invariant less c.args.self.now c.self.view_is v (value-of P c.args.self.now v s) in
+    let n = count-due P a c.self.invariant less c.args.self.now c.self.view_is in
     absurd (omega (arith, c.if-count-len.true, c.len.ensures.value, n, within))
 
 pub write_tokens-requires-clause-psks : goal.write_tokens-requires-clause-psks
@@ -120,7 +120,7 @@ returns-in-Ok-clause-leaves g c all =
     (speaks-ours P a c.self.invariant c.args.self.now c.self.view_is c.requires.due)
 
 pub returns-in-Ok-clause-front : goal.returns-in-Ok-clause-front
-returns-in-Ok-clause-front g c v xs s within given =
+returns-in-Ok-clause-front g c xs all within given =
     let P = g.K.Keys.pairs in
     let a = c.self.inside in
     let less = speaks-next P a c.self.invariant c.args.self.now c.self.view_is c.requires.due in
@@ -131,10 +131,10 @@ returns-in-Ok-clause-front g c v xs s within given =
     let placed : ArePlaced a.means.has_psks (keyed c.for_trial-state.result) 0 (take count ds) =
     placed-take a.means.has_psks (keyed c.for_trial-state.result) 0 ds count
     (places-next P a c.self.invariant less ds d c.for_trial-state.result c.for_trial-state.ensures) in
-    let t = value-of P c.args.self.now v s in
+    let v : Party = party_of P c.args.self.now in
     let trial : c.for_trial-state.result ≡ v.state =
-    trial-next P a c.self.invariant less ds d c.args.self.now c.self.view_is v t c.for_trial-state.result c.for_trial-state.ensures in
-    let l = due-next P a c.self.invariant less ds d c.args.self.now c.self.view_is v t c.deref.result.now c.deref.ensures.0 c.requires.due in
+    trial-next P a c.self.invariant less ds d c.args.self.now c.self.view_is c.for_trial-state.result c.for_trial-state.ensures in
+    let l = due-next P a c.self.invariant less ds d c.args.self.now c.self.view_is c.deref.result.now c.deref.ensures.0 c.requires.due in
     let w : Writer = writer_of P a.means in
     let most = widths-most a.means.has_psks (keyed c.for_trial-state.result) (tokens_of (take count ds)) in
     let room : c.in-Ok.from ≤ length c.write_tokens.new.out =
@@ -151,7 +151,7 @@ returns-in-Ok-clause-front g c v xs s within given =
     c.write_tokens.new.steps) trial (c.in-Ok.ensures.told 0 placed))) xs given
 
 pub returns-in-Err-clause-front : goal.returns-in-Err-clause-front
-returns-in-Err-clause-front g c v xs s within given =
+returns-in-Err-clause-front g c xs all within given =
     let P = g.K.Keys.pairs in
     let a = c.self.inside in
     let less = speaks-next P a c.self.invariant c.args.self.now c.self.view_is c.requires.due in
@@ -162,10 +162,10 @@ returns-in-Err-clause-front g c v xs s within given =
     let placed : ArePlaced a.means.has_psks (keyed c.for_trial-state.result) 0 (take count ds) =
     placed-take a.means.has_psks (keyed c.for_trial-state.result) 0 ds count
     (places-next P a c.self.invariant less ds d c.for_trial-state.result c.for_trial-state.ensures) in
-    let t = value-of P c.args.self.now v s in
+    let v : Party = party_of P c.args.self.now in
     let trial : c.for_trial-state.result ≡ v.state =
-    trial-next P a c.self.invariant less ds d c.args.self.now c.self.view_is v t c.for_trial-state.result c.for_trial-state.ensures in
-    let l = due-next P a c.self.invariant less ds d c.args.self.now c.self.view_is v t c.deref.result.now c.deref.ensures.0 c.requires.due in
+    trial-next P a c.self.invariant less ds d c.args.self.now c.self.view_is c.for_trial-state.result c.for_trial-state.ensures in
+    let l = due-next P a c.self.invariant less ds d c.args.self.now c.self.view_is c.deref.result.now c.deref.ensures.0 c.requires.due in
     let w : Writer = writer_of P a.means in
     absurd (for-view v a.means.role a.means.has_psks (P a.means.keys).public (P a.means.keys).agree _ a.remote _ l
     (λ w z s us. (ys : List (List ℕ)) → Given w z s (take count us) ys → ⊥)

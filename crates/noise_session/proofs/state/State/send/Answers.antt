@@ -3,6 +3,10 @@ use Rattle.std.specs.Option.{ForSome}
 use Rattle.std.specs.Prelude.{if◌then◌else◌}
 use Rattle.noise_session.proofs.Common.{is_none, put_mid, Progress, refusal, message_length, frame_len_of, progress_in, frame}
 use Rattle.noise_session.proofs.Common.{after_own, Phase, TransportValue, seal_fault, EndState, EndMatches, PhaseMatches, HandshakeMatches, OpenMatches, EndedMatches, transport_in, ended_session, Sends, lacks_dh_result, sends_handshake, sends_transport}
+use Rattle.noise_handshake.specs.Calls.{HasNotWritten, HasWrittenTo}
+use Rattle.noise_handshake.specs.Matching.{Matches}
+use Rattle.noise_handshake.specs.Party.{Party}
+use Rattle.noise_handshake.specs.declared.faults.WriteFault.TheVariants as write
 use Rattle.noise_session.specs.inner.Phases.{is_due}
 use Rattle.noise_session.specs.Sending.Sends.{refuses}
 use Rattle.noise_session.proofs.Parties.{no-hash, is-open, as-handshake, as-open, refused-by}
@@ -75,7 +79,8 @@ returns-in-Ok-clause-writes g c =
       refused = rw due tt;
       sends = λ v s.
           let m = as-handshake g.K.Keys.pairs _ _ _ v c.in-Handshaking.is s.phase in
-          let w = c.in-Ok.ensures.writes v.party m.party in
+          let w = subst (λ (u : Party). HasWrittenTo (Matches g.K.Keys.pairs) u c.args.payload.now written c.write.new.self len) m.party.is
+          (c.in-Ok.ensures.writes m.party.supplied) in
           let due-by = refused-by g.K.Keys.pairs _ _ v n _ s.phase c.in-Handshaking.is due-there in
           let next : EndState = record v { party = after_own v.party w.0 c.args.payload.now } in (
             next,
@@ -142,9 +147,10 @@ returns-in-Err-Agreement-clause-writes g c =
       refused = rw due tt;
       sends = λ v s.
           let m = as-handshake g.K.Keys.pairs _ _ _ v c.in-Handshaking.is s.phase in
-          let w = rw c.in-Err-Agreement.field-0-is at c.in-Err-Agreement.ensures.writes v.party m.party in
+          let w = subst (λ (u : Party). HasNotWritten (Matches g.K.Keys.pairs) u n c.write.new.self (write.Agreement c.in-Err-Agreement.token)) m.party.is
+          (rw c.in-Err-Agreement.field-0-is at c.in-Err-Agreement.ensures.writes m.party.supplied) in
           let due-by = refused-by g.K.Keys.pairs _ _ v n _ s.phase c.in-Handshaking.is due-there in
-          let ended_party : EndedMatches c.write.new.self.role None (ended_session v) = record { ended = refl; role = w.1.role; hash = sym (no-hash v m.more) } in (
+          let ended_party : EndedMatches c.write.new.self.role None (ended_session v) = record { ended = refl; role = ap (λ (u : Party). u.role) w.1.is; hash = sym (no-hash v m.more) } in (
             lacks_dh_result v c.args.payload.now c.in-Err-Agreement.token due-by w.0.1,
             record {
               phase = subst (λ (p : Phase g.row.K.Denot). PhaseMatches g.K.Keys.pairs p (ended_session v)) (sym c.end.ensures) ended_party;
