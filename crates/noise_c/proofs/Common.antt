@@ -4,10 +4,10 @@ pub use Rattle.std.proofs.lemmas.Bool.{and_from, and_parts, cases_lt, eqb-false,
 pub use Rattle.std.proofs.lemmas.Bool.Decides.{nat_tests}
 pub use Rattle.std.specs.Prelude.{Bool, IfOk, IfSome, IsOk, MatchOption, None, Option, Result, Some, cond, count_by, find, if◌then◌else◌, is_some, max, nat_eq, nat_lt, ◌==◌, ◌||◌}
 pub use Rattle.noise_handshake.specs.Counterparts.{is_dh}
-pub use Rattle.noise_handshake.specs.Asking.{LeavesUnread, LeavesUnwritten, Wants, WantsPskToRead, WantsPskToWrite, after_asked}
-pub use Rattle.noise_handshake.specs.HandshakeValue.{HandshakeValue, IsAgreement, IsOfTurn, IsWant, after_unread, ended_as, length_unless, message_len_of, write_fault}
-pub use Rattle.noise_handshake.specs.Late.{IsLateWhole, MatchesWith, party_with, with_later}
-pub use Rattle.noise_handshake.specs.Matching.{DoesNotRead, IsParty, after_message, after_not_read, after_own}
+pub use Rattle.noise_handshake.specs.Asking.{IsWantedToRead, IsWantedToWrite, WantsPskToRead, WantsPskToWrite}
+pub use Rattle.noise_handshake.specs.HandshakeValue.{HandshakeValue, IsAgreement, ended_as, length_unless, message_len_of, read_fault, write_fault}
+pub use Rattle.noise_handshake.specs.Late.{IsLateWhole, party_with, with_later}
+pub use Rattle.noise_handshake.specs.Matching.{DoesNotRead, DoesNotWrite, IsParty, after_message, after_own}
 pub use Rattle.noise_handshake.specs.Party.{Accepts, BeginsAs, CanBegin, Fit, Fits, Party, Reader, Reads, Refuses, Stops, cause_at, cause_of, dh_result_of, first_psk, known_after, own_at, psks_after, reader, remote_after, remote_at, tokens_at, tokens_now}
 pub use Rattle.noise_handshake.specs.Setup.{party_at_start, psks_of, setup_fault}
 pub use Rattle.noise_handshake.specs.Wanting.{LacksDhResultFor, StopsFor, WantsToRead, WantsToWrite}

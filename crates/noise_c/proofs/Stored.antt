@@ -1,7 +1,10 @@
 -- The struct matches what the handshake stood for.
-use Rattle.std.proofs.Common.{◌≡◌, ℕ, ◌+◌, ◌-◌, ◌++◌, ◌≤◌, List, length, drop, length-append, drop-drop, ap, sym, subst, ◌∙◌, arith, slice_range}
-use Rattle.noise_c.proofs.Common.{drop-append_seam, Plan, IsValid, HandshakeValue, message_len_of, with_later, IsLateWhole, Table, Party, Accepts, IsParty, after_message, after_own, Writes, NoiseHandshake, pairs_in, text_from_c, handshake_from_c, IsPatternOf, IsUsable, KeepsParty, WasRead, WasWritten}
-use Rattle.noise_handshake.specs.Late.{MatchesWith}
+use Rattle.std.proofs.Common.{◌≡◌, ℕ, ◌+◌, ◌-◌, ◌++◌, ◌≤◌, List, length, drop, take, length-append, drop-drop, ap, sym, subst, ◌∙◌, arith, slice_range}
+use Rattle.noise_c.proofs.Common.{drop-append_seam, count_by, SymmetricState, Remote, party_with, Plan, IsValid, HandshakeValue, message_len_of, with_later, IsLateWhole, Table, Party, Accepts, IsParty, after_message, after_own, Writes, NoiseHandshake, pairs_in, text_from_c, handshake_from_c, IsPatternOf, IsUsable, KeepsParty, WasRead, WasWritten}
+use Rattle.std.proofs.lemmas.List.{drop-append-le, take-append-drop}
+use Rattle.noise_names.specs.Tokens.{is_psk}
+use Rattle.noise_handshake.specs.Calls.{HasRead, HasWritten}
+use Rattle.noise_handshake.specs.HandshakeValue.{HasPsks, after_read, after_written, gone_on, tokens_due}
 use Rattle.noise_handshake.specs.Matching.{party_of}
 use Rattle.noise_handshake.specs.Opening.{IsOpenedOf, OpenedValue}
 use Rattle.noise_c.specs.declared.codes.numbers.TheConstants.{HANDSHAKE}
@@ -20,16 +23,41 @@ module _ (old new : NoiseHandshake) (h h2 : HandshakeValue Table) (p : Plan) (v 
     matches = subst (λ (z : HandshakeValue Table). IsParty pairs_in (with_later z k.later) w) (sym (ap (λ (q : Plan). handshake_from_c q new) (one p k.pattern ∙ sym stays) ∙ stored)) s;
   }
 
-  pub was-read : (message new_message : List ℕ) (start end : ℕ) → start ≤ end
-      → (xs : List (List ℕ)) → Accepts v message xs (slice_range new_message start end) → IsParty pairs_in (with_later h2 k.later) (after_message v xs (slice_range new_message start end))
-      → WasRead p v message (slice_range new_message start (start + (end - start))) new
-  was-read message new_message start end r xs a s =
-      let n : end ≡ start + (end - start) = omega (arith, r) in
-      subst (λ (z : ℕ). WasRead p v message (slice_range new_message start z) new) n
-      (record { carried = xs; accepts = a; keeps = keeps (after_message v xs (slice_range new_message start end)) s })
+  module _ (xs : List (List ℕ)) (payload : List ℕ) (few : HasPsks h) where
+    psks-with : drop (count_by is_psk (tokens_due h)) h.psks ++ k.later ≡ drop (count_by is_psk (tokens_due h)) (h.psks ++ k.later)
+    psks-with = sym (drop-append-le (count_by is_psk (tokens_due h)) h.psks k.later few)
 
-  pub was-written : (payload message : List ℕ) (xs : List (List ℕ)) → Writes v payload xs message → IsParty pairs_in (with_later h2 k.later) (after_own v xs payload) → WasWritten p v payload message new
-  was-written payload message xs w s = record { carried = xs; writes = w; keeps = keeps (after_own v xs payload) s }
+    is-after-read : h2 ≡ after_read h xs payload → IsParty pairs_in (with_later h2 k.later) (after_message v xs payload)
+    is-after-read e =
+        ap (λ (z : HandshakeValue Table). party_with pairs_in k.later z) e
+        ∙ ap (λ (u : List (List ℕ)). record (after_message (party_with pairs_in k.later h) xs payload) { psks = u }) psks-with
+        ∙ ap (λ (z : Party). after_message z xs payload) opened
+
+    is-after-written : h2 ≡ after_written h xs payload → IsParty pairs_in (with_later h2 k.later) (after_own v xs payload)
+    is-after-written e =
+        ap (λ (z : HandshakeValue Table). party_with pairs_in k.later z) e
+        ∙ ap (λ (u : List (List ℕ)). record (after_own (party_with pairs_in k.later h) xs payload) { psks = u }) psks-with
+        ∙ ap (λ (z : Party). after_own z xs payload) opened
+
+  pub was-read : (message new_message : List ℕ) (start end : ℕ) → start ≤ end
+      → HasRead (party_with pairs_in k.later h) h message (slice_range new_message start end) h2
+      → WasRead p v message (slice_range new_message start (start + (end - start))) new
+  was-read message new_message start end r q =
+      let payload = slice_range new_message start end in
+      let xs = q.1.0 in
+      let n : end ≡ start + (end - start) = omega (arith, r) in
+      subst (λ (z : ℕ). WasRead p v message (slice_range new_message start z) new) n (record {
+        carried = xs;
+        accepts = subst (λ (z : Party). Accepts z message xs payload) opened q.1.1;
+        keeps = keeps (after_message v xs payload) (is-after-read xs payload q.0 q.1.2);
+      })
+
+  pub was-written : (payload message : List ℕ) → HasWritten (party_with pairs_in k.later h) h payload message h2 → WasWritten p v payload message new
+  was-written payload message q = record {
+    carried = q.1.0;
+    writes = subst (λ (z : Party). Writes z payload q.1.0 message) opened q.1.1;
+    keeps = keeps (after_own v q.1.0 payload) (is-after-written q.1.0 payload q.0 q.1.2);
+  }
 
 -- a handshake that was opened matches what the struct matches
 pub matches-for : (old : NoiseHandshake) (h : HandshakeValue Table) (p : Plan) (v : Party) → ((q : Plan) → IsPatternOf (text_from_c old) q → q ≡ h.pattern) → h ≡ handshake_from_c h.pattern old → (k : KeepsParty old p v)
@@ -37,7 +65,7 @@ pub matches-for : (old : NoiseHandshake) (h : HandshakeValue Table) (p : Plan) (
 matches-for old h p v one same k = subst (λ (z : HandshakeValue Table). IsParty pairs_in (with_later z k.later) v) (ap (λ (q : Plan). handshake_from_c q old) (one p k.pattern) ∙ sym same) k.matches
 
 -- and so does what it leaves
-pub opens-with : (h : HandshakeValue Table) (later : List (List ℕ)) (o : OpenedValue) (v : Party) → MatchesWith pairs_in later h v
+pub opens-with : (h : HandshakeValue Table) (later : List (List ℕ)) (o : OpenedValue) (v : Party) → party_with pairs_in later h ≡ v
     → IsOpenedOf o (party_of pairs_in h) → IsOpenedOf o v
 opens-with h later o v s p =
     subst (λ (z : Party). IsOpenedOf o z) s (record {
@@ -116,8 +144,17 @@ psks-after old h h2 taken few count same after =
     sym (drop-append_seam taken h2.psks) ∙ ap (drop (length taken)) (sym after ∙ ap (λ (z : HandshakeValue Table). z.psks) same)
     ∙ drop-drop (length taken) (9 - c) old.psks ∙ ap (λ (k : ℕ). drop k old.psks) i
 
+-- the psks that a message took, and the others
+psks-taken : (h h2 : HandshakeValue Table) (state : SymmetricState) (remote : Remote) → h2 ≡ gone_on h state remote
+    → h.psks ≡ take (count_by is_psk (tokens_due h)) h.psks ++ h2.psks
+psks-taken h h2 state remote e =
+    let n : ℕ = count_by is_psk (tokens_due h) in
+    sym (take-append-drop n h.psks) ∙ ap (λ (z : HandshakeValue Table). take n h.psks ++ z.psks) (sym e)
+
 -- the same by the slice that lends them
-pub psks-left : (old : NoiseHandshake) (h h2 : HandshakeValue Table) (taken left : List (List ℕ)) → old.psk_count ≤ 9 → length h.psks ≡ old.psk_count
-    → h ≡ handshake_from_c h.pattern old → h.psks ≡ taken ++ h2.psks → left ≡ h2.psks → h2.psks ≡ drop (9 - length left) old.psks
-psks-left old h h2 taken left few count same after e =
-    psks-after old h h2 taken few count same after ∙ ap (λ (z : List (List ℕ)). drop (9 - length z) old.psks) (sym e)
+pub psks-left : (old : NoiseHandshake) (h h2 : HandshakeValue Table) (state : SymmetricState) (remote : Remote) (left : List (List ℕ)) → old.psk_count ≤ 9
+    → length h.psks ≡ old.psk_count → h ≡ handshake_from_c h.pattern old → h2 ≡ gone_on h state remote → left ≡ h2.psks
+    → h2.psks ≡ drop (9 - length left) old.psks
+psks-left old h h2 state remote left few count same after e =
+    psks-after old h h2 _ few count same (psks-taken h h2 state remote after)
+    ∙ ap (λ (z : List (List ℕ)). drop (9 - length z) old.psks) (sym e)

@@ -1,7 +1,7 @@
 -- What a message that passed leaves.
-use Rattle.std.proofs.Common.{◌≡◌, ℕ, Bool, true, false, refl}
+use Rattle.std.proofs.Common.{◌≡◌, Bool, true, false, refl}
 use Rattle.std.specs.Prelude.{if◌then◌else◌}
-use Rattle.noise_handshake.proofs.Common.{Option, Some, None, HandshakeValue, read_fault, write_fault}
+use Rattle.noise_handshake.proofs.Common.{Option, Some, None, HandshakeValue, read_fault}
 
 some-none : {A : Type 0} (x : A) → ◌≡◌ {A = Option A} (Some x) None → ⊥
 some-none x e = cc
@@ -13,6 +13,3 @@ unended false x o e = refl
 -- where a message is due, the handshake hasn't ended
 pub unended-read : {K : Type 0} (h : HandshakeValue K) → read_fault h ≡ None → h.ended ≡ false
 unended-read h e = unended h.ended _ _ e
-
-pub unended-write : {K : Type 0} (h : HandshakeValue K) (len : ℕ) → write_fault h len ≡ None → h.ended ≡ false
-unended-write h len e = unended h.ended _ _ e

@@ -25,11 +25,11 @@ pub use Rattle.noise_state.specs.Symmetric.{after_ciphertext, ciphertext, initia
 pub use Rattle.noise_state.specs.Standing.{keyed, nonce_now}
 pub use Rattle.noise_state.specs.declared.symmetric.SymmetricState.{SymmetricState}
 pub use Rattle.noise_handshake.specs.Counterparts.{Counterparts, DhResultsAgree, DhResultsAlike, IsEquipped, counterpart, is_dh, keys_if, shown_after, shown_before, xor_agreement, xor_public}
-pub use Rattle.noise_handshake.specs.HandshakeValue.{Advances, HandshakeValue, HasPsks, IsAgreement, ended_as, is_turn, length_now, length_unless, message_len_of, read_fault, write_fault}
-pub use Rattle.noise_handshake.specs.Asking.{Wants, WantsPskToRead, WantsPskToWrite}
-pub use Rattle.noise_handshake.specs.Late.{IsLateWhole, IsPskAfter, MatchesWith, party_with, with_later}
+pub use Rattle.noise_handshake.specs.HandshakeValue.{HandshakeValue, HasPsks, IsAgreement, after_read, after_read_fault, after_write_fault, after_written, ended_as, gone_on, is_turn, length_now, length_unless, message_len_of, read_fault, tokens_due, write_fault}
+pub use Rattle.noise_handshake.specs.Asking.{IsWantedToRead, IsWantedToWrite, WantsPskToRead, WantsPskToWrite}
+pub use Rattle.noise_handshake.specs.Late.{IsLateWhole, IsPskAfter, party_with, with_later}
 pub use Rattle.noise_handshake.specs.Length.{Carries, Carry, added_width, keyed_after, keyed_after_tokens, tag_width, token_width, tokens_width}
-pub use Rattle.noise_handshake.specs.Matching.{DoesNotRead, DoesNotWrite, IsKeyed, IsParty, IsSupplied, Matches, party_of, after_message, after_not_read, after_not_written, after_own, ended_party}
+pub use Rattle.noise_handshake.specs.Matching.{DoesNotRead, DoesNotWrite, IsKeyed, IsParty, IsSupplied, Matches, party_of, after_message, after_own, ended_party}
 pub use Rattle.noise_handshake.specs.Message.{after_payload, after_token, after_tokens, before_payload, message_bytes, token_bytes, with_ephemeral}
 pub use Rattle.noise_handshake.specs.Nonces.{nonce_after, nonce_after_message, nonce_after_messages, nonce_after_tokens, nonce_due}
 pub use Rattle.noise_handshake.specs.Party.{Accepts, BeginsAs, CanBegin, Fit, Fits, Listens, Party, Reader, Reads, Refuses, Speaks, Stops, cause_at, cause_of, dh_result_of, first_psk, known_after, other_psks, own_at, psks_after, reader, remote_after, remote_at, start, tokens_at, tokens_now, with_premessage}

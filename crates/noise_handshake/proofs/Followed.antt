@@ -1,12 +1,12 @@
 -- What following the tokens of a message leaves.
-use Rattle.std.proofs.Common.{◌≡◌, ℕ, suc, ◌+◌, ◌*◌, ◌<◌, ◌≤◌, Bool, true, false, List, [], ◌∷◌, ◌++◌, length, take, drop, refl, ap, sym, subst, ◌∙◌, arith, take_all, length-drop}
-use Rattle.noise_handshake.proofs.Common.{length-take-le, take-append-drop, Advances, after_payload, Ok, Err, Some, count_by, drop_at, is_psk, after_ciphertext, ciphertext, after_own, message_bytes, HasPsks, Matches, MessageLayout, LaysNext, Plan, has_key, passed_places, Token, E, S, Ee, Es, Se, Ss, Initiator, other, turn_from, has_psk, SymmetricState, keyed, nonce_now, Remote, Cause, before_payload, after_tokens, Reader, BeginsAs, remote_after, Writer, Given, tag_width, token_width, tokens_width, keyed_after, keyed_after_tokens, nonce_after_message, tokens_at, tokens_now, HandshakeValue, IsParty, IsSupplied, party_of, Party, held_in, IsKept, KnowsRemote, PlacedToken, tokens_of, Carry}
+use Rattle.std.proofs.Common.{◌≡◌, ℕ, suc, ◌+◌, ◌*◌, ◌<◌, ◌≤◌, Bool, true, false, List, [], ◌∷◌, ◌++◌, length, take, drop, refl, ap, sym, subst, ◌∙◌, arith, take_all}
+use Rattle.noise_handshake.proofs.Common.{Ok, Err, Some, drop_at, after_ciphertext, ciphertext, after_own, message_bytes, HasPsks, Matches, MessageLayout, LaysNext, Plan, has_key, passed_places, Token, E, S, Ee, Es, Se, Ss, Initiator, other, turn_from, has_psk, SymmetricState, keyed, nonce_now, Remote, Cause, before_payload, after_tokens, Reader, BeginsAs, remote_after, Writer, Given, tag_width, token_width, tokens_width, keyed_after, keyed_after_tokens, nonce_after_message, tokens_at, tokens_now, HandshakeValue, gone_on, tokens_due, IsSupplied, party_of, Party, held_in, IsKept, KnowsRemote, PlacedToken, tokens_of, Carry}
 use Rattle.noise_names.specs.declared.token.Token.TheVariants.{Psk}
 use Rattle.noise_keys.specs.Keys.{KeyPairs}
 use Rattle.noise_handshake.specs.Steps.{after_steps}
 use Rattle.noise_handshake.specs.declared.following.Front.{Front}
 use Rattle.noise_handshake.specs.declared.handshake.Handshake.TheInside.{Inside}
-use Rattle.noise_handshake.specs.inner.Following.{Fronts, IsFront, Leaves, gone_on, tokens_due}
+use Rattle.noise_handshake.specs.inner.Following.{Fronts, IsFront, Leaves}
 use Rattle.noise_handshake.specs.inner.Reading.{ReadsTokens}
 use Rattle.noise_handshake.specs.inner.Stepping.{TellsRead, TellsWritten}
 use Rattle.noise_handshake.specs.inner.Writing.{WritesTokens}
@@ -14,7 +14,7 @@ use Rattle.noise_handshake.proofs.Apart.{front-apart, reads-leads}
 use Rattle.noise_handshake.proofs.Giving.{given-front, given-one}
 use Rattle.noise_handshake.proofs.Knowing.{knows-read, knows-wrote}
 use Rattle.noise_handshake.proofs.Layouts.{length-tokens_of}
-use Rattle.noise_handshake.proofs.LateParties.{next-count}
+use Rattle.noise_handshake.proofs.LateParties.{supplied-on}
 use Rattle.noise_handshake.proofs.Next.{key-next, tokens-next, unchanged-next}
 use Rattle.noise_handshake.proofs.Told.{width-read, width-written}
 use Rattle.noise_handshake.proofs.Counting.{message-counted}
@@ -172,31 +172,12 @@ module _ {K : Type 0} (pairs : K → KeyPairs) (a : Inside K) (i : IsKept pairs 
         (record { e = left.knows.e; s = left.knows.s }))
 
 -- one message more has passed
-module _ {K : Type 0} (pairs : K → KeyPairs) (h : HandshakeValue K) (state : SymmetricState) (remote : Remote) where
-  pub gone-advances : HasPsks h → h.ended ≡ false → Advances h (gone_on h state remote)
-  gone-advances has going =
-      let n : ℕ = count_by is_psk (tokens_due h) in
-      record {
-        pattern = refl;
-        role = refl;
-        keys = refl;
-        passed = refl;
-        ended = going;
-        taken = take n h.psks;
-        count = length-take-le n h.psks has;
-        psks = sym (take-append-drop n h.psks);
-      }
-
-  -- for the party of the handshake
-  pub gone-to : (xs : List (List ℕ)) (payload : List ℕ) (known : Remote) → let v = party_of pairs h in
-      state ≡ after_payload (has_psk v.pattern) v.state (tokens_now v) xs payload → remote ≡ known
-      → IsParty pairs (gone_on h state remote) (record (after_own v xs payload) { remote = known })
-  gone-to xs payload known k e =
-      ap (λ (z : SymmetricState). party_of pairs (gone_on h z remote)) k
-      ∙ ap (λ (z : Remote). record (after_own (party_of pairs h) xs payload) { remote = z }) e
+module _ {K : Type 0} (h : HandshakeValue K) (state : SymmetricState) (remote : Remote) where
+  pub gone-same : (r : SymmetricState) (known : Remote) → state ≡ r → remote ≡ known → gone_on h state remote ≡ gone_on h r known
+  gone-same r known k e = ap (λ (z : SymmetricState). gone_on h z remote) k ∙ ap (λ (z : Remote). gone_on h r z) e
 
 -- a handshake that has all psks goes past a message
-module _ {K : Type 0} (pairs : K → KeyPairs) (h : HandshakeValue K) (all : IsSupplied h) (less : h.passed < length h.pattern.messages) where
+module _ {K : Type 0} (pairs : K → KeyPairs) (h : HandshakeValue K) (all : IsSupplied h) where
   abbrev v : Party
   v = party_of pairs h
 
@@ -212,7 +193,7 @@ module _ {K : Type 0} (pairs : K → KeyPairs) (h : HandshakeValue K) (all : IsS
       let rest : drop f.from message ≡ ciphertext after payload =
       ap (drop f.from) spelled ∙ drop_at piece (ciphertext after payload) f.from (sym q.from) in
       record {
-        is = gone-to pairs h state f.remote xs payload known
-            (mixed ∙ ap (after_ciphertext f.state) rest ∙ ap (λ (z : SymmetricState). after_ciphertext z (ciphertext after payload)) q.state) q.remote;
-        supplied = omega (arith, next-count h less all, length-drop (count_by is_psk (tokens_due h)) h.psks);
+        is = ap (party_of pairs) (gone-same h state f.remote _ known
+            (mixed ∙ ap (after_ciphertext f.state) rest ∙ ap (λ (z : SymmetricState). after_ciphertext z (ciphertext after payload)) q.state) q.remote);
+        supplied = supplied-on h all state f.remote;
       }

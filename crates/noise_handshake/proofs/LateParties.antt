@@ -1,16 +1,13 @@
 -- A handshake for the parties whose psks begin with those that were handed in.
-use Rattle.std.proofs.Common.{rules, ◌≡◌, ℕ, zero, suc, ◌+◌, ◌-◌, ◌<◌, ◌≤◌, List, [], ◌∷◌, ◌++◌, length, take, drop, refl, ap, sym, subst, ◌∙◌, arith, take-take, length-take, length-append}
+use Rattle.std.proofs.Common.{rules, ◌≡◌, ℕ, zero, suc, ◌+◌, ◌-◌, ◌<◌, ◌≤◌, List, [], ◌∷◌, ◌++◌, length, take, drop, refl, ap, sym, subst, ◌∙◌, arith, take-take, length-take, length-append, length-drop}
 use Rattle.std.specs.Prelude.{Bool, true, false, not, is_none, is_some, if◌then◌else◌}
-use Rattle.noise_handshake.proofs.Common.{take-append-le, drop-append-le, ◌&&◌, ◌==◌, Option, Some, None, MatchOption, count_by, Token, is_psk, Own, Cause, Agreement, ReadFault, Err, Ok, MatchResult, Result, HandshakeValue, HasPsks, Advances, IsAgreement, is_turn, read_fault, write_fault, WriteFault, E, S, Ephemeral, Static, IsLateWhole, IsSound, KnowsRemote, is_among, places_of, IsSupplied, IsParty, Matches, MatchesWith, party_of, party_with, Plan, psks_of, WantsPskToRead, WantsPskToWrite, DoesNotRead, DoesNotWrite, after_message, after_own, after_not_written, Party, Accepts, BeginsAs, Listens, CanBegin, Refuses, Speaks, reader, tokens_at, tokens_now, LacksDhResultFor, WantsToRead, WantsToWrite, Writes, LacksDhResult, LacksDhResultAt, writer, IsPskAfter, BeginsBefore}
-use Rattle.noise_handshake.specs.Calls.{HasNotWritten, HasWrittenTo}
-use Rattle.noise_handshake.specs.HandshakeValue.{after_write_fault}
+use Rattle.noise_handshake.proofs.Common.{take-append-le, ◌&&◌, ◌==◌, Option, Some, None, MatchOption, count_by, Token, is_psk, Own, Cause, Agreement, HandshakeValue, HasPsks, IsAgreement, SymmetricState, Remote, gone_on, tokens_due, is_turn, read_fault, write_fault, WriteFault, E, S, Ephemeral, Static, IsLateWhole, IsSound, KnowsRemote, is_among, places_of, IsSupplied, party_of, party_with, psks_of, WantsPskToRead, WantsPskToWrite, Party, Accepts, BeginsAs, Listens, CanBegin, Refuses, Speaks, reader, tokens_at, tokens_now, LacksDhResultFor, WantsToRead, WantsToWrite, Writes, LacksDhResult, LacksDhResultAt, writer, IsPskAfter, BeginsBefore}
 use Rattle.noise_handshake.proofs.Fronts.{lacks-all, lacks-first, lacks-for-all}
 use Rattle.noise_handshake.proofs.Apart.{front-apart, reads-leads}
 use Rattle.noise_handshake.specs.declared.stop.Stop.{Stop}
 use Rattle.noise_handshake.proofs.Later.{count-take, count-less, given-same, leads-same, reads-same, stops-same, stops-for-same, lacks-same, lacks-for-same}
 use Rattle.noise_handshake.proofs.Once.{refuses-one}
 use Rattle.noise_handshake.proofs.PskPlaces.{no-place, no-psk, psk-place}
-use Rattle.noise_handshake.specs.declared.faults.ReadFault.TheVariants as read
 use Rattle.noise_handshake.specs.declared.faults.WriteFault.TheVariants as write
 use Rattle.noise_keys.specs.Keys.{KeyPairs}
 
@@ -35,13 +32,6 @@ module _ (v : Party) (u : List (List ℕ)) (n : ℕ) (e : take n u ≡ take n v.
 
   pub refuses-back : (m : List ℕ) (k : ℕ) (cause : Cause) → count_by is_psk (take (suc k) (tokens_now v)) ≤ n → Refuses v m k cause → Refuses (holding v u) m k cause
   refuses-back m k cause c a = search (rules, stops-same)
-
-  -- it isn't refused for another cause
-  pub refuses-not : (m : List ℕ) (k j : ℕ) (cause : Cause) → count_by is_psk (take (suc k) (tokens_now v)) ≤ n → Refuses (holding v u) m k cause
-      → ((token : ℕ) → Refuses (holding v u) m token Agreement → ⊥) → Refuses v m j Agreement → ⊥
-  refuses-not m k j cause c a none r =
-      let one = refuses-one v m j k Agreement cause r (refuses-partial m k cause c a) in
-      none k (subst (λ (z : Cause). Refuses (holding v u) m k z) (sym one.1) a)
 
   pub wants-partial : (m : List ℕ) (own : Own) (key : List ℕ) (k : ℕ) → count_by is_psk (take k (tokens_now v)) ≤ n
       → (w : WantsToRead (holding v u) m own key) → suc (length w.stops.before) ≤ k → WantsToRead v m own key
@@ -93,16 +83,17 @@ psk-none v m n remote c w = no-psk (tokens_now v) w.before w.later n c w.tokens 
 
 -- ---- a handshake that has all psks
 
-psks-from : (ms : List (List Token)) (n : ℕ) → n < length ms → psks_of (drop n ms) ≡ count_by is_psk (tokens_at ms n) + psks_of (drop (suc n) ms)
-psks-from [] n h = absurd (omega (arith, h))
-psks-from (ts ∷ ms) zero h = refl
-psks-from (ts ∷ ms) (suc n) h = psks-from ms n (omega (arith, h))
+psks-from : (ms : List (List Token)) (n : ℕ) → psks_of (drop n ms) ≡ count_by is_psk (tokens_at ms n) + psks_of (drop (suc n) ms)
+psks-from [] zero = refl
+psks-from [] (suc n) = refl
+psks-from (ts ∷ ms) zero = refl
+psks-from (ts ∷ ms) (suc n) = psks-from ms n
 
-module _ {K : Type 0} (h : HandshakeValue K) (less : h.passed < length h.pattern.messages) (all : IsSupplied h) where
-  pub next-count : length h.psks ≡ count_by is_psk (tokens_at h.pattern.messages h.passed) + psks_of (drop (h.passed + 1) h.pattern.messages)
+module _ {K : Type 0} (h : HandshakeValue K) (all : IsSupplied h) where
+  next-count : length h.psks ≡ count_by is_psk (tokens_at h.pattern.messages h.passed) + psks_of (drop (h.passed + 1) h.pattern.messages)
   next-count =
       let next : suc h.passed ≡ h.passed + 1 = omega arith in
-      all ∙ psks-from h.pattern.messages h.passed less
+      all ∙ psks-from h.pattern.messages h.passed
       ∙ ap (λ (i : ℕ). count_by is_psk (tokens_at h.pattern.messages h.passed) + psks_of (drop i h.pattern.messages)) next
 
   -- none is lacking for the next message
@@ -113,11 +104,8 @@ module _ {K : Type 0} (h : HandshakeValue K) (less : h.passed < length h.pattern
   supplied-not k a = no-place (tokens_at h.pattern.messages h.passed) (length h.psks) k supplied-now a
 
   -- nor after it
-  pub supplied-after : (h2 : HandshakeValue K) → Advances h h2 → IsSupplied h2
-  supplied-after h2 a =
-      let rest : psks_of (drop h2.passed h2.pattern.messages) ≡ psks_of (drop (h.passed + 1) h.pattern.messages) =
-      ap (λ (p : Plan). psks_of (drop h2.passed p.messages)) a.pattern ∙ ap (λ (n : ℕ). psks_of (drop n h.pattern.messages)) a.passed in
-      omega (arith, next-count, a.count, ap length a.psks, length-append a.taken h2.psks, rest)
+  pub supplied-on : (state : SymmetricState) (remote : Remote) → IsSupplied (gone_on h state remote)
+  supplied-on state remote = omega (arith, next-count, length-drop (count_by is_psk (tokens_due h)) h.psks)
 
 -- ---- what a party wants
 
@@ -136,6 +124,13 @@ module _ (v : Party) (m : List ℕ) (o : Option (Own × List ℕ))
   pub wants-none : o ≡ None → (token : ℕ) → Refuses v m token Agreement → ⊥
   wants-none e = search rules
 
+-- it isn't refused for one where none is
+pub lacks-no-dh-result : (v : Party) (m : List ℕ) (token : ℕ) (cause : Cause) (o : Option (Own × List ℕ))
+    → MatchOption o ((token : ℕ) → Refuses v m token Agreement → ⊥) (λ want. WantsToRead v m want.0 want.1)
+    → Refuses v m token cause → o ≡ None → cause ≡ Agreement → ⊥
+lacks-no-dh-result v m token cause o reported r e f =
+    wants-none v m o reported e token (subst (λ (z : Cause). Refuses v m token z) f r)
+
 -- ---- the psks that were handed in
 
 module _ {K : Type 0} (pairs : K → KeyPairs) (h : HandshakeValue K) (later : List (List ℕ)) where
@@ -147,26 +142,6 @@ module _ {K : Type 0} (pairs : K → KeyPairs) (h : HandshakeValue K) (later : L
 
   pub agrees : take (length h.psks) h.psks ≡ take (length h.psks) (h.psks ++ later)
   agrees = sym (take-append-le n h.psks later (omega arith))
-
-  pub after-read : (h2 : HandshakeValue K) (xs : List (List ℕ)) (payload : List ℕ) → HasPsks h
-      → IsParty pairs h2 (after_message (party_of pairs h) xs payload)
-      → MatchesWith pairs later h2 (after_message v xs payload)
-  after-read h2 xs payload few e =
-      let c : ℕ = count_by is_psk (tokens_now v) in
-      ap (λ (z : Party). record z { psks = z.psks ++ later }) e
-      ∙ ap (λ (u : List (List ℕ)). record (after_message v xs payload) { psks = u }) (sym (drop-append-le c h.psks later few))
-
-  pub after-written : (h2 : HandshakeValue K) (xs : List (List ℕ)) (payload : List ℕ) → HasPsks h
-      → IsParty pairs h2 (after_own (party_of pairs h) xs payload)
-      → MatchesWith pairs later h2 (after_own v xs payload)
-  after-written h2 xs payload few e =
-      let c : ℕ = count_by is_psk (tokens_now v) in
-      ap (λ (z : Party). record z { psks = z.psks ++ later }) e
-      ∙ ap (λ (u : List (List ℕ)). record (after_own v xs payload) { psks = u }) (sym (drop-append-le c h.psks later few))
-
-  -- nothing has changed
-  pub still-with : (h2 : HandshakeValue K) → IsParty pairs h2 (party_of pairs h) → MatchesWith pairs later h2 v
-  still-with h2 e = ap (λ (z : Party). record z { psks = z.psks ++ later }) e
 
   -- ---- writing
 
@@ -234,19 +209,8 @@ module _ {K : Type 0} (pairs : K → KeyPairs) (h : HandshakeValue K) (later : L
       pub read-lacks : ((token : ℕ) → Refuses (party_of pairs h) m token Agreement → ⊥) → (token : ℕ) → Refuses v m token Agreement → ⊥
       read-lacks none token r = none token (refuses-back v h.psks n agrees m token Agreement (few-here (suc token)) r)
 
-      declines-partial : (fault : ReadFault) → DoesNotRead (party_of pairs h) m fault → DoesNotRead v m fault
-      declines-partial read.Ended d = d
-      declines-partial read.Done d = d
-      declines-partial read.NotYourTurn d = speaks-partial v h.psks d
-      declines-partial (read.Refused token cause) d = refuses-partial v h.psks n agrees m token cause (few-here (suc token)) d
-
-      pub read-declines : (fault : ReadFault) → DoesNotRead (party_of pairs h) m fault
-          × ((token : ℕ) → Refuses (party_of pairs h) m token Agreement → ⊥)
-          → DoesNotRead v m fault × ((token : ℕ) → Refuses v m token Agreement → ⊥)
-      read-declines fault d = (
-        declines-partial fault d.0,
-        λ token r. d.1 token (refuses-back v h.psks n agrees m token Agreement (few-here (suc token)) r),
-      )
+      pub read-refuses : (token : ℕ) (cause : Cause) → Refuses (party_of pairs h) m token cause → Refuses v m token cause
+      read-refuses token cause r = refuses-partial v h.psks n agrees m token cause (few-here (suc token)) r
 
       pub read-none : (remote : Option (List ℕ)) → WantsPskToRead v n m remote → ⊥
       read-none remote x = psk-none v m n remote few x
@@ -285,10 +249,8 @@ module _ {K : Type 0} (pairs : K → KeyPairs) (h : HandshakeValue K) (later : L
         pub before-not : (remote : Option (List ℕ)) → WantsPskToRead v n m remote → ⊥
         before-not remote x = psk-not v m n k stop.token stop.cause remote at stops.0 before-refused x
 
-        pub before-declined : stop.want ≡ None → (j : ℕ) → Refuses v m j Agreement → ⊥
-        before-declined e j r =
-            refuses-not v h.psks n agrees m stop.token j stop.cause few-to stops.1
-            (wants-none (party_of pairs h) m stop.want stops.2 e) r
+        pub before-declined : stop.want ≡ None → stop.cause ≡ Agreement → ⊥
+        before-declined e f = lacks-no-dh-result (party_of pairs h) m stop.token stop.cause stop.want stops.2 stops.1 e f
 
         pub before-dh-result : (want : Own × List ℕ) → stop.want ≡ Some want → WantsToRead v m want.0 want.1
         before-dh-result want e =
@@ -317,32 +279,9 @@ no-agreement false false true false (write.Agreement token) e x = cc
 pub fault-no-agreement : {K : Type 0} (h : HandshakeValue K) (payload : ℕ) (f : WriteFault) → write_fault h payload ≡ Some f → IsAgreement f → ⊥
 fault-no-agreement h payload f e = search no-agreement
 
-pub written-no-agreement : (v : Party) (payload : ℕ) (f : WriteFault) → DoesNotWrite v payload f → ((token : ℕ) → LacksDhResult v token → ⊥) → IsAgreement f → ⊥
-written-no-agreement v payload write.Ended w none x = x
-written-no-agreement v payload write.Done w none x = x
-written-no-agreement v payload write.NotYourTurn w none x = x
-written-no-agreement v payload write.TooLong w none x = x
-written-no-agreement v payload (write.Agreement token) w none x = none token w.1
-
--- a fault of a party with other psks, which isn't the want of a DH result
-pub withholds-partial : (v : Party) (u : List (List ℕ)) (payload : ℕ) (f : WriteFault) → (IsAgreement f → ⊥) → DoesNotWrite (holding v u) payload f
-    → DoesNotWrite v payload f
-withholds-partial v u payload write.Ended n w = w
-withholds-partial v u payload write.Done n w = w
-withholds-partial v u payload write.NotYourTurn n w = listens-partial v u w
-withholds-partial v u payload write.TooLong n w = (speaks-partial v u w.0, w.1)
-withholds-partial v u payload (write.Agreement token) n w = absurd (n tt)
-
 pub lacks-partial : (v : Party) (u : List (List ℕ)) (n : ℕ) → take n u ≡ take n v.psks → (k : ℕ) → count_by is_psk (take (suc k) (tokens_now v)) ≤ n
     → LacksDhResult (holding v u) k → LacksDhResult v k
 lacks-partial v u n e k c a = search lacks-same
-
-pub withheld-view : (v : Party) (f : WriteFault) → (IsAgreement f → ⊥) → after_not_written v f ≡ v
-withheld-view v write.Ended n = refl
-withheld-view v write.Done n = refl
-withheld-view v write.NotYourTurn n = refl
-withheld-view v write.TooLong n = refl
-withheld-view v (write.Agreement token) n = absurd (n tt)
 
 -- ---- the psks that are missing
 
@@ -387,21 +326,3 @@ due-of false false true false e = refl
 pub speaks-due : {K : Type 0} (h : HandshakeValue K) (payload : ℕ) → write_fault h payload ≡ None
     → (not h.ended && not (h.passed == length h.pattern.messages) && is_turn h.role h.passed) ≡ true
 speaks-due h payload e = search due-of
-
-supplied-fault : {K : Type 0} (h : HandshakeValue K) (fault : WriteFault) → IsSupplied h → IsSupplied (after_write_fault h fault)
-supplied-fault h write.Ended all = all
-supplied-fault h write.Done all = all
-supplied-fault h write.NotYourTurn all = all
-supplied-fault h write.TooLong all = all
-supplied-fault h (write.Agreement token) all = all
-
-module _ {K : Type 0} (pairs : K → KeyPairs) (h h2 : HandshakeValue K)
-    (less : h.passed < length h.pattern.messages) (all : IsSupplied h) (v : Party) (payload : List ℕ) where
-  pub writes-supplied : (bytes : List ℕ) (result : Result ℕ WriteFault)
-      → MatchResult result (λ _. Advances h h2) (λ fault. h2 ≡ after_write_fault h fault)
-      → MatchResult result (HasWrittenTo (IsParty pairs) v payload bytes h2)
-      (HasNotWritten (IsParty pairs) v (length payload) h2)
-      → MatchResult result (HasWrittenTo (Matches pairs) v payload bytes h2)
-      (HasNotWritten (Matches pairs) v (length payload) h2)
-  writes-supplied bytes (Ok len) a w = (w.0, w.1, record { is = w.2; supplied = supplied-after h less all h2 a })
-  writes-supplied bytes (Err fault) a w = (w.0, record { is = w.1; supplied = subst (λ (z : HandshakeValue K). IsSupplied z) (sym a) (supplied-fault h fault all) })

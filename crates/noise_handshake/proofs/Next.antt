@@ -198,8 +198,3 @@ module _ {K : Type 0} (pairs : K → KeyPairs) (a : Inside K) (i : IsKept pairs 
           subst (λ (z : HandshakeValue K). Speaking (party_of pairs z) a.means.role a.means.has_psks (pairs a.means.keys).public (pairs a.means.keys).agree left a.remote (tokens_of placed)) seen
           (speaking pairs (held_in a) i.2 len (none-write pairs a i h seen len none) a.means.has_psks left (tokens_of placed) i.0
           (items-from ds a.psks.items a.used f) tokens-next)
-
-    pub short-next : (len : ℕ) → write_fault h len ≡ None → overhead_of h.pattern (h.passed + 1) + len ≤ 65535
-    short-next len none =
-        subst (λ (z : HandshakeValue K). overhead_of z.pattern (z.passed + 1) + len ≤ 65535) seen
-        (writes-short pairs (held_in a) i.2 len (none-write pairs a i h seen len none))

@@ -14,7 +14,7 @@ Reported ended all ours (Some read.NotYourTurn) = (ended ≡ false) × (all ≡ 
 Reported ended all ours (Some (read.Refused token cause)) = ⊥
 Reported ended all ours None = (ended ≡ false) × (all ≡ false) × (ours ≡ false)
 
-reported : (ended all ours : Bool)
+pub reported : (ended all ours : Bool)
     → Reported ended all ours (if ended then Some read.Ended else if all then Some read.Done else if ours then Some read.NotYourTurn else None)
 reported true all ours = refl
 reported false true ours = (refl, refl)

@@ -1,7 +1,8 @@
 -- What a handshake that writes asks and leaves.
 use Rattle.std.proofs.Common.{rules, ◌≡◌, ℕ, ◌+◌, ◌<◌, ◌≤◌, List, Bool, true, false, length, sym, ap, refl, ◌∙◌, arith, not}
 use Rattle.std.specs.Prelude.{nat_lt, if◌then◌else◌}
-use Rattle.noise_handshake.proofs.Common.{nat_tests, Option, None, Some, ◌==◌, Token, Role, Initiator, turn_from, has_psk, has_key, overhead_of, keyed, Own, WriteFault, Remote, Writer, writer, Given, LacksDhResultAt, Writes, LacksDhResult, message_bytes, added_width, Party, Speaks, tokens_at, tokens_now, Speaking, HandshakeValue, write_fault, is_turn, length_now, length_unless, message_len_of, IsSound, passed_places, party_of, same_role-true}
+use Rattle.noise_handshake.proofs.Common.{nat_tests, Option, None, Some, ◌==◌, Token, Role, Initiator, Responder, other, turn_from, has_psk, has_key, overhead_of, keyed, Own, WriteFault, Remote, Writer, writer, Given, LacksDhResultAt, Writes, LacksDhResult, message_bytes, added_width, Party, Speaks, tokens_at, tokens_now, Speaking, HandshakeValue, IsAgreement, DoesNotWrite, write_fault, is_turn, length_now, length_unless, message_len_of, IsSound, passed_places, party_of, same_role-true}
+use Rattle.std.proofs.lemmas.Bool.{eq-eqb}
 use Rattle.noise_handshake.proofs.Places.{overhead-is}
 use Rattle.noise_handshake.specs.declared.faults.WriteFault.TheVariants as write
 use Rattle.noise_keys.specs.Keys.{KeyPairs}
@@ -87,3 +88,20 @@ module _ (v : Party) (role : Role) (has_psks : Bool) (own : Own → Option (List
 
   pub lacking : (k : ℕ) → LacksDhResultAt (record { role = role; has_psks = has_psks; own = own; agree = agree }) known psks tokens k → LacksDhResult v k
   lacking k h = record { speaks = l.speaks; lacks = for-view (λ w z s ts. LacksDhResultAt w z s ts k) h }
+
+other-apart : (role turn : Role) → turn ≡ other role → turn ≡ role → ⊥
+other-apart Initiator turn e f = let bad : Initiator ≡ Responder = sym f ∙ e in cc
+other-apart Responder turn e f = let bad : Responder ≡ Initiator = sym f ∙ e in cc
+
+-- where a message is due none of the faults holds that come before its tokens
+module _ {K : Type 0} (pairs : K → KeyPairs) (h : HandshakeValue K) (len : ℕ) (none : write_fault h len ≡ None) where
+  clear-here : Clear h.ended (h.passed == length h.pattern.messages) (is_turn h.role h.passed) (nat_lt 65535 (length_now h len))
+  clear-here = clear h.ended (h.passed == length h.pattern.messages) (is_turn h.role h.passed) (nat_lt 65535 (length_now h len)) none
+
+  pub due-not : (fault : WriteFault) → (IsAgreement fault → ⊥) → DoesNotWrite (party_of pairs h) len fault → ⊥
+  due-not write.Ended far d = let e : true ≡ false = sym d ∙ clear-here.going in cc
+  due-not write.Done far d = let e : true ≡ false = sym (eq-eqb h.passed (length h.pattern.messages) d.1) ∙ clear-here.more in cc
+  due-not write.NotYourTurn far d =
+      other-apart h.role (turn_from Initiator h.passed) d.turn (same_role-true (turn_from Initiator h.passed) h.role clear-here.turn)
+  due-not write.TooLong far d = let test : nat_lt 65535 (overhead_of h.pattern (h.passed + 1) + len) ≡ false = clear-here.short in grind (arith, nat_tests, d.1)
+  due-not (write.Agreement token) far d = far tt

@@ -1,17 +1,23 @@
--- What the calls that read and write messages return and leave, for each party of the handshake (Noise, 5.3).
-use Rattle.std.specs.Prelude.{◌≡◌, ℕ, ◌≤◌, ◌==◌, ◌&&◌, not, List, length, take, drop, slice_range, Bool, false, Option, MatchOption}
+-- What the calls that read and write messages return and leave (Noise, 5.3).
+use Rattle.std.specs.Prelude.{◌≡◌, ℕ, ◌≤◌, ◌⊎◌, ◌==◌, ◌&&◌, not, List, length, take, drop, slice_range, Bool, false, Option, Some, None, Result, Ok, Err, MatchOption}
 use Rattle.noise_names.specs.declared.token.Role.{Role}
 use Rattle.noise_names.specs.Plan.{Plan}
+use Rattle.noise_keys.specs.Keys.{KeyPairs}
 use Rattle.noise_keys.specs.declared.keys.Own.{Own}
 use Rattle.noise_handshake.specs.declared.faults.Cause.TheVariants.{Agreement}
 use Rattle.noise_handshake.specs.declared.faults.ReadFault.{ReadFault}
+use Rattle.noise_handshake.specs.declared.faults.ReadFault.TheVariants as read
 use Rattle.noise_handshake.specs.declared.faults.Unread.{Unread}
+use Rattle.noise_handshake.specs.declared.faults.Unread.TheVariants as unread
 use Rattle.noise_handshake.specs.declared.faults.Unwritten.{Unwritten}
+use Rattle.noise_handshake.specs.declared.faults.Unwritten.TheVariants as unwritten
 use Rattle.noise_handshake.specs.declared.faults.WriteFault.{WriteFault}
-use Rattle.noise_handshake.specs.HandshakeValue.{HandshakeValue, is_turn}
-use Rattle.noise_handshake.specs.Asking.{LeavesUnread, LeavesUnwritten, after_asked}
-use Rattle.noise_handshake.specs.Matching.{DoesNotRead, DoesNotWrite, after_message, after_not_read, after_not_written, after_own}
-use Rattle.noise_handshake.specs.Party.{Party, Accepts, Refuses}
+use Rattle.noise_handshake.specs.declared.faults.WriteFault.TheVariants as write
+use Rattle.noise_handshake.specs.HandshakeValue.{HandshakeValue, HasPsks, IsAgreement, after_read, after_read_fault, after_unread, after_write_fault, after_written, is_turn, message_len_of, write_fault}
+use Rattle.noise_handshake.specs.Asking.{IsWantedToRead, IsWantedToWrite}
+use Rattle.noise_handshake.specs.Late.{LacksPskAt, party_with}
+use Rattle.noise_handshake.specs.Matching.{DoesNotRead, DoesNotWrite, party_of}
+use Rattle.noise_handshake.specs.Party.{Party, Accepts, Listens, Refuses}
 use Rattle.noise_handshake.specs.Wanting.{WantsToRead, WantsToWrite}
 use Rattle.noise_handshake.specs.Writing.{LacksDhResult, Writes}
 
@@ -40,38 +46,86 @@ ReadingWants v message want =
 abbrev pub WritingWants : Party → Option (Own × List ℕ) → Type 0
 WritingWants v want = MatchOption want ((token : ℕ) → LacksDhResult v token → ⊥) (λ w. WantsToWrite v w.0 w.1)
 
--- These go by the relation of a handshake to its party.
-module _ {K : Type 0} (M : HandshakeValue K → Party → Type 0) where
-  -- The party accepts the message as this payload, and the handshake matches the party after it.
-  abbrev pub HasRead : Party → List ℕ → List ℕ → HandshakeValue K → Type 0
-  HasRead v message payload h = (xs : List (List ℕ)) × Accepts v message xs payload
-      × M h (after_message v xs payload)
+-- The payload has this place in the message, and the bytes around it are as they were.
+abbrev pub IsPayloadIn : List ℕ → List ℕ → ℕ × ℕ → Type 0
+IsPayloadIn message new place = IsPlaceIn new place × IsSameAround message new place
 
-  -- It is read as the bytes at a place of these.
-  abbrev pub HasReadAt : Party → List ℕ → List ℕ → HandshakeValue K → ℕ × ℕ → Type 0
-  HasReadAt v message bytes h place = HasRead v message (slice_range bytes place.0 place.1) h
+-- The message is so many bytes of the buffer, as `message_len_of` has it, and the bytes after it are as they were.
+abbrev pub IsMessageIn : {K : Type 0} → HandshakeValue K → ℕ → List ℕ → List ℕ → ℕ → Type 0
+IsMessageIn h payload out new n =
+    (message_len_of h payload ≡ Some n) × (n ≤ length new) × (drop n new ≡ drop n out)
 
-  -- The party doesn't read the message for this fault, and the handshake matches the party after it.
-  abbrev pub HasNotRead : Party → List ℕ → HandshakeValue K → ReadFault → Type 0
-  HasNotRead v message h fault = DoesNotRead v message fault × M h (after_not_read v fault)
+-- The handshake has the psks of its next message, and goes on after it, which this party of it accepts as this payload.
+abbrev pub HasRead : {K : Type 0} → Party → HandshakeValue K → List ℕ → List ℕ → HandshakeValue K → Type 0
+HasRead v h message payload next =
+    HasPsks h × ((xs : List (List ℕ)) × Accepts v message xs payload × (next ≡ after_read h xs payload))
 
-  -- The same where what is lacking is asked for, and the handshake had so many psks.
-  abbrev pub IsLeftUnread : Party → ℕ → List ℕ → HandshakeValue K → Unread → Type 0
-  IsLeftUnread v n message h reason = LeavesUnread v n message reason × M h (after_asked v reason)
+-- It goes on after its own, as which this party of it writes the payload.
+abbrev pub HasWritten : {K : Type 0} → Party → HandshakeValue K → List ℕ → List ℕ → HandshakeValue K → Type 0
+HasWritten v h payload message next =
+    HasPsks h × ((xs : List (List ℕ)) × Writes v payload xs message × (next ≡ after_written h xs payload))
 
-  -- The party writes the payload as this message, and the handshake matches the party after it.
-  abbrev pub HasWritten : Party → List ℕ → List ℕ → HandshakeValue K → Type 0
-  HasWritten v payload message h = (xs : List (List ℕ)) × Writes v payload xs message
-      × M h (after_own v xs payload)
+module _ {K : Type 0} (pairs : K → KeyPairs) where
+  -- Why a message isn't read: none is due; or its party refuses it; or a psk is lacking for its token, which is as a DH
+  -- without a result.
+  abbrev pub IsNotRead : HandshakeValue K → List ℕ → ReadFault → Type 0
+  IsNotRead h message (read.Refused token cause) = (HasPsks h × Refuses (party_of pairs h) message token cause)
+      ⊎ (Listens (party_of pairs h) × LacksPskAt h token × (cause ≡ Agreement))
+  IsNotRead h message fault = DoesNotRead (party_of pairs h) message fault
 
-  -- It is written as so many of these bytes.
-  abbrev pub HasWrittenTo : Party → List ℕ → List ℕ → HandshakeValue K → ℕ → Type 0
-  HasWrittenTo v payload bytes h n = HasWritten v payload (take n bytes) h
+  -- The handshake hasn't read it for this fault.
+  abbrev pub HasNotRead : HandshakeValue K → List ℕ → ReadFault → HandshakeValue K → Type 0
+  HasNotRead h message fault next = IsNotRead h message fault × (next ≡ after_read_fault h fault)
 
-  -- The party doesn't write a payload of this length for this fault, and the handshake matches the party after it.
-  abbrev pub HasNotWritten : Party → ℕ → HandshakeValue K → WriteFault → Type 0
-  HasNotWritten v len h fault = DoesNotWrite v len fault × M h (after_not_written v fault)
+  -- What reading a message in place returns, and what it leaves of the handshake and of the message.
+  abbrev pub HandshakeReads : HandshakeValue K → List ℕ → Result (ℕ × ℕ) ReadFault → HandshakeValue K → List ℕ → Type 0
+  HandshakeReads h message (Ok place) next new =
+      IsPayloadIn message new place × HasRead (party_of pairs h) h message (slice_range new place.0 place.1) next
+  HandshakeReads h message (Err fault) next new = HasNotRead h message fault next × (new ≡ message)
 
-  -- The same where what is lacking is asked for: the party is as before.
-  abbrev pub IsLeftUnwritten : Party → ℕ → ℕ → HandshakeValue K → Unwritten → Type 0
-  IsLeftUnwritten v n len h reason = LeavesUnwritten v n len reason × M h v
+  -- Why a payload of this length isn't written: no message of this length is due; or its party has no DH result, or a
+  -- psk is lacking, for this token.
+  abbrev pub IsNotWritten : HandshakeValue K → ℕ → WriteFault → Type 0
+  IsNotWritten h payload (write.Agreement token) = (write_fault h payload ≡ None)
+      × ((HasPsks h × LacksDhResult (party_of pairs h) token) ⊎ LacksPskAt h token)
+  IsNotWritten h payload fault = DoesNotWrite (party_of pairs h) payload fault
+
+  -- What writing a payload returns, and what it leaves of the handshake and of the buffer: where a DH result lacks, any
+  -- bytes.
+  abbrev pub HandshakeWrites : HandshakeValue K → List ℕ → List ℕ → Result ℕ WriteFault → HandshakeValue K → List ℕ
+      → Type 0
+  HandshakeWrites h payload out (Ok n) next new =
+      IsMessageIn h (length payload) out new n × HasWritten (party_of pairs h) h payload (take n new) next
+  HandshakeWrites h payload out (Err fault) next new = IsNotWritten h (length payload) fault
+      × (next ≡ after_write_fault h fault) × ((IsAgreement fault → ⊥) → new ≡ out)
+
+-- The same of the calls that ask for what is lacking, for the party with these psks after those that were handed in.
+module _ {K : Type 0} (pairs : K → KeyPairs) (later : List (List ℕ)) where
+  -- Why a message isn't read: none is due; or its party refuses it, and for no DH result; or it wants this first.
+  abbrev pub IsUnread : HandshakeValue K → List ℕ → Unread → Type 0
+  IsUnread h message (unread.Wants want) = IsWantedToRead (party_with pairs later h) (length h.psks) message want
+  IsUnread h message (unread.Declined (read.Refused token cause)) =
+      Refuses (party_with pairs later h) message token cause × (cause ≡ Agreement → ⊥)
+  IsUnread h message (unread.Declined fault) = DoesNotRead (party_with pairs later h) message fault
+
+  -- What reading a message in place returns, and what it leaves.
+  abbrev pub ReadsOrAsks : HandshakeValue K → List ℕ → Result (ℕ × ℕ) Unread → HandshakeValue K → List ℕ → Type 0
+  ReadsOrAsks h message (Ok place) next new = IsPayloadIn message new place
+      × HasRead (party_with pairs later h) h message (slice_range new place.0 place.1) next
+  ReadsOrAsks h message (Err reason) next new =
+      IsUnread h message reason × (next ≡ after_unread h reason) × (new ≡ message)
+
+  -- Why a payload of this length isn't written: no message of this length is due; or its party wants this first.
+  abbrev pub IsUnwritten : HandshakeValue K → ℕ → Unwritten → Type 0
+  IsUnwritten h payload (unwritten.Wants want) =
+      (write_fault h payload ≡ None) × IsWantedToWrite (party_with pairs later h) (length h.psks) want
+  IsUnwritten h payload (unwritten.Withheld (write.Agreement token)) = ⊥
+  IsUnwritten h payload (unwritten.Withheld fault) = DoesNotWrite (party_with pairs later h) payload fault
+
+  -- What writing a payload returns, and what it leaves: all as it was where nothing is written.
+  abbrev pub WritesOrAsks : HandshakeValue K → List ℕ → List ℕ → Result ℕ Unwritten → HandshakeValue K → List ℕ
+      → Type 0
+  WritesOrAsks h payload out (Ok n) next new =
+      IsMessageIn h (length payload) out new n × HasWritten (party_with pairs later h) h payload (take n new) next
+  WritesOrAsks h payload out (Err reason) next new =
+      IsUnwritten h (length payload) reason × (next ≡ h) × (new ≡ out)

@@ -1,19 +1,19 @@
 -- What a handshake holds, and why it doesn't read or write now.
-use Rattle.std.specs.Prelude.{◌≡◌, ℕ, ◌+◌, ◌≤◌, ◌++◌, ◌==◌, nat_lt, List, length, Bool, true, false, not, Option, count_by, Some, None, if◌then◌else◌}
+use Rattle.std.specs.Prelude.{ℕ, ◌+◌, ◌≤◌, ◌==◌, nat_lt, List, length, drop, Bool, true, not, Option, count_by, Some, None, if◌then◌else◌}
 use Rattle.noise_names.specs.declared.token.Role.{Role}
 use Rattle.noise_names.specs.declared.token.Role.TheVariants.{Initiator}
 use Rattle.noise_names.specs.Tokens.{is_psk, same_role, turn_from}
-use Rattle.noise_names.specs.Plan.{Plan}
+use Rattle.noise_names.specs.declared.token.Token.{Token}
+use Rattle.noise_names.specs.Plan.{Plan, has_psk}
 use Rattle.noise_names.specs.Overhead.{overhead_of}
 use Rattle.noise_state.specs.declared.symmetric.SymmetricState.{SymmetricState}
-use Rattle.noise_handshake.specs.Party.{tokens_at}
+use Rattle.noise_handshake.specs.Message.{after_payload}
+use Rattle.noise_handshake.specs.Party.{remote_after, tokens_at}
 use Rattle.noise_handshake.specs.declared.remote.Remote.{Remote}
 use Rattle.noise_handshake.specs.declared.faults.ReadFault.{ReadFault}
 use Rattle.noise_handshake.specs.declared.faults.ReadFault.TheVariants as read
 use Rattle.noise_handshake.specs.declared.faults.Unread.{Unread}
 use Rattle.noise_handshake.specs.declared.faults.Unread.TheVariants as unread
-use Rattle.noise_handshake.specs.declared.faults.Unwritten.{Unwritten}
-use Rattle.noise_handshake.specs.declared.faults.Unwritten.TheVariants as unwritten
 use Rattle.noise_handshake.specs.declared.faults.WriteFault.{WriteFault}
 use Rattle.noise_handshake.specs.declared.faults.WriteFault.TheVariants as write
 
@@ -28,9 +28,13 @@ pub record HandshakeValue (K : Type 0) : Type 0 where
   pub ended : Bool
   pub state : SymmetricState
 
+-- the tokens of the next message
+abbrev pub tokens_due : {K : Type 0} → HandshakeValue K → List Token
+tokens_due h = tokens_at h.pattern.messages h.passed
+
 -- a psk is there for each psk token of the next message
 abbrev pub HasPsks : {K : Type 0} → HandshakeValue K → Type 0
-HasPsks h = count_by is_psk (tokens_at h.pattern.messages h.passed) ≤ length h.psks
+HasPsks h = count_by is_psk (tokens_due h) ≤ length h.psks
 
 -- whether the party writes the message after so many
 abbrev pub is_turn : Role → ℕ → Bool
@@ -69,16 +73,25 @@ message_len_of h payload = length_unless (write_fault h payload) (length_now h p
 abbrev pub ended_as : {K : Type 0} → HandshakeValue K → HandshakeValue K
 ended_as h = record h { ended = true }
 
--- one message more has passed, and its psk tokens have taken their psks from the front
-pub record Advances {K : Type 0} (old new : HandshakeValue K) : Type 0 where
-  pub pattern : new.pattern ≡ old.pattern
-  pub role : new.role ≡ old.role
-  pub keys : new.keys ≡ old.keys
-  pub passed : new.passed ≡ old.passed + 1
-  pub ended : new.ended ≡ false
-  pub taken : List (List ℕ)
-  pub count : length taken ≡ count_by is_psk (tokens_at old.pattern.messages old.passed)
-  pub psks : old.psks ≡ taken ++ new.psks
+-- the handshake after its next message, which leaves this state and these keys of the other party: its psk tokens have
+-- taken their psks from the front
+abbrev pub gone_on : {K : Type 0} → HandshakeValue K → SymmetricState → Remote → HandshakeValue K
+gone_on h state remote = record h {
+  remote = remote;
+  psks = drop (count_by is_psk (tokens_due h)) h.psks;
+  passed = h.passed + 1;
+  state = state;
+}
+
+-- after a message of the other party, whose tokens carry these texts, with this payload
+abbrev pub after_read : {K : Type 0} → HandshakeValue K → List (List ℕ) → List ℕ → HandshakeValue K
+after_read h xs payload =
+    gone_on h (after_payload (has_psk h.pattern) h.state (tokens_due h) xs payload)
+    (remote_after h.remote (tokens_due h) xs)
+
+-- after such a message of its own
+abbrev pub after_written : {K : Type 0} → HandshakeValue K → List (List ℕ) → List ℕ → HandshakeValue K
+after_written h xs payload = gone_on h (after_payload (has_psk h.pattern) h.state (tokens_due h) xs payload) h.remote
 
 -- what a fault of reading leaves
 abbrev pub after_read_fault : {K : Type 0} → HandshakeValue K → ReadFault → HandshakeValue K
@@ -95,31 +108,7 @@ abbrev pub after_write_fault : {K : Type 0} → HandshakeValue K → WriteFault 
 after_write_fault h (write.Agreement token) = ended_as h
 after_write_fault h _ = h
 
--- the same where it isn't written
-abbrev pub after_unwritten : {K : Type 0} → HandshakeValue K → Unwritten → HandshakeValue K
-after_unwritten h (unwritten.Wants want) = h
-after_unwritten h (unwritten.Withheld fault) = after_write_fault h fault
-
--- the fault of a message that was due
-abbrev pub IsRefusal : ReadFault → Type 0
-IsRefusal (read.Refused token cause) = Unit {0}
-IsRefusal _ = ⊥
-
--- the same, or what it wants
-abbrev pub IsOfDue : Unread → Type 0
-IsOfDue (unread.Wants want) = Unit {0}
-IsOfDue (unread.Declined fault) = IsRefusal fault
-
+-- a DH result is lacking
 abbrev pub IsAgreement : WriteFault → Type 0
 IsAgreement (write.Agreement token) = Unit {0}
 IsAgreement _ = ⊥
-
--- the same, or what it wants
-abbrev pub IsOfTurn : Unwritten → Type 0
-IsOfTurn (unwritten.Wants want) = Unit {0}
-IsOfTurn (unwritten.Withheld fault) = IsAgreement fault
-
--- it wants a DH result or a psk
-abbrev pub IsWant : Unwritten → Type 0
-IsWant (unwritten.Wants want) = Unit {0}
-IsWant (unwritten.Withheld fault) = ⊥

@@ -39,10 +39,6 @@ late_fault p role own remote psks =
 abbrev pub IsLateWhole : {K : Type 0} → (K → KeyPairs) → HandshakeValue K → Type 0
 IsLateWhole pairs h = (later : List (List ℕ)) × IsWholeValue pairs (with_later h later)
 
-module _ {K : Type 0} (pairs : K → KeyPairs) where
-  -- the party of a handshake with these psks after those that were handed in
-  abbrev pub party_with : List (List ℕ) → HandshakeValue K → Party
-  party_with later h = party_of pairs (with_later h later)
-
-  abbrev pub MatchesWith : List (List ℕ) → HandshakeValue K → Party → Type 0
-  MatchesWith later h v = party_with later h ≡ v
+-- the party of a handshake with these psks after those that were handed in
+abbrev pub party_with : {K : Type 0} → (K → KeyPairs) → List (List ℕ) → HandshakeValue K → Party
+party_with pairs later h = party_of pairs (with_later h later)

@@ -79,11 +79,6 @@ DoesNotRead v message read.Done = (v.ended ≡ false) × (v.passed ≡ length v.
 DoesNotRead v message read.NotYourTurn = Speaks v
 DoesNotRead v message (read.Refused token cause) = Refuses v message token cause
 
--- the party after such a fault: only a refusal of a message that was due ends the handshake
-abbrev pub after_not_read : Party → ReadFault → Party
-after_not_read v (read.Refused token cause) = ended_party v
-after_not_read v _ = v
-
 -- Why a party doesn't write a payload of this length.
 abbrev pub DoesNotWrite : Party → ℕ → WriteFault → Type 0
 DoesNotWrite v payload write.Ended = v.ended ≡ true
@@ -92,8 +87,3 @@ DoesNotWrite v payload write.NotYourTurn = Listens v
 DoesNotWrite v payload write.TooLong = Speaks v × (65535 < overhead_of v.pattern (v.passed + 1) + payload)
 DoesNotWrite v payload (write.Agreement token) = (overhead_of v.pattern (v.passed + 1) + payload ≤ 65535)
     × LacksDhResult v token
-
--- the party after such a fault: only a DH without a result ends the handshake
-abbrev pub after_not_written : Party → WriteFault → Party
-after_not_written v (write.Agreement token) = ended_party v
-after_not_written v _ = v

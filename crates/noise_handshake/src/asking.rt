@@ -13,11 +13,10 @@ impl<K: Keys> Handshake<K> {
     ghost use Rattle.noise_handshake.specs.declared.faults.Want.{Want};
     ghost use Rattle.noise_handshake.specs.declared.faults.Unread.{Unread};
     ghost use Rattle.noise_handshake.specs.declared.faults.Unwritten.{Unwritten};
-    ghost use Rattle.noise_handshake.specs.Asking.{LeavesUnread, Wants, WantsPskToRead, WantsPskToWrite};
-    ghost use Rattle.noise_handshake.specs.Calls.{HasReadAt, HasWrittenTo, IsLeftUnread, IsLeftUnwritten, IsPlaceIn, IsSameAround, speaks_now};
-    ghost use Rattle.noise_handshake.specs.HandshakeValue.{read_fault, write_fault, message_len_of, Advances, HasPsks};
-    ghost use Rattle.noise_handshake.specs.HandshakeValue.{after_unread, after_unwritten, IsOfDue, IsOfTurn, IsWant};
-    ghost use Rattle.noise_handshake.specs.Late.{LacksPskAt, MatchesWith, party_with};
+    ghost use Rattle.noise_handshake.specs.Asking.{IsWantedToRead, IsWantedToWrite, WantsPskToRead, WantsPskToWrite};
+    ghost use Rattle.noise_handshake.specs.Calls.{IsUnread, ReadsOrAsks, WritesOrAsks, speaks_now};
+    ghost use Rattle.noise_handshake.specs.HandshakeValue.{read_fault, write_fault, message_len_of, HasPsks};
+    ghost use Rattle.noise_handshake.specs.Late.{LacksPskAt, party_with};
     ghost use Rattle.noise_handshake.specs.Writing.{LacksDhResult};
 
     // What reading a due message lacks at or before token k, its first psk token without a psk; or where it is refused
@@ -26,10 +25,9 @@ impl<K: Keys> Handshake<K> {
         requires due { read_fault self.now ≡ None }
         requires within { self.now.passed ≤ length self.now.pattern.messages }
         requires psk { LacksPskAt self.now k }
-        ensures wants { (later : List (List ℕ))
-            → let leaves = LeavesUnread (party_with K.pairs later self.now) (length self.now.psks) message.now in
-            MatchResult result (λ want. leaves (Unread.Wants want))
-            (λ s. leaves (Unread.Declined (Refused s.token s.cause))) }
+        ensures wants { (later : List (List ℕ)) → let why = IsUnread K.pairs later self.now message.now in
+            MatchResult result (λ want. why (Unread.Wants want))
+            (λ s. why (Unread.Declined (Refused s.token s.cause))) }
         ensures asked { (later : List (List ℕ)) (remote : Option (List ℕ))
             → WantsPskToRead (party_with K.pairs later self.now) (length self.now.psks) message.now remote
             → result ≡ Ok (Want.Psk remote) }
@@ -54,17 +52,8 @@ impl<K: Keys> Handshake<K> {
     /// caller whose private keys lie elsewhere has the DH result made, puts it to its keys, and goes on.
     pub fn read_or_ask(&mut self, message: &mut [u8]) -> Result<(usize, usize), Unread>
         requires fits { length message.old ≤ 65535 }
-        ensures range { IfOk result (IsPlaceIn message.new) }
-        ensures beyond { IfOk result (IsSameAround message.old message.new) }
-        ensures unchanged { OnErr result (message.new ≡ message.old) }
-        ensures fault { MatchOption (read_fault self.old) (IfErr result IsOfDue)
-            (λ fault. result ≡ Err (Unread.Declined fault)) }
-        ensures state { MatchResult result (λ _. Advances self.old self.new)
-            (λ unread. self.new ≡ after_unread self.old unread) }
-        ensures reads { (later : List (List ℕ)) → let matches = MatchesWith K.pairs later in
-            let v = party_with K.pairs later self.old in
-            MatchResult result (HasReadAt matches v message.old message.new self.new)
-            (IsLeftUnread matches v (length self.old.psks) message.old self.new) }
+        ensures reads { (later : List (List ℕ))
+            → ReadsOrAsks K.pairs later self.old message.old result self.new message.new }
         ensures asked { (later : List (List ℕ)) (remote : Option (List ℕ))
             → WantsPskToRead (party_with K.pairs later self.old) (length self.old.psks) message.old remote
             → result ≡ Err (Unread.Wants (Want.Psk remote)) }
@@ -101,7 +90,7 @@ impl<K: Keys> Handshake<K> {
     pub fn wants_to_read(&self, message: &[u8]) -> Option<Want>
         ensures wants { (later : List (List ℕ)) → let v = party_with K.pairs later self.now in
             MatchOption result ((token : ℕ) → Refuses v message.now token Agreement → ⊥)
-            (λ want. LeavesUnread v (length self.now.psks) message.now (Unread.Wants want)) }
+            (IsWantedToRead v (length self.now.psks) message.now) }
         ensures asked { (later : List (List ℕ)) (remote : Option (List ℕ))
             → WantsPskToRead (party_with K.pairs later self.now) (length self.now.psks) message.now remote
             → result ≡ Some (Want.Psk remote) }
@@ -129,7 +118,7 @@ impl<K: Keys> Handshake<K> {
     pub fn wants_to_write(&self) -> Option<Want>
         ensures wants { (later : List (List ℕ)) → let v = party_with K.pairs later self.now in
             MatchOption result ((token : ℕ) → LacksDhResult v token → ⊥)
-            (λ want. Wants v (length self.now.psks) want) }
+            (IsWantedToWrite v (length self.now.psks)) }
         ensures asked { (later : List (List ℕ))
             → WantsPskToWrite (party_with K.pairs later self.now) (length self.now.psks)
             → result ≡ Some (Want.Psk self.now.remote.s) }
@@ -165,23 +154,13 @@ impl<K: Keys> Handshake<K> {
     /// write again.
     pub fn write_or_ask(&mut self, payload: &[u8], out: &mut [u8]) -> Result<usize, Unwritten>
         requires room { ForSome (message_len_of self.old (length payload.now)) (λ n. n ≤ length out.old) }
-        ensures len { IfOk result
-            (λ n. (message_len_of self.old (length payload.now) ≡ Some n) × (n ≤ length out.new)) }
-        ensures fault { MatchOption (write_fault self.old (length payload.now)) (IfErr result IsOfTurn) (λ fault.
-            (result ≡ Err (Unwritten.Withheld fault)) × (out.new ≡ out.old)) }
-        ensures state { MatchResult result (λ _. Advances self.old self.new)
-            (λ unwritten. self.new ≡ after_unwritten self.old unwritten) }
-        ensures beyond { IfOk result (λ n. drop n out.new ≡ drop n out.old) }
-        ensures asks { IfErr result (λ unwritten. IsWant unwritten → out.new ≡ out.old) }
-        ensures writes { (later : List (List ℕ)) → let matches = MatchesWith K.pairs later in
-            let v = party_with K.pairs later self.old in
-            MatchResult result (HasWrittenTo matches v payload.now out.new self.new)
-            (IsLeftUnwritten matches v (length self.old.psks) (length payload.now) self.new) }
+        ensures writes { (later : List (List ℕ))
+            → WritesOrAsks K.pairs later self.old payload.now out.old result self.new out.new }
         ensures asked { write_fault self.old (length payload.now) ≡ None → (later : List (List ℕ))
             → WantsPskToWrite (party_with K.pairs later self.old) (length self.old.psks)
             → result ≡ Err (Unwritten.Wants (Want.Psk self.old.remote.s)) }
     {
-        if let Some(fault) = self.withheld(payload.len()) {
+        if let Some(fault) = self.write_fault(payload.len()) {
             return Err(Unwritten::Withheld(fault));
         }
         if let Some(want) = self.wants_to_write() {

@@ -36,13 +36,13 @@ fn mix_ciphertext(state: &mut SymmetricState, ciphertext: &[u8])
 impl<K: Keys> Handshake<K> {
     ghost use Rattle.noise_handshake.specs.declared.faults.Cause.{Cause};
     ghost use Rattle.noise_handshake.specs.Calls.{speaks_now};
-    ghost use Rattle.noise_handshake.specs.HandshakeValue.{HasPsks, read_fault};
+    ghost use Rattle.noise_handshake.specs.HandshakeValue.{HasPsks, read_fault, tokens_due};
     ghost use Rattle.noise_handshake.specs.Matching.{IsSupplied, after_message, after_own, party_of};
     ghost use Rattle.noise_handshake.specs.Past.{GoesPast};
     ghost use Rattle.noise_handshake.specs.Party.{Accepts, BeginsAs, Listens, Refuses, Speaks, reader, remote_after, tokens_now};
     ghost use Rattle.noise_handshake.specs.Steps.{after_steps};
     ghost use Rattle.noise_handshake.specs.Writing.{Given, LacksDhResult, Writes, writer};
-    ghost use Rattle.noise_handshake.specs.inner.Following.{Fronts, TokensLeave, tokens_due};
+    ghost use Rattle.noise_handshake.specs.inner.Following.{Fronts, TokensLeave};
 
     // Reads the first so many tokens of a due message of the other party in a trial.
     fn read_front<S: Steps>(&self, message: &[u8], count: usize, steps: &mut S) -> Option<Front>

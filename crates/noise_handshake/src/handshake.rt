@@ -1,6 +1,6 @@
 //! A handshake of one party.
 
-ghost use Rattle.std.specs.Prelude.{◌≡◌, ◌≤◌, ◌<◌, ◌+◌, ◌-◌, ◌*◌, ◌∷◌, ◌++◌, [], true, false, ℕ, List, ◌↔◌, length, take, drop, Some, None, IsOk, IfOk, IfErr, OnErr, MatchResult, MatchOption, IsSome, IfSome, IsTrue, count_by};
+ghost use Rattle.std.specs.Prelude.{◌≡◌, ◌≤◌, ◌<◌, ◌+◌, ◌-◌, ◌*◌, ◌∷◌, ◌++◌, [], true, false, ℕ, List, ◌↔◌, length, take, drop, slice_range, Some, None, IsOk, IfOk, IfErr, MatchResult, MatchOption, IsSome, IfSome, IsTrue, count_by};
 ghost use Rattle.noise_names.specs.Tokens.{is_psk};
 ghost use Rattle.std.specs.Option.{ForSome};
 
@@ -63,16 +63,15 @@ impl<K: Keys> Handshake<K> {
     ghost use Rattle.noise_handshake.specs.declared.faults.WriteFault.{WriteFault};
     ghost use Rattle.noise_handshake.specs.Passed.{passed_places};
     ghost use Rattle.noise_handshake.specs.Party.{Refuses, Speaks, reader, tokens_at, tokens_now};
-    ghost use Rattle.noise_handshake.specs.HandshakeValue.{is_turn, read_fault, after_read_fault, write_fault, after_write_fault, message_len_of, IsRefusal};
-    ghost use Rattle.noise_handshake.specs.HandshakeValue.{IsAgreement, HasPsks, Advances, ended_as};
-    ghost use Rattle.noise_handshake.specs.Calls.{HasBegun, HasNotRead, HasNotWritten, HasRead, HasReadAt, HasWrittenTo, IsPlaceIn, IsSameAround, ReadingWants, WritingWants, speaks_now};
-    ghost use Rattle.noise_handshake.specs.Late.{IsLateWhole, LacksPskAt, MatchesWith, late_fault, party_with, with_later};
-    ghost use Rattle.noise_handshake.specs.Matching.{DoesNotWrite, IsParty, IsSupplied, Matches, party_of};
+    ghost use Rattle.noise_handshake.specs.HandshakeValue.{HasPsks, ended_as, gone_on, is_turn, message_len_of, read_fault, write_fault};
+    ghost use Rattle.noise_handshake.specs.Calls.{HandshakeReads, HandshakeWrites, HasBegun, HasNotRead, HasRead, IsPayloadIn, ReadingWants, WritingWants, speaks_now};
+    ghost use Rattle.noise_handshake.specs.Late.{IsLateWhole, LacksPskAt, late_fault, party_with, with_later};
+    ghost use Rattle.noise_handshake.specs.Matching.{IsParty, IsSupplied, Matches, party_of};
     ghost use Rattle.noise_handshake.specs.Opening.{IsOpenedOf};
     ghost use Rattle.noise_handshake.specs.Parts.{held_of, HasProgress};
     ghost use Rattle.noise_handshake.specs.Setup.{party_at_start, psks_of, setup_fault};
     ghost use Rattle.noise_handshake.specs.Writing.{writer};
-    ghost use Rattle.noise_handshake.specs.inner.Following.{Leaves, gone_on};
+    ghost use Rattle.noise_handshake.specs.inner.Following.{Leaves};
     ghost use Rattle.noise_handshake.specs.inner.Layout.{IsLaid};
     ghost use Rattle.noise_handshake.specs.inner.Listening.{BeginsBefore, StopsBefore};
     ghost use Rattle.noise_handshake.specs.inner.Speaking.{WriterWants};
@@ -121,9 +120,9 @@ impl<K: Keys> Handshake<K> {
         ensures fault { MatchOption (late_fault pattern role (K.pairs keys).public remote (length psks.now))
             (IsOk result)
             (λ fault. result ≡ Err fault) }
-        ensures matches { IfOk result (λ h. (later : List (List ℕ)) → MatchesWith K.pairs later h
-            (party_at_start pattern role prologue.now (K.pairs keys).public (K.pairs keys).agree
-            remote (psks.now ++ later))) }
+        ensures matches { IfOk result (λ h. (later : List (List ℕ)) → party_with K.pairs later h
+            ≡ party_at_start pattern role prologue.now (K.pairs keys).public (K.pairs keys).agree
+            remote (psks.now ++ later)) }
         ensures parts { IfOk result (HasBegun pattern role keys) }
         ensures psks { IfOk result (λ h. h.psks ≡ psks.now) }
         ensures valid { IsPattern pattern × IsValid pattern }
@@ -399,13 +398,12 @@ impl<K: Keys> Handshake<K> {
         requires fits { length message.old ≤ 65535 }
         requires due { read_fault self.old ≡ None }
         requires psks { HasPsks self.old }
-        ensures range { IfOk result (IsPlaceIn message.new) }
-        ensures beyond { IfOk result (IsSameAround message.old message.new) }
-        ensures unchanged { OnErr result (message.new ≡ message.old) }
-        ensures state { MatchResult result (λ _. Advances self.old self.new) (λ _. self.new ≡ self.old) }
         ensures reads { let v = party_of K.pairs self.old in MatchResult result
-            (HasReadAt (IsParty K.pairs) v message.old message.new self.new)
-            (λ stop. Refuses v message.old stop.token stop.cause × ReadingWants v message.old stop.want) }
+            (λ place. IsPayloadIn message.old message.new place
+            × HasRead v self.old message.old (slice_range message.new place.0 place.1) self.new)
+            (λ stop. Refuses v message.old stop.token stop.cause × ReadingWants v message.old stop.want
+            × (self.new ≡ self.old)
+            × (message.new ≡ message.old)) }
     {
         let psks = &self.psks[self.used..];
         let placed = &self.next.tokens[..];
@@ -432,18 +430,7 @@ impl<K: Keys> Handshake<K> {
     /// a DH has no result.
     pub fn read_within(&mut self, message: &mut [u8]) -> Result<(usize, usize), ReadFault>
         requires fits { length message.old ≤ 65535 }
-        ensures range { IfOk result (IsPlaceIn message.new) }
-        ensures beyond { IfOk result (IsSameAround message.old message.new) }
-        ensures unchanged { OnErr result (message.new ≡ message.old) }
-        ensures fault { MatchOption (read_fault self.old) (IfErr result IsRefusal) (λ fault. result ≡ Err fault) }
-        ensures state { MatchResult result (λ _. Advances self.old self.new)
-            (λ fault. self.new ≡ after_read_fault self.old fault) }
-        ensures reads { IsSupplied self.old → let v = party_of K.pairs self.old in MatchResult result
-            (HasReadAt (Matches K.pairs) v message.old message.new self.new)
-            (HasNotRead (Matches K.pairs) v message.old self.new) }
-        ensures psks { IfOk result (λ _. HasPsks self.old) }
-        ensures lacks { read_fault self.old ≡ None → (k : ℕ) → LacksPskAt self.old k
-            → result ≡ Err (ReadFault.Refused k Cause.Agreement) }
+        ensures reads { HandshakeReads K.pairs self.old message.old result self.new message.new }
     {
         if let Some(fault) = self.read_fault() {
             return Err(fault);
@@ -473,15 +460,9 @@ impl<K: Keys> Handshake<K> {
         ensures part { IfOk result
             (λ payload. (from : ℕ) × (payload.ref_ptr ≡ (message.entry.ref_ptr.0, message.entry.ref_ptr.1 + from))
             × (from + length payload.now ≤ length message.old)) }
-        ensures fault { MatchOption (read_fault self.old) (IfErr result IsRefusal) (λ fault. result ≡ Err fault) }
-        ensures state { MatchResult result (λ _. Advances self.old self.new)
-            (λ fault. self.new ≡ after_read_fault self.old fault) }
-        ensures reads { IsSupplied self.old → let v = party_of K.pairs self.old in MatchResult result
-            (λ payload. HasRead (Matches K.pairs) v message.old payload.now self.new)
-            (HasNotRead (Matches K.pairs) v message.old self.new) }
-        ensures psks { IfOk result (λ _. HasPsks self.old) }
-        ensures lacks { read_fault self.old ≡ None → (k : ℕ) → LacksPskAt self.old k
-            → result ≡ Err (ReadFault.Refused k Cause.Agreement) }
+        ensures reads { MatchResult result
+            (λ payload. HasRead (party_of K.pairs self.old) self.old message.old payload.now self.new)
+            (λ fault. HasNotRead K.pairs self.old message.old fault self.new) }
     {
         let (from, to) = self.read_within(message)?;
         Ok(&mut message[from..to])
@@ -532,15 +513,6 @@ impl<K: Keys> Handshake<K> {
         }
     }
 
-    // The same, as the parties of the handshake have it.
-    pub(crate) fn withheld(&self, payload_len: usize) -> Option<WriteFault>
-        ensures value { result ≡ write_fault self.now payload_len }
-        ensures due { result ≡ None → self.now.passed < length self.now.pattern.messages }
-        ensures withholds { IfSome result (DoesNotWrite (party_of K.pairs self.now) payload_len) }
-    {
-        self.write_fault(payload_len)
-    }
-
     /// The length of the message that `write` would give for a payload of this length, both in bytes. None where it
     /// would be refused before any DH.
     pub fn message_len(&self, payload_len: usize) -> Option<usize>
@@ -558,20 +530,7 @@ impl<K: Keys> Handshake<K> {
     /// holds; the other faults change nothing. A psk that is lacking is as a DH without a result.
     pub fn write(&mut self, payload: &[u8], out: &mut [u8]) -> Result<usize, WriteFault>
         requires room { ForSome (message_len_of self.old (length payload.now)) (λ n. n ≤ length out.old) }
-        ensures len { IfOk result
-            (λ n. (message_len_of self.old (length payload.now) ≡ Some n) × (n ≤ length out.new)) }
-        ensures fault { MatchOption (write_fault self.old (length payload.now)) (IfErr result IsAgreement)
-            (λ fault. (result ≡ Err fault)
-            × (out.new ≡ out.old)) }
-        ensures state { MatchResult result (λ _. Advances self.old self.new)
-            (λ fault. self.new ≡ after_write_fault self.old fault) }
-        ensures beyond { IfOk result (λ n. drop n out.new ≡ drop n out.old) }
-        ensures writes { IsSupplied self.old → let v = party_of K.pairs self.old in MatchResult result
-            (HasWrittenTo (Matches K.pairs) v payload.now out.new self.new)
-            (HasNotWritten (Matches K.pairs) v (length payload.now) self.new) }
-        ensures psks { IfOk result (λ _. HasPsks self.old) }
-        ensures lacks { write_fault self.old (length payload.now) ≡ None → (k : ℕ) → LacksPskAt self.old k
-            → result ≡ Err (WriteFault.Agreement k) }
+        ensures writes { HandshakeWrites K.pairs self.old payload.now out.old result self.new out.new }
     {
         if let Some(fault) = self.write_fault(payload.len()) {
             return Err(fault);
@@ -588,15 +547,7 @@ impl<K: Keys> Handshake<K> {
         requires room { ForSome (message_len_of self.old (length payload.now)) (λ n. n ≤ length out.old) }
         requires due { write_fault self.old (length payload.now) ≡ None }
         requires psks { HasPsks self.old }
-        ensures len { IfOk result
-            (λ n. (message_len_of self.old (length payload.now) ≡ Some n) × (n ≤ length out.new)) }
-        ensures fault { IfErr result IsAgreement }
-        ensures state { MatchResult result (λ _. Advances self.old self.new)
-            (λ fault. self.new ≡ after_write_fault self.old fault) }
-        ensures beyond { IfOk result (λ n. drop n out.new ≡ drop n out.old) }
-        ensures writes { let v = party_of K.pairs self.old in MatchResult result
-            (HasWrittenTo (IsParty K.pairs) v payload.now out.new self.new)
-            (HasNotWritten (IsParty K.pairs) v (length payload.now) self.new) }
+        ensures writes { HandshakeWrites K.pairs self.old payload.now out.old result self.new out.new }
     {
         let psks = &self.psks[self.used..];
         let mut state = self.state.for_trial();

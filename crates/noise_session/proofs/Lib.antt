@@ -3,6 +3,7 @@ pub mod Places
 pub mod Splitting
 pub mod Streaming
 pub mod Parties
+pub mod Passing
 pub mod Judging
 pub mod Making
 pub mod Growing

@@ -1,7 +1,14 @@
 -- Why a payload isn't written, by the faults of a handshake and of a transport.
-use Rattle.std.proofs.Common.{◌≡◌, ℕ, ◌==◌, ◌-◌, nat_lt, List, length, take, drop, Bool, true, false, not, ◌&&◌, Option, Some, None, Result, Ok, Err, MatchOption, IfErr, IsOk, if◌then◌else◌, refl}
-use Rattle.noise_session.proofs.Common.{⊤, put_mid, HandshakeValue, is_turn, write_fault, length_now, IsAgreement, SendFault, Progress, refusal, Handshaking}
+use Rattle.std.proofs.Common.{◌≡◌, ℕ, ◌==◌, ◌-◌, nat_lt, List, length, take, drop, Bool, true, false, not, Option, Some, None, Result, Ok, Err, MatchOption, IsOk, if◌then◌else◌, refl, ap, ◌∙◌}
+use Rattle.noise_session.proofs.Common.{⊤, put_mid, HandshakeValue, is_turn, write_fault, length_now, SendFault, Progress, refusal, Handshaking}
+use Rattle.std.proofs.lemmas.Bool.{lt-ltb}
 use Rattle.noise_session.proofs.Places.{unwritten}
+use Rattle.noise_names.specs.Tokens.{other, same_role, turn_from}
+use Rattle.noise_names.specs.declared.token.Role.{Role}
+use Rattle.noise_names.specs.declared.token.Role.TheVariants.{Initiator, Responder}
+use Rattle.noise_handshake.specs.HandshakeValue.{length_unless, message_len_of}
+use Rattle.noise_handshake.specs.Matching.{DoesNotWrite, party_of}
+use Rattle.noise_keys.specs.Keys.{KeyPairs}
 use Rattle.noise_handshake.specs.declared.faults.WriteFault.{WriteFault}
 use Rattle.noise_handshake.specs.declared.faults.WriteFault.TheVariants as write
 use Rattle.noise_session.specs.declared.faults.SendFault.TheVariants as fault
@@ -14,62 +21,43 @@ asked ended done turn long =
 abbrev refused : Bool → Bool → Option SendFault
 refused turn long = if not turn then Some fault.NotYourTurn else if long then Some fault.TooLong else None
 
--- what a result of the handshake reports of that
-abbrev IsResult : Bool → Bool → Bool → Bool → List ℕ → List ℕ → Result ℕ WriteFault → Type 0
-IsResult ended done turn long old new r = MatchOption (asked ended done turn long) (IfErr r IsAgreement) (λ f. (r ≡ Err f) × (new ≡ old))
+none-asked : (ended done turn long : Bool) → asked ended done turn long ≡ None → refused turn long ≡ None
+none-asked true done turn long h = cc
+none-asked false true turn long h = cc
+none-asked false false false long h = cc
+none-asked false false true true h = cc
+none-asked false false true false h = refl
 
-ok-reported : (ended done turn long : Bool) (old new : List ℕ) (n : ℕ) → IsResult ended done turn long old new (Ok n) → refused turn long ≡ None
-ok-reported true done turn long old new n h = cc
-ok-reported false true turn long old new n h = cc
-ok-reported false false false long old new n h = cc
-ok-reported false false true true old new n h = cc
-ok-reported false false true false old new n h = refl
+turn-refused : (role turn : Role) (long : Bool) → turn ≡ other role → refused (same_role turn role) long ≡ Some fault.NotYourTurn
+turn-refused Initiator turn long e = ap (λ (t : Role). refused (same_role t Initiator) long) e
+turn-refused Responder turn long e = ap (λ (t : Role). refused (same_role t Responder) long) e
 
-turn-reported : (ended done turn long : Bool) (old new : List ℕ) → not ended && not done ≡ true → IsResult ended done turn long old new (Err write.NotYourTurn)
-    → refused turn long ≡ Some fault.NotYourTurn
-turn-reported true done turn long old new due h = cc
-turn-reported false true turn long old new due h = cc
-turn-reported false false false long old new due h = refl
-turn-reported false false true true old new due h = cc
-turn-reported false false true false old new due h = absurd h
+long-refused : (role turn : Role) (long : Bool) → turn ≡ role → long ≡ true → refused (same_role turn role) long ≡ Some fault.TooLong
+long-refused Initiator turn long e f = ap (λ (t : Role). refused (same_role t Initiator) long) e ∙ ap (refused true) f
+long-refused Responder turn long e f = ap (λ (t : Role). refused (same_role t Responder) long) e ∙ ap (refused true) f
 
-long-reported : (ended done turn long : Bool) (old new : List ℕ) → not ended && not done ≡ true → IsResult ended done turn long old new (Err write.TooLong)
-    → refused turn long ≡ Some fault.TooLong
-long-reported true done turn long old new due h = cc
-long-reported false true turn long old new due h = cc
-long-reported false false false long old new due h = cc
-long-reported false false true true old new due h = refl
-long-reported false false true false old new due h = absurd h
+has-length : (o : Option WriteFault) (m n : ℕ) → length_unless o m ≡ Some n → o ≡ None
+has-length None m n h = refl
+has-length (Some f) m n h = cc
 
-lack-reported : (ended done turn long : Bool) (old new : List ℕ) (k : ℕ) → IsResult ended done turn long old new (Err (write.Agreement k))
-    → refused turn long ≡ None
-lack-reported true done turn long old new k h = cc
-lack-reported false true turn long old new k h = cc
-lack-reported false false false long old new k h = cc
-lack-reported false false true true old new k h = cc
-lack-reported false false true false old new k h = refl
-
-module _ {K : Type 0} (h : HandshakeValue K) (n : ℕ) (old new : List ℕ) where
+module _ {K : Type 0} (h : HandshakeValue K) (n : ℕ) where
   abbrev now : Progress
   now = Handshaking h.pattern h.role h.passed
 
-  abbrev Reports : Result ℕ WriteFault → Type 0
-  Reports r = MatchOption (write_fault h n) (IfErr r IsAgreement) (λ f. (r ≡ Err f) × (new ≡ old))
+  pub due-now : write_fault h n ≡ None → refusal now n ≡ None
+  due-now t = none-asked h.ended (h.passed == length h.pattern.messages) (is_turn h.role h.passed) (nat_lt 65535 (length_now h n)) t
 
-  abbrev due : Bool
-  due = not h.ended && not (h.passed == length h.pattern.messages)
+  pub length-due : (m : ℕ) → message_len_of h n ≡ Some m → refusal now n ≡ None
+  length-due m t = due-now (has-length (write_fault h n) (length_now h n) m t)
 
-  pub ok-due : (m : ℕ) → Reports (Ok m) → refusal now n ≡ None
-  ok-due m t = ok-reported h.ended (h.passed == length h.pattern.messages) (is_turn h.role h.passed) (nat_lt 65535 (length_now h n)) old new m t
+  module _ (pairs : K → KeyPairs) where
+    pub not-turn : DoesNotWrite (party_of pairs h) n write.NotYourTurn → refusal now n ≡ Some fault.NotYourTurn
+    not-turn d = turn-refused h.role (turn_from Initiator h.passed) (nat_lt 65535 (length_now h n)) d.turn
 
-  pub not-turn : due ≡ true → Reports (Err write.NotYourTurn) → refusal now n ≡ Some fault.NotYourTurn
-  not-turn d t = turn-reported h.ended (h.passed == length h.pattern.messages) (is_turn h.role h.passed) (nat_lt 65535 (length_now h n)) old new d t
-
-  pub too-long : due ≡ true → Reports (Err write.TooLong) → refusal now n ≡ Some fault.TooLong
-  too-long d t = long-reported h.ended (h.passed == length h.pattern.messages) (is_turn h.role h.passed) (nat_lt 65535 (length_now h n)) old new d t
-
-  pub lack-due : (k : ℕ) → Reports (Err (write.Agreement k)) → refusal now n ≡ None
-  lack-due k t = lack-reported h.ended (h.passed == length h.pattern.messages) (is_turn h.role h.passed) (nat_lt 65535 (length_now h n)) old new k t
+    pub too-long : DoesNotWrite (party_of pairs h) n write.TooLong → refusal now n ≡ Some fault.TooLong
+    too-long d =
+        let long : nat_lt 65535 (length_now h n) ≡ true = lt-ltb 65535 (length_now h n) d.1 in
+        long-refused h.role (turn_from Initiator h.passed) (nat_lt 65535 (length_now h n)) d.0.turn long
 
 -- what a result of a transport reports of why nothing is sealed
 abbrev sealed : ℕ → Result ℕ SendFault

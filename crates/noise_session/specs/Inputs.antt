@@ -1,7 +1,6 @@
 -- What an end makes of the bytes of a reader.
 use Rattle.std.specs.Prelude.{◌≡◌, ◌≢◌, ℕ, List, [], ◌++◌, length, Bool, true, false, Option, Some, None, Result, Ok, Err}
 use Rattle.std.specs.Io.KnownBytes.{Consumes}
-use Rattle.noise_keys.specs.declared.keys.Own.{Own}
 use Rattle.noise_session.specs.declared.faults.ReceiveFault.{ReceiveFault}
 use Rattle.noise_session.specs.declared.faults.ReceiveFault.TheVariants.{Input, CutShort}
 use Rattle.noise_session.specs.Counting.{one_more}

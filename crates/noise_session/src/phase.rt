@@ -5,6 +5,7 @@ ghost use Rattle.noise_session.specs.inner.Phases.{is_due};
 
 use crate::step::Outcome;
 use crate::{OpenFault, Stage, Step, Transport};
+use noise_handshake::laws::psks_suffice;
 use noise_handshake::{Cause, Handshake, Keys, ReadFault};
 use noise_names::Role;
 use std::mem;
@@ -171,6 +172,7 @@ impl<K: Keys> Phase<K> {
             → (next : EndState) × Judges v message.old (reported_in message.new result) next
             × PhaseMatches K.pairs self.new next × (next.partial ≡ []) }
     {
+        psks_suffice::<K>();
         match self {
             Phase::Handshaking { handshake, .. } => match handshake.read_within(message) {
                 Ok(place) => {

@@ -21,6 +21,7 @@ use crate::framing::frame_message;
 use crate::phase::Phase;
 use crate::step::Outcome;
 use crate::{Counted, ReceiveFault, SendFault, Step};
+use noise_handshake::laws::psks_suffice;
 use noise_handshake::{Keys, WriteFault};
 use std::alloc::{AllocError, Global};
 use std::io::Read;
@@ -109,6 +110,7 @@ impl<K: Keys> State<K> {
         ensures writes { WritesInto K.pairs (end_in self.old) payload.now out.old result out.new
             (end_in self.new) }
     {
+        psks_suffice::<K>();
         let start = out.len().min(2);
         match &mut self.phase {
             Phase::Handshaking { handshake, .. } => {

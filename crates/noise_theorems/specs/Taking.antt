@@ -2,10 +2,9 @@
 use Rattle.std.specs.Prelude.{◌≡◌, ◌≤◌, ◌↔◌, ◌⊎◌, ℕ, List, ◌++◌, length, slice_range, Bool, true, false, Option, None, Result, Ok, MatchResult}
 use Rattle.noise_keys.specs.declared.keys.Own.{Own}
 use Rattle.noise_handshake.specs.declared.faults.ReadFault.{ReadFault}
-use Rattle.noise_handshake.specs.Calls.{IsPlaceIn, IsSameAround}
+use Rattle.noise_handshake.specs.Calls.{HasNotRead, HasRead, IsPayloadIn}
 use Rattle.noise_handshake.specs.HandshakeValue.{HandshakeValue}
-use Rattle.noise_handshake.specs.Matching.{Matches, DoesNotRead, after_not_read, after_message}
-use Rattle.noise_handshake.specs.Party.{Party, Accepts}
+use Rattle.noise_handshake.specs.Matching.{party_of}
 use Rattle.noise_session.specs.Ends.{EndState, EndValue, EndMatches, progress_of}
 use Rattle.noise_session.specs.Exactly.{Encodes}
 use Rattle.noise_session.specs.Frames.{frame}
@@ -20,7 +19,7 @@ use Rattle.noise_keys.specs.Keys.{KeyPairs}
 abbrev pub LeavesMessage : List ℕ → List ℕ → List ℕ → Bool → Type 0
 LeavesMessage old new payload returned =
     ((new ≡ old) × (returned ≡ false))
-    ⊎ ((place : ℕ × ℕ) × IsPlaceIn new place × IsSameAround old new place
+    ⊎ ((place : ℕ × ℕ) × IsPayloadIn old new place
     × (returned ≡ true ↔ slice_range new place.0 place.1 ≡ payload))
 
 module _ {K : Type 0} (pairs : K → KeyPairs) where
@@ -41,13 +40,10 @@ module _ {K : Type 0} (pairs : K → KeyPairs) where
       → idle_step (progress_of v) ≡ None → v.partial ++ bytes ≡ frame message → length message ≤ 65535
       → (returned ≡ true ↔ Encodes v message payload)
 
-  -- The handshake accepts the message, or declines it, and matches the state after that; the result is whether it
-  -- gives this payload.
-  pub record IsReadAs (v : Party) (message payload : List ℕ) (handshake : HandshakeValue K)
+  -- The handshake reads the message or doesn't, and this is left; the result is whether it gives this payload.
+  pub record IsReadAs (h : HandshakeValue K) (message payload : List ℕ) (next : HandshakeValue K)
       (returned : Bool) : Type 0 where
     pub read : Result (List ℕ) ReadFault
-    pub reads : MatchResult read
-        (λ given. (xs : List (List ℕ)) × Accepts v message xs given
-        × Matches pairs handshake (after_message v xs given))
-        (λ fault. DoesNotRead v message fault × Matches pairs handshake (after_not_read v fault))
+    pub reads : MatchResult read (λ given. HasRead (party_of pairs h) h message given next)
+        (λ fault. HasNotRead pairs h message fault next)
     pub is : returned ≡ true ↔ read ≡ Ok payload

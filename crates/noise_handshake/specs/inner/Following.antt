@@ -1,33 +1,18 @@
 -- What following a message leaves, whose payload isn't asked for.
-use Rattle.std.specs.Prelude.{◌≡◌, ℕ, ◌+◌, ◌≤◌, List, length, drop, Bool, Option, count_by, MatchOption}
+use Rattle.std.specs.Prelude.{◌≡◌, ℕ, ◌+◌, ◌≤◌, List, length, Bool, Option, MatchOption}
 use Rattle.noise_names.specs.declared.token.Token.{Token}
-use Rattle.noise_names.specs.Tokens.{is_psk}
 use Rattle.noise_names.specs.Plan.{has_psk}
 use Rattle.noise_state.specs.declared.symmetric.SymmetricState.{SymmetricState}
 use Rattle.noise_state.specs.Standing.{keyed, nonce_now}
 use Rattle.noise_state.specs.Symmetric.{after_ciphertext}
 use Rattle.noise_handshake.specs.declared.following.Front.{Front}
 use Rattle.noise_handshake.specs.declared.remote.Remote.{Remote}
-use Rattle.noise_handshake.specs.HandshakeValue.{HandshakeValue}
+use Rattle.noise_handshake.specs.HandshakeValue.{HandshakeValue, tokens_due}
 use Rattle.noise_handshake.specs.Length.{keyed_after_tokens}
 use Rattle.noise_handshake.specs.Message.{before_payload, after_tokens}
 use Rattle.noise_handshake.specs.Nonces.{nonce_after_message}
-use Rattle.noise_handshake.specs.Party.{tokens_at}
 use Rattle.noise_handshake.specs.Steps.{after_steps}
 use Rattle.noise_handshake.specs.inner.Known.{KnowsRemote}
-
--- the tokens of the next message
-abbrev pub tokens_due : {K : Type 0} → HandshakeValue K → List Token
-tokens_due h = tokens_at h.pattern.messages h.passed
-
--- the handshake after its next message, which leaves this state and these keys of the other party
-abbrev pub gone_on : {K : Type 0} → HandshakeValue K → SymmetricState → Remote → HandshakeValue K
-gone_on h state remote = record h {
-  remote = remote;
-  psks = drop (count_by is_psk (tokens_due h)) h.psks;
-  passed = h.passed + 1;
-  state = state;
-}
 
 -- The next message has few tokens, and leaves a state and keys of the other party like these.
 pub record Leaves {K : Type 0} (h : HandshakeValue K) (state : SymmetricState) (remote : Remote) : Type 0 where

@@ -1,6 +1,5 @@
 -- What the private functions say of what an end goes through.
-use Rattle.std.specs.Prelude.{◌≡◌, ℕ, List, length, Bool, true, false, not, ◌&&◌, ◌==◌, Option}
-use Rattle.noise_keys.specs.declared.keys.Own.{Own}
+use Rattle.std.specs.Prelude.{◌≡◌, length, Bool, true, false, not, ◌&&◌, ◌==◌}
 use Rattle.noise_handshake.specs.Matching.{Matches}
 use Rattle.noise_session.specs.declared.phase.Phase.{Phase}
 use Rattle.noise_session.specs.declared.phase.Phase.TheVariants as phase

@@ -1,22 +1,18 @@
-use Rattle.std.specs.Prelude.{Ok, Err, replicate}
-use Rattle.std.proofs.Common.{◌≡◌, ◌≤◌, ℕ, inl, inr, refl, ap, sym, subst, ◌∙◌, arith, List, length, take}
+use Rattle.std.specs.Prelude.{Ok, Err}
+use Rattle.std.proofs.Common.{◌≡◌, ◌≤◌, ℕ, inl, inr, refl, ap, sym, subst, ◌∙◌, arith, [], List, length, take}
 use Rattle.std.proofs.lemmas.Option.{same_Some}
-use Rattle.noise_c.proofs.Common.{Result, Option, Some, None, MatchOption, false≢true, Plan, Table, Want, HandshakeValue, length_unless, message_len_of, write_fault, LeavesUnwritten, IsOfTurn, IsWant, WantsPskToWrite, Party, write_code, handshake_from_c, text_from_c, IsPatternOf, IsUsable, KeepsParty, NoiseHandshake, NoiseResult, ReportsWant, MatchesWith, party_with, pairs_in}
+use Rattle.noise_c.proofs.Common.{Result, Option, Some, None, false≢true, Plan, Table, Want, HandshakeValue, length_unless, message_len_of, DoesNotWrite, IsAgreement, IsWantedToWrite, WantsPskToWrite, Party, write_code, handshake_from_c, text_from_c, IsPatternOf, IsUsable, KeepsParty, ReportsWant, party_with, pairs_in}
 use Rattle.noise_handshake.specs.declared.faults.WriteFault.{WriteFault}
 use Rattle.noise_handshake.specs.declared.faults.Unwritten.{Unwritten}
 use Rattle.noise_handshake.specs.declared.faults.Want.TheVariants.{Psk}
-use Rattle.noise_c.proofs.Stored.{psks-left, opened, usable-after, was-written, matches-for, length-for}
-use Rattle.noise_c.specs.Outcomes.WriteOutcome.{written, withheld, no_dh_result, no_room, unusable}
-use Rattle.noise_c.specs.Outcomes.{WriteOutcome}
-use Rattle.noise_c.specs.HandshakeStructs.{ForParty}
-use Rattle.noise_handshake.specs.HandshakeValue.{IsAgreement}
-use Rattle.noise_handshake.specs.Matching.{DoesNotWrite}
+use Rattle.noise_c.proofs.Stored.{psks-left, usable-after, was-written, matches-for, length-for}
+use Rattle.noise_c.specs.Outcomes.WriteOutcome.{written, withheld, no_room, unusable}
 use Rattle.noise_c.proofs.Numbers.{other, not-after, too-long, under, wants-other, withheld-within, withheld-agreement}
 use Rattle.noise_c.proofs.Wanting.{writes-outcome}
 use goal.{in-Some-message_len+else-needed-out, in_default}
 use Rattle.noise_handshake.specs.declared.faults.WriteFault.TheVariants as write
 use Rattle.noise_handshake.specs.declared.faults.Unwritten.TheVariants as unwritten
-use Rattle.noise_handshake.specs.Calls.{HasWrittenTo}
+use Rattle.noise_handshake.specs.Calls.{IsUnwritten}
 use Rattle.noise_c.proofs.messages.noise_write.Goals as goal
 
 pub returns-in-None : goal.returns-in-None
@@ -79,27 +75,24 @@ returns-in-Ok c =
     let h2 = c.write_or_ask.new.self in
     let n : ℕ = length c.args.payload.now in
     let usable = c.in-Some.ensures.usable.0 refl in
-    let stays : h2.pattern ≡ h.pattern = c.in-Ok.ensures.state.pattern in
+    let r = c.in-Ok.ensures.writes [] in
+    let stays : h2.pattern ≡ h.pattern = ap (λ (z : HandshakeValue Table). z.pattern) r.1.1.2 in
     let same : handshake_from_c h2.pattern new ≡ h2 =
     c.store_progress.ensures.same h2 c.progress.ensures.value
-    (c.in-Ok.ensures.state.keys ∙ ap (λ (z : HandshakeValue Table). z.keys) c.in-Some.ensures.value)
-    (c.in-Ok.ensures.state.role ∙ ap (λ (z : HandshakeValue Table). z.role) c.in-Some.ensures.value)
-    (psks-left old h h2 c.in-Ok.ensures.state.taken _ usable.psks
-    c.in-Some.ensures.count c.in-Some.ensures.value c.in-Ok.ensures.state.psks c.psks.ensures.value) in
+    (ap (λ (z : HandshakeValue Table). z.keys) r.1.1.2 ∙ ap (λ (z : HandshakeValue Table). z.keys) c.in-Some.ensures.value)
+    (ap (λ (z : HandshakeValue Table). z.role) r.1.1.2 ∙ ap (λ (z : HandshakeValue Table). z.role) c.in-Some.ensures.value)
+    (psks-left old h h2 _ _ _ usable.psks c.in-Some.ensures.count c.in-Some.ensures.value r.1.1.2 c.psks.ensures.value) in
     record {
       unusable = (other 0 23 refl, λ none. absurd (none usable));
       outcome = written
           (usable-after old new h h2 usable c.store_progress.ensures.mark c.store_progress.ensures.text_len c.store_progress.ensures.answers
           (omega (arith, c.store_progress.ensures.psks, c.psks.ensures.few)) c.store_progress.ensures.text c.in-Some.ensures.named stays
           c.progress.ensures.valid same c.progress.ensures.whole)
-          (λ p named. length-for old h p n c.in-Some.ensures.one c.in-Some.ensures.value named ∙ c.in-Ok.ensures.len.0)
-          refl c.in-Ok.ensures.len.1 c.in-Ok.ensures.beyond
+          (λ p named. length-for old h p n c.in-Some.ensures.one c.in-Some.ensures.value named ∙ r.0.0)
+          refl r.0.1 r.0.2
           (λ p v k.
-          let s = opened old new h h2 p v c.in-Some.ensures.one c.in-Some.ensures.value stays c.store_progress.ensures.text same k in
-          let r = subst (λ (z : Party). HasWrittenTo (MatchesWith pairs_in k.later) z c.args.payload.now c.write_or_ask.new.out h2 c.in-Ok.len) s
-          (c.in-Ok.ensures.writes k.later) in
           was-written old new h h2 p v c.in-Some.ensures.one c.in-Some.ensures.value stays c.store_progress.ensures.text same k
-          c.args.payload.now (take c.in-Ok.len c.write_or_ask.new.out) r.0 r.1 r.2);
+          c.args.payload.now (take c.in-Ok.len c.write_or_ask.new.out) (c.in-Ok.ensures.writes k.later).1);
       short = λ p named m e more.
           let f : message_len_of h n ≡ Some m = sym (length-for old h p n c.in-Some.ensures.one c.in-Some.ensures.value named) ∙ e in
           too-long m (length c.args.out.now) more (elim c.match-message_len.branch [
@@ -122,15 +115,14 @@ returns-in-Err-Wants c =
     let results = c.report_want.new.results in
     let code : ℕ = c.report_want.result in
     let t : ReportsWant want results code = subst (λ (w : Want). ReportsWant w results code) c.in-Err-Wants.want-is c.report_want.ensures.want in
-    let leaves : (p : Plan) (v : Party) → KeepsParty old p v → LeavesUnwritten v (length h.psks) n (unwritten.Wants want) =
-    λ p v k. subst (λ (z : Party). LeavesUnwritten z (length h.psks) n (unwritten.Wants want)) (matches-for old h p v c.in-Some.ensures.one c.in-Some.ensures.value k)
-    (subst (λ (u : Unwritten). LeavesUnwritten (party_with pairs_in k.later h) (length h.psks) n u) c.in-Err-Wants.field-0-is
-    (c.in-Err-Wants.ensures.writes k.later).0) in
+    let leaves : (p : Plan) (v : Party) → KeepsParty old p v → IsWantedToWrite v (length h.psks) want =
+    λ p v k. subst (λ (z : Party). IsWantedToWrite z (length h.psks) want) (matches-for old h p v c.in-Some.ensures.one c.in-Some.ensures.value k)
+    (subst (λ (u : Unwritten). IsUnwritten pairs_in k.later h n u) c.in-Err-Wants.field-0-is (c.in-Err-Wants.ensures.writes k.later).0).1 in
     record {
       unusable = (wants-other want results code 23 t refl refl, λ none. absurd (none (c.in-Some.ensures.usable.0 refl)));
       outcome = writes-outcome old _ c.args.payload.now c.args.out.now c.write_or_ask.new.out c.args.results.now (length h.psks) want results code t
           c.report_want.ensures.answer c.report_want.ensures.remote c.in-Some.ensures.count refl
-          (c.in-Err-Wants.ensures.asks (subst IsWant (sym c.in-Err-Wants.field-0-is) tt)) leaves;
+          (c.in-Err-Wants.ensures.writes []).2 leaves;
       short = λ p named m e more.
           let f : message_len_of h n ≡ Some m = sym (length-for old h p n c.in-Some.ensures.one c.in-Some.ensures.value named) ∙ e in
           too-long m (length c.args.out.now) more (elim c.match-message_len.branch [
@@ -149,37 +141,15 @@ returns-in-Err-Wants c =
 below : (code : ℕ) → code ≤ 14 → (code ≡ 14 → ⊥) → code ≤ 13
 below code within other = let less = under code 14 within other in omega arith
 
--- only for want of a DH result something is written
-unchanged-out : (o : Option WriteFault) (u : Unwritten) (fault : WriteFault) (Q : Type 0) → u ≡ unwritten.Withheld fault
-    → MatchOption o (IsOfTurn u) (λ f. (◌≡◌ {A = Result ℕ Unwritten} (Err u) (Err (unwritten.Withheld f))) × Q) → (write_code fault ≡ 14 → ⊥) → Q
-unchanged-out None u write.Ended Q e x differs = absurd (subst IsOfTurn e x)
-unchanged-out None u write.Done Q e x differs = absurd (subst IsOfTurn e x)
-unchanged-out None u write.NotYourTurn Q e x differs = absurd (subst IsOfTurn e x)
-unchanged-out None u write.TooLong Q e x differs = absurd (subst IsOfTurn e x)
-unchanged-out None u (write.Agreement token) Q e x differs = absurd (differs refl)
-unchanged-out (Some f) u fault Q e x differs = x.1
-
-module _ (old : NoiseHandshake) (payload out mid after : List ℕ) (results : NoiseResult) where
-  abbrev Outcome : ℕ → Type 0
-  Outcome code = WriteOutcome old payload out results old after results code
-
-  not-lacking : (fault : WriteFault) (code : ℕ) → code ≡ write_code fault → (IsAgreement fault → ⊥) → ((IsAgreement fault → ⊥) → after ≡ mid)
-      → ((write_code fault ≡ 14 → ⊥) → mid ≡ out) → ForParty old (λ _ v. DoesNotWrite v (length payload) fault) → Outcome code
-  not-lacking fault code is far same kept f =
-      let within : (10 ≤ code) × (code ≤ 14) = withheld-within fault code is in
-      let other : code ≡ 14 → ⊥ = λ e. far (withheld-agreement fault (sym is ∙ e)) in
-      withheld code within.0 (below code within.1 other) refl refl (same far ∙ kept (λ e. other (is ∙ e)))
-      (λ p v k. record { fault = fault; code_is = is; withholds = f p v k })
-
-  withheld-as : (fault : WriteFault) (code : ℕ) → code ≡ write_code fault → length mid ≡ length out
-      → (IsAgreement fault → after ≡ replicate (length mid) 0) → ((IsAgreement fault → ⊥) → after ≡ mid)
-      → ((write_code fault ≡ 14 → ⊥) → mid ≡ out) → ForParty old (λ _ v. DoesNotWrite v (length payload) fault × (IsAgreement fault → ⊥)) → Outcome code
-  withheld-as (write.Agreement token) code is long zeros same kept f =
-      subst Outcome (sym is) (no_dh_result refl refl (zeros tt ∙ ap (λ (n : ℕ). replicate n 0) long) (λ p v k. (f p v k).1 tt))
-  withheld-as write.Ended code is long zeros same kept f = not-lacking write.Ended code is (λ none. none) same kept (λ p v k. (f p v k).0)
-  withheld-as write.Done code is long zeros same kept f = not-lacking write.Done code is (λ none. none) same kept (λ p v k. (f p v k).0)
-  withheld-as write.NotYourTurn code is long zeros same kept f = not-lacking write.NotYourTurn code is (λ none. none) same kept (λ p v k. (f p v k).0)
-  withheld-as write.TooLong code is long zeros same kept f = not-lacking write.TooLong code is (λ none. none) same kept (λ p v k. (f p v k).0)
+-- what isn't written for no want of a DH result
+module _ (later : List (List ℕ)) (h : HandshakeValue Table) (n : ℕ) where
+  plain : (fault : WriteFault) → IsUnwritten pairs_in later h n (unwritten.Withheld fault)
+      → (IsAgreement fault → ⊥) × DoesNotWrite (party_with pairs_in later h) n fault
+  plain write.Ended u = (λ none. none, u)
+  plain write.Done u = (λ none. none, u)
+  plain write.NotYourTurn u = (λ none. none, u)
+  plain write.TooLong u = (λ none. none, u)
+  plain (write.Agreement token) u = absurd u
 
 pub returns-in-Err-Withheld : goal.returns-in-Err-Withheld
 returns-in-Err-Withheld c =
@@ -190,18 +160,21 @@ returns-in-Err-Withheld c =
     let code : ℕ = c.withhold.result in
     let is : code ≡ write_code fault = c.withhold.ensures.code ∙ ap write_code c.in-Err-Withheld.fault-is in
     let within : (10 ≤ code) × (code ≤ 14) = withheld-within fault code is in
-    let leaves : (p : Plan) (v : Party) → KeepsParty old p v → LeavesUnwritten v (length h.psks) n (unwritten.Withheld fault) =
-    λ p v k. subst (λ (z : Party). LeavesUnwritten z (length h.psks) n (unwritten.Withheld fault)) (matches-for old h p v c.in-Some.ensures.one c.in-Some.ensures.value k)
-    (subst (λ (u : Unwritten). LeavesUnwritten (party_with pairs_in k.later h) (length h.psks) n u) c.in-Err-Withheld.field-0-is
-    (c.in-Err-Withheld.ensures.writes k.later).0) in
+    let w = c.in-Err-Withheld.ensures.writes in
+    let withheld-for = λ (later : List (List ℕ)). plain later h n fault
+    (subst (λ (z : Unwritten). IsUnwritten pairs_in later h n z) c.in-Err-Withheld.field-0-is (w later).0) in
+    let far : IsAgreement fault → ⊥ = (withheld-for []).0 in
+    let low : code ≤ 13 = below code within.1 (λ e. far (withheld-agreement fault (sym is ∙ e))) in
+    let same = c.withhold.ensures.unchanged (λ lacks. far (subst IsAgreement c.in-Err-Withheld.fault-is lacks)) in
     record {
       unusable = (not-after code 14 23 within.1 refl, λ none. absurd (none (c.in-Some.ensures.usable.0 refl)));
-      outcome = withheld-as old c.args.payload.now c.args.out.now c.write_or_ask.new.out c.withhold.new.out c.args.results.now fault code is
-          c.write_or_ask.auto.out (λ lacks. c.withhold.ensures.zeros (subst IsAgreement (sym c.in-Err-Withheld.fault-is) lacks))
-          (λ others. c.withhold.ensures.unchanged (λ lacks. others (subst IsAgreement c.in-Err-Withheld.fault-is lacks)))
-          (λ others. unchanged-out (write_fault h n) c.in-Err-Withheld.field-0 fault (c.write_or_ask.new.out ≡ c.args.out.now)
-          c.in-Err-Withheld.field-0-is c.in-Err-Withheld.ensures.fault others)
-          leaves;
+      outcome = withheld code within.0 low refl refl (same ∙ (w []).2)
+          (λ p v k. record {
+            fault = fault;
+            code_is = is;
+            withholds = subst (λ (z : Party). DoesNotWrite z n fault) (matches-for old h p v c.in-Some.ensures.one c.in-Some.ensures.value k)
+                (withheld-for k.later).1;
+          });
       short = λ p named m e more.
           let f : message_len_of h n ≡ Some m = sym (length-for old h p n c.in-Some.ensures.one c.in-Some.ensures.value named) ∙ e in
           too-long m (length c.args.out.now) more (elim c.match-message_len.branch [

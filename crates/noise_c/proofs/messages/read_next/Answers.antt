@@ -1,16 +1,16 @@
 use Rattle.std.specs.Prelude.{Ok, Err, drop, ◌+◌, ◌-◌}
-use Rattle.std.proofs.Common.{false, ◌≡◌, ◌≤◌, ◌⊎◌, ℕ, List, length, refl, ap, sym, subst, ◌∙◌, arith}
-use Rattle.noise_c.proofs.Common.{Result, false≢true, Table, Short, Tag, Agreement, ReadFault, Want, HandshakeValue, LeavesUnread, WantsPskToRead, DoesNotRead, Party, Refuses, read_code, NoiseResult, handshake_from_c, IsUsable, ReportsWant, MatchesWith, party_with, pairs_in}
+use Rattle.std.proofs.Common.{false, ◌≡◌, ◌≤◌, ◌⊎◌, ℕ, [], List, length, refl, ap, sym, subst, ◌∙◌, arith}
+use Rattle.noise_c.proofs.Common.{Result, false≢true, Table, Cause, Short, Tag, Agreement, ReadFault, Want, HandshakeValue, IsWantedToRead, WantsPskToRead, DoesNotRead, Party, Refuses, read_code, NoiseResult, handshake_from_c, IsUsable, ReportsWant, party_with, pairs_in}
 use Rattle.noise_handshake.specs.declared.faults.Unread.{Unread}
 use Rattle.noise_handshake.specs.declared.faults.Want.TheVariants.{Psk}
 use Rattle.noise_c.specs.HalfStructs.{IsAround}
 use Rattle.noise_c.specs.Outcomes.ReadOutcome.{accepted, declined, refused, too_long, unusable}
-use Rattle.noise_c.proofs.Stored.{psks-left, usable-after, opened, was-read, matches-for}
+use Rattle.noise_c.proofs.Stored.{psks-left, usable-after, was-read, matches-for}
 use Rattle.noise_c.proofs.Numbers.{IsPlain, other, above, not-after, too-long, wants-other, plain-among, plain-within, refused-within}
 use Rattle.noise_c.proofs.Wanting.{reads-outcome}
 use Rattle.noise_handshake.specs.declared.faults.ReadFault.TheVariants as read
 use Rattle.noise_handshake.specs.declared.faults.Unread.TheVariants as unread
-use Rattle.noise_handshake.specs.Calls.{HasReadAt}
+use Rattle.noise_handshake.specs.Calls.{IsUnread}
 use Rattle.noise_c.proofs.messages.read_next.Goals as goal
 
 pub returns-in-None : goal.returns-in-None
@@ -55,27 +55,24 @@ returns-in-Ok c =
     let h = c.in-Some.value in
     let h2 = c.read_or_ask.new.self in
     let before = c.in-Some.ensures.usable.0 refl in
-    let stays : h2.pattern ≡ h.pattern = c.in-Ok.ensures.state.pattern in
+    let r = c.in-Ok.ensures.reads [] in
+    let stays : h2.pattern ≡ h.pattern = ap (λ (z : HandshakeValue Table). z.pattern) r.1.1.2 in
     let same : handshake_from_c h2.pattern new ≡ h2 =
     c.store_progress.ensures.same h2 c.progress.ensures.value
-    (c.in-Ok.ensures.state.keys ∙ ap (λ (z : HandshakeValue Table). z.keys) c.in-Some.ensures.value)
-    (c.in-Ok.ensures.state.role ∙ ap (λ (z : HandshakeValue Table). z.role) c.in-Some.ensures.value)
-    (psks-left old h h2 c.in-Ok.ensures.state.taken _ before.psks
-    c.in-Some.ensures.count c.in-Some.ensures.value c.in-Ok.ensures.state.psks c.psks.ensures.value) in
+    (ap (λ (z : HandshakeValue Table). z.keys) r.1.1.2 ∙ ap (λ (z : HandshakeValue Table). z.keys) c.in-Some.ensures.value)
+    (ap (λ (z : HandshakeValue Table). z.role) r.1.1.2 ∙ ap (λ (z : HandshakeValue Table). z.role) c.in-Some.ensures.value)
+    (psks-left old h h2 _ _ _ before.psks c.in-Some.ensures.count c.in-Some.ensures.value r.1.1.2 c.psks.ensures.value) in
     let usable : IsUsable new = usable-after old new h h2 before c.store_progress.ensures.mark c.store_progress.ensures.text_len c.store_progress.ensures.answers
     (omega (arith, c.store_progress.ensures.psks, c.psks.ensures.few)) c.store_progress.ensures.text c.in-Some.ensures.named stays
     c.progress.ensures.valid same c.progress.ensures.whole in
     record {
       unusable = (other 0 23 refl, λ none. absurd (none before));
       length = (other 0 24 refl, λ w. too-long (length c.args.message.now) 65535 w.0 c.if-message-gt-MAX_LEN.false);
-      outcome = accepted usable refl (omega (arith, c.in-Ok.ensures.range.0, c.in-Ok.ensures.range.1))
-          (around c.args.message.now m start end c.in-Ok.ensures.range.0 c.in-Ok.ensures.beyond)
+      outcome = accepted usable refl (omega (arith, r.0.0.0, r.0.0.1))
+          (around c.args.message.now m start end r.0.0.0 r.0.1)
           (λ p v k.
-          let s = opened old new h h2 p v c.in-Some.ensures.one c.in-Some.ensures.value stays c.store_progress.ensures.text same k in
-          let r = subst (λ (z : Party). HasReadAt (MatchesWith pairs_in k.later) z c.args.message.now m h2 (start, end)) s
-          (c.in-Ok.ensures.reads k.later) in
           was-read old new h h2 p v c.in-Some.ensures.one c.in-Some.ensures.value stays c.store_progress.ensures.text same k
-          c.args.message.now m start end c.in-Ok.ensures.range.0 r.0 r.1 r.2);
+          c.args.message.now m start end r.0.0.0 (c.in-Ok.ensures.reads k.later).1);
       unchanged = above 1 0 refl;
       asked = λ _ _ p v k remote asks.
           let s = matches-for old h p v c.in-Some.ensures.one c.in-Some.ensures.value k in
@@ -87,14 +84,19 @@ declined-not : {A : Type 0} (u : Unread) (fault : ReadFault) (b : Want) → ◌�
     → u ≡ unread.Declined fault → A
 declined-not u fault b e f = cc
 
--- the fault of that number
-agreement-of : (v : Party) (m : List ℕ) (fault : ReadFault) → read_code fault ≡ 14 → DoesNotRead v m fault → (token : ℕ) × Refuses v m token Agreement
-agreement-of v m read.Ended e d = other 13 14 refl e
-agreement-of v m read.Done e d = other 12 14 refl e
-agreement-of v m read.NotYourTurn e d = other 10 14 refl e
-agreement-of v m (read.Refused token Short) e d = other 15 14 refl e
-agreement-of v m (read.Refused token Tag) e d = other 16 14 refl e
-agreement-of v m (read.Refused token Agreement) e d = (token, d)
+-- the cause of that number
+agreement-of : (token : ℕ) (cause : Cause) → read_code (read.Refused token cause) ≡ 14 → cause ≡ Agreement
+agreement-of token Short e = other 15 14 refl e
+agreement-of token Tag e = other 16 14 refl e
+agreement-of token Agreement e = refl
+
+-- what isn't read for a fault that is no refusal
+module _ (later : List (List ℕ)) (h : HandshakeValue Table) (m : List ℕ) where
+  not-due : (fault : ReadFault) → IsPlain fault → IsUnread pairs_in later h m (unread.Declined fault) → DoesNotRead (party_with pairs_in later h) m fault
+  not-due read.Ended plain u = u
+  not-due read.Done plain u = u
+  not-due read.NotYourTurn plain u = u
+  not-due (read.Refused token cause) plain u = absurd (plain token cause refl)
 
 pub returns-in-Refused : goal.returns-in-Refused
 returns-in-Refused c =
@@ -104,23 +106,24 @@ returns-in-Refused c =
     let code : ℕ = c.read_code-code.result in
     let is : code ≡ read_code fault = c.read_code-code.ensures ∙ ap read_code c.in-Err-Declined.fault-is in
     let why : fault ≡ read.Refused c.in-Refused.token c.in-Refused.cause = sym c.in-Err-Declined.fault-is ∙ c.in-Refused.is in
+    let same : c.read_or_ask.new.message ≡ c.args.message.now = (c.in-Err-Declined.ensures.reads []).2 in
     let within : (14 ≤ code) × (code ≤ 16) = refused-within fault code _ _ is why in
     record {
       unusable = (not-after code 16 23 within.1 refl, λ none. absurd (none (c.in-Some.ensures.usable.0 refl)));
       length = (not-after code 16 24 within.1 refl, λ w. too-long (length c.args.message.now) 65535 w.0 c.if-message-gt-MAX_LEN.false);
-      unchanged = λ _. (refl, c.in-Err-Declined.ensures.unchanged);
-      outcome = refused code within.0 within.1 refl refl (λ u. u) c.in-Err-Declined.ensures.unchanged
+      unchanged = λ _. (refl, same);
+      outcome = refused code within.0 within.1 refl refl (λ u. u) same
           (λ p v k.
           let s = matches-for old h p v c.in-Some.ensures.one c.in-Some.ensures.value k in
-          let r = subst (λ (z : Party). LeavesUnread z (length h.psks) c.args.message.now (unread.Declined fault)) s
-          (subst (λ (z : Unread). LeavesUnread (party_with pairs_in k.later h) (length h.psks) c.args.message.now z) c.in-Err-Declined.field-0-is
+          let u = subst (λ (z : ReadFault). IsUnread pairs_in k.later h c.args.message.now (unread.Declined z)) why
+          (subst (λ (z : Unread). IsUnread pairs_in k.later h c.args.message.now z) c.in-Err-Declined.field-0-is
           (c.in-Err-Declined.ensures.reads k.later).0) in
-          let far : code ≡ 14 → ⊥ = λ e. let known = agreement-of v c.args.message.now fault (sym is ∙ e) r.0 in r.1 known.0 known.1 in (
-            far,
+          let is-cause = is ∙ ap read_code why in (
+            (λ e. u.1 (agreement-of c.in-Refused.token c.in-Refused.cause (sym is-cause ∙ e))),
             record {
               cause = c.in-Refused.cause;
-              code_is = is ∙ ap read_code why;
-              refuses = subst (λ (z : ReadFault). DoesNotRead v c.args.message.now z) why r.0;
+              code_is = is-cause;
+              refuses = subst (λ (z : Party). Refuses z c.args.message.now c.in-Refused.token c.in-Refused.cause) s u.0;
               keeps = k;
             },
           ));
@@ -138,19 +141,24 @@ returns-in_default c =
     let code : ℕ = c.read_code-code.result in
     let is : code ≡ read_code fault = c.read_code-code.ensures ∙ ap read_code c.in-Err-Declined.fault-is in
     let plain : IsPlain fault = λ token cause e. c.in_default.not-Refused token cause (c.in-Err-Declined.fault-is ∙ e) in
+    let unchanged : c.read_or_ask.new.message ≡ c.args.message.now = (c.in-Err-Declined.ensures.reads []).2 in
     let among : (code ≡ 10) ⊎ ((12 ≤ code) × (code ≤ 13)) = plain-among fault code plain is in
     let within : (10 ≤ code) × (code ≤ 13) = plain-within code among in
     record {
       unusable = (not-after code 13 23 within.1 refl, λ none. absurd (none (c.in-Some.ensures.usable.0 refl)));
       length = (not-after code 13 24 within.1 refl, λ w. too-long (length c.args.message.now) 65535 w.0 c.if-message-gt-MAX_LEN.false);
-      unchanged = λ _. (refl, c.in-Err-Declined.ensures.unchanged);
-      outcome = declined code among refl refl c.in-Err-Declined.ensures.unchanged
+      unchanged = λ _. (refl, unchanged);
+      outcome = declined code among refl refl unchanged
           (λ p v k.
           let s = matches-for old h p v c.in-Some.ensures.one c.in-Some.ensures.value k in
-          let r = subst (λ (z : Party). LeavesUnread z (length h.psks) c.args.message.now (unread.Declined fault)) s
-          (subst (λ (z : Unread). LeavesUnread (party_with pairs_in k.later h) (length h.psks) c.args.message.now z) c.in-Err-Declined.field-0-is
+          let u = not-due k.later h c.args.message.now fault plain
+          (subst (λ (z : Unread). IsUnread pairs_in k.later h c.args.message.now z) c.in-Err-Declined.field-0-is
           (c.in-Err-Declined.ensures.reads k.later).0) in
-          record { fault = fault; code_is = is; declines = r.0 });
+          record {
+            fault = fault;
+            code_is = is;
+            declines = subst (λ (z : Party). DoesNotRead z c.args.message.now fault) s u;
+          });
       asked = λ _ _ p v k remote asks.
           let s = matches-for old h p v c.in-Some.ensures.one c.in-Some.ensures.value k in
           let w = subst (λ (i : ℕ). WantsPskToRead v i c.args.message.now remote) (sym c.in-Some.ensures.count) asks in
@@ -184,10 +192,10 @@ returns-in-Err-Wants-clause-outcome c =
     reads-outcome false c.args.handshake.now _ c.args.message.now c.read_or_ask.new.message c.args.results.now (length h.psks)
     c.in-Err-Wants.want c.report_want.new.results c.report_want.result
     (wanted c.in-Err-Wants.want _ c.report_want.new.results c.report_want.result c.in-Err-Wants.want-is c.report_want.ensures.want)
-    c.report_want.ensures.answer c.report_want.ensures.remote c.in-Some.ensures.count c.in-Err-Wants.ensures.unchanged
-    (λ p v k. subst (λ (z : Party). LeavesUnread z (length h.psks) c.args.message.now (unread.Wants c.in-Err-Wants.want))
+    c.report_want.ensures.answer c.report_want.ensures.remote c.in-Some.ensures.count (c.in-Err-Wants.ensures.reads []).2
+    (λ p v k. subst (λ (z : Party). IsWantedToRead z (length h.psks) c.args.message.now c.in-Err-Wants.want)
     (matches-for c.args.handshake.now h p v c.in-Some.ensures.one c.in-Some.ensures.value k)
-    (subst (λ (u : Unread). LeavesUnread (party_with pairs_in k.later h) (length h.psks) c.args.message.now u) c.in-Err-Wants.field-0-is
+    (subst (λ (u : Unread). IsUnread pairs_in k.later h c.args.message.now u) c.in-Err-Wants.field-0-is
     (c.in-Err-Wants.ensures.reads k.later).0))
 
 pub returns-in-Err-Wants-clause-asked : goal.returns-in-Err-Wants-clause-asked
@@ -198,3 +206,9 @@ returns-in-Err-Wants-clause-asked c usable len p v k remote asks =
     let same : c.in-Err-Wants.want ≡ Psk remote =
     want-same c.in-Err-Wants.field-0 c.in-Err-Wants.want (Psk remote) (c.in-Err-Wants.ensures.asked k.later remote (subst (λ (z : Party). WantsPskToRead z (length h.psks) c.args.message.now remote) (sym s) w)) c.in-Err-Wants.field-0-is in
     subst (λ (z : Want). ReportsWant z c.report_want.new.results c.report_want.result) (c.in-Err-Wants.want-is ∙ same) c.report_want.ensures.want
+
+pub overflow_sub-results : goal.overflow_sub-results
+overflow_sub-results c = (c.in-Ok.ensures.reads []).0.0.0
+
+pub returns-in-Err-Wants-clause-unchanged : goal.returns-in-Err-Wants-clause-unchanged
+returns-in-Err-Wants-clause-unchanged c _ = (refl, (c.in-Err-Wants.ensures.reads []).2)

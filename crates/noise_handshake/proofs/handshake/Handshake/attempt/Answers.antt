@@ -1,9 +1,8 @@
-use Rattle.std.proofs.Common.{rules, ◌≡◌, ◌<◌, ◌∙◌, ℕ, List, length, slice_range, refl, ap, sym, subst, arith, take, drop, ◌-◌}
+use Rattle.std.proofs.Common.{rules, ◌≡◌, ◌<◌, ◌∙◌, ℕ, List, length, slice_range, refl, ap, subst, arith, take, drop, ◌-◌}
 use Rattle.std.specs.Prelude.{Bool}
-use Rattle.noise_handshake.proofs.Common.{SymmetricState, PlacedToken, HandshakeValue, Party, party_of, Advances, after_payload, remote_after, tokens_of, after_tokens, ciphertext, Ok, reader_of, StopsKnowing}
+use Rattle.noise_handshake.proofs.Common.{SymmetricState, PlacedToken, HandshakeValue, Party, party_of, after_payload, remote_after, tokens_of, after_tokens, ciphertext, Ok, reader_of, StopsKnowing}
 use Rattle.noise_handshake.specs.inner.Reading.{ReadsMessage}
-use Rattle.noise_handshake.proofs.Advancing.{unended-read}
-use Rattle.noise_handshake.proofs.Followed.{gone-advances, gone-to, leaves-read}
+use Rattle.noise_handshake.proofs.Followed.{gone-same, leaves-read}
 use Rattle.noise_handshake.proofs.Layouts.{length-tokens_of}
 use Rattle.noise_handshake.proofs.Next.{reads-next, reads-theirs, places-next, psks-next, nonces-next, known-next, tokens-next, trial-next, listening-next}
 use Rattle.noise_handshake.proofs.Standing.{accepted, for-view, refused}
@@ -45,14 +44,8 @@ go_on-requires-clause-leaves g c =
     (q.2 ∙ ap (λ (z : SymmetricState). after_payload b z (tokens_of ds) q.0 payload) c.for_trial-state.ensures)
     (reads-theirs P a c.self.invariant c.args.self.now c.self.view_is c.requires.due) c.read_message.new.known q.3
 
-pub returns-in-Ok-clause-state : goal.returns-in-Ok-clause-state
-returns-in-Ok-clause-state g c =
-    let h = c.args.self.now in
-    subst (λ (z : HandshakeValue g.row.K.Denot). Advances h z) (sym c.go_on.ensures.value)
-    (gone-advances g.K.Keys.pairs h c.read_message.new.state c.read_message.new.known c.requires.psks (unended-read h c.requires.due))
-
-pub returns-in-Ok-clause-reads : goal.returns-in-Ok-clause-reads
-returns-in-Ok-clause-reads g c =
+pub returns-in-Ok : goal.returns-in-Ok
+returns-in-Ok g c =
     let P = g.K.Keys.pairs in
     let v : Party = party_of P c.args.self.now in
     let a = c.self.inside in
@@ -66,14 +59,23 @@ returns-in-Ok-clause-reads g c =
     let payload : List ℕ = slice_range c.read_message.new.message c.in-Ok.place.0 c.in-Ok.place.1 in
     let left = for-view v a.means.role a.means.has_psks (P a.means.keys).agree _ a.remote _ l
     (λ w z s us. (c.read_message.new.state ≡ after_payload w.has_psks v.state us q.0 payload) × (c.read_message.new.known ≡ remote_after z us q.0))
-    (q.2, q.3) in (
-      q.0,
-      accepted v a.means.role a.means.has_psks (P a.means.keys).agree _ a.remote _ l c.args.message.now q.0 _ c.requires.fits q.1,
-      ap (party_of P) c.go_on.ensures.value ∙ gone-to P h c.read_message.new.state c.read_message.new.known q.0 payload _ left.0 left.1,
-    )
+    (q.2, q.3) in
+    record {
+      reads = (
+        (c.in-Ok.ensures.range, c.in-Ok.ensures.beyond),
+        (
+          c.requires.psks,
+          (
+            q.0,
+            accepted v a.means.role a.means.has_psks (P a.means.keys).agree _ a.remote _ l c.args.message.now q.0 _ c.requires.fits q.1,
+            c.go_on.ensures.value ∙ gone-same h c.read_message.new.state c.read_message.new.known _ _ left.0 left.1,
+          ),
+        ),
+      );
+    }
 
-pub returns-in-Err-clause-reads : goal.returns-in-Err-clause-reads
-returns-in-Err-clause-reads g c =
+pub returns-in-Err : goal.returns-in-Err
+returns-in-Err g c =
     let P = g.K.Keys.pairs in
     let v : Party = party_of P c.args.self.now in
     let a = c.self.inside in
@@ -82,9 +84,14 @@ returns-in-Err-clause-reads g c =
     c.deref.result.now c.deref.ensures.0 c.requires.due in
     let q = subst (λ (z : SymmetricState). StopsKnowing (reader_of P a.means) a.remote (take (length c.deref.result.now - c.self.inside.used) (drop c.self.inside.used c.deref.result.now)) z (tokens_of c.deref-2.result.now)
     c.args.message.now c.in-Err.token c.in-Err.cause c.read_message.new.known)
-    (trial-next g.K.Keys.pairs c.self.inside c.self.invariant less c.deref-2.result.now c.deref-2.ensures.0 c.args.self.now c.self.view_is c.for_trial-state.result c.for_trial-state.ensures) c.in-Err.ensures.read in (
-      refused v a.means.role a.means.has_psks (P a.means.keys).agree _ a.remote _ l c.args.message.now _ _ q.0,
-      wants v c.args.message.now c.lacked.result a.means.role a.means.has_psks (P a.means.keys).agree _ a.remote _ l
-          (c.lacked.ensures (record { role = a.means.role; has_psks = a.means.has_psks; agree = (P a.means.keys).agree }) a.remote _ v.state c.args.message.now refl
-          (known-next g.K.Keys.pairs c.self.inside c.self.invariant less c.deref-2.result.now c.deref-2.ensures.0) q),
-    )
+    (trial-next g.K.Keys.pairs c.self.inside c.self.invariant less c.deref-2.result.now c.deref-2.ensures.0 c.args.self.now c.self.view_is c.for_trial-state.result c.for_trial-state.ensures) c.in-Err.ensures.read in
+    record {
+      reads = (
+        refused v a.means.role a.means.has_psks (P a.means.keys).agree _ a.remote _ l c.args.message.now _ _ q.0,
+        wants v c.args.message.now c.lacked.result a.means.role a.means.has_psks (P a.means.keys).agree _ a.remote _ l
+            (c.lacked.ensures (record { role = a.means.role; has_psks = a.means.has_psks; agree = (P a.means.keys).agree }) a.remote _ v.state c.args.message.now refl
+            (known-next g.K.Keys.pairs c.self.inside c.self.invariant less c.deref-2.result.now c.deref-2.ensures.0) q),
+        refl,
+        c.in-Err.ensures.unchanged,
+      );
+    }

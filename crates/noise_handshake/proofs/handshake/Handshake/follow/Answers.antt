@@ -86,7 +86,7 @@ returns-clause-accepted g c xs payload all a =
       ap Some q.0.from,
       q.1,
       subst (λ (z : HandshakeValue g.row.K.Denot). Matches P z (after_message v xs payload)) (sym c.go_on.ensures.value)
-          (gone-matches P c.args.self.now all less c.in-Some.front xs payload m c.mix_ciphertext.new.state _ q.0 spelled mixed),
+          (gone-matches P c.args.self.now all c.in-Some.front xs payload m c.mix_ciphertext.new.state _ q.0 spelled mixed),
     )
 
 pub returns-in_default-clause-written : goal.returns-in_default-clause-written
@@ -160,5 +160,5 @@ returns-clause-written g c xs payload all a =
       ap Some q.0.from,
       q.1,
       subst (λ (z : HandshakeValue g.row.K.Denot). Matches P z (after_own v xs payload)) (sym c.go_on.ensures.value)
-          (gone-matches P c.args.self.now all less c.in-Some.front xs payload m c.mix_ciphertext.new.state _ q.0 spelled mixed),
+          (gone-matches P c.args.self.now all c.in-Some.front xs payload m c.mix_ciphertext.new.state _ q.0 spelled mixed),
     )

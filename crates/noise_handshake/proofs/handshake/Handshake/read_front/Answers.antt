@@ -16,7 +16,7 @@ use Rattle.noise_handshake.proofs.Widths.{fit-carry}
 use Rattle.noise_handshake.proofs.handshake.Handshake.read_front.Goals as goal
 
 pub returns-in-Some-clause-front : goal.returns-in-Some-clause-front
-returns-in-Some-clause-front g c xs rest all within begins = absurd (supplied-not c.args.self.now c.requires.more all _ c.in-Some.ensures.lacks)
+returns-in-Some-clause-front g c xs rest all within begins = absurd (supplied-not c.args.self.now all _ c.in-Some.ensures.lacks)
 
 pub returns-then-count-len-clause-front : goal.returns-then-count-len-clause-front
 returns-then-count-len-clause-front g c xs rest all within begins =

@@ -1,4 +1,6 @@
+use Rattle.noise_handshake.proofs.Common.{Agreement, party_with}
 use Rattle.noise_handshake.proofs.LateParties.{read-dh-result, read-lacks}
+use Rattle.noise_handshake.proofs.Once.{refuses-one}
 use Rattle.noise_handshake.proofs.handshake.Handshake.wants_to_read.Goals as goal
 
 pub returns-in-Some-read_lacking-clause-wants : goal.returns-in-Some-read_lacking-clause-wants
@@ -15,7 +17,9 @@ pub returns-in-Ok-clause-asked : goal.returns-in-Ok-clause-asked
 returns-in-Ok-clause-asked g c later remote x = let e = c.in-Ok.ensures.asked later remote x in cc
 
 pub returns-in-Err-clause-wants : goal.returns-in-Err-clause-wants
-returns-in-Err-clause-wants g c later = (c.in-Err.ensures.wants later).1
+returns-in-Err-clause-wants g c later token r =
+    let w = c.in-Err.ensures.wants later in
+    w.1 (refuses-one (party_with g.K.Keys.pairs later c.args.self.now) c.args.message.now c.in-Err.field-0.token token c.in-Err.field-0.cause Agreement w.0 r).1
 
 pub returns-in-Err-clause-asked : goal.returns-in-Err-clause-asked
 returns-in-Err-clause-asked g c later remote x = let e = c.in-Err.ensures.asked later remote x in absurd (cc)

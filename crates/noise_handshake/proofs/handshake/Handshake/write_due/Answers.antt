@@ -1,11 +1,10 @@
-use Rattle.std.proofs.Common.{rules, ℕ, ◌+◌, ◌<◌, ◌≤◌, List, length, take, ap, sym, subst, ◌∙◌, arith, length-take, drop, ◌-◌, ◌≡◌}
+use Rattle.std.proofs.Common.{rules, inl, ℕ, ◌+◌, ◌<◌, ◌≤◌, List, length, take, ap, sym, subst, ◌∙◌, arith, length-take, drop, ◌-◌, ◌≡◌}
 use Rattle.std.specs.Prelude.{Bool}
-use Rattle.noise_handshake.proofs.Common.{Some, Token, SymmetricState, after_tokens, ciphertext, PlacedToken, tokens_of, Advances, after_payload, HandshakeValue, Party, party_of, ended_party, Ok, writer_of}
+use Rattle.noise_handshake.proofs.Common.{Some, Token, SymmetricState, after_tokens, ciphertext, PlacedToken, tokens_of, after_payload, HandshakeValue, Party, party_of, ended_as, Ok, writer_of}
 use Rattle.noise_handshake.specs.inner.Writing.{WritesMessage}
-use Rattle.noise_handshake.proofs.Advancing.{unended-write}
-use Rattle.noise_handshake.proofs.Followed.{gone-advances, gone-to, leaves-wrote}
+use Rattle.noise_handshake.proofs.Followed.{gone-same, leaves-wrote}
 use Rattle.noise_handshake.proofs.Layouts.{length-tokens_of}
-use Rattle.noise_handshake.proofs.Next.{writes-next, writes-ours, writes-long, writes-wide, writes-room, writes-most, psks-next, nonces-next, own-ours, tokens-next, trial-next, speaking-next, short-next}
+use Rattle.noise_handshake.proofs.Next.{writes-next, writes-ours, writes-long, writes-wide, writes-room, writes-most, psks-next, nonces-next, own-ours, tokens-next, trial-next, speaking-next}
 use Rattle.noise_handshake.proofs.Widths.{given-carry}
 use Rattle.noise_handshake.proofs.Wrote.{for-view, written, lacking}
 use Rattle.noise_handshake.proofs.handshake.Handshake.write_due.Goals as goal
@@ -62,25 +61,8 @@ go_on-requires-clause-leaves g c =
     (q.3 ∙ ap (λ (z : SymmetricState). after_payload b z us q.0 c.args.payload.now) c.for_trial-state.ensures)
     (writes-ours P a c.self.invariant c.args.self.now c.self.view_is (length c.args.payload.now) c.requires.due)
 
-pub returns-in-Ok-clause-state : goal.returns-in-Ok-clause-state
-returns-in-Ok-clause-state g c =
-    let h = c.args.self.now in
-    subst (λ (z : HandshakeValue g.row.K.Denot). Advances h z) (sym c.go_on.ensures.value)
-    (gone-advances g.K.Keys.pairs h c.write_message.new.state c.self.inside.remote c.requires.psks
-    (unended-write h (length c.args.payload.now) c.requires.due))
-
-pub returns-in-Ok-clause-len : goal.returns-in-Ok-clause-len
-returns-in-Ok-clause-len g c =
-    let long = writes-long g.K.Keys.pairs c.self.inside c.self.invariant c.args.self.now c.self.view_is
-    (length c.args.payload.now) c.requires.due in
-    let wide = c.in-Ok.ensures.width ∙ ap (λ (k : ℕ). k + length c.args.payload.now)
-    (writes-wide g.K.Keys.pairs c.self.inside c.self.invariant c.args.self.now c.self.view_is
-    (length c.args.payload.now) c.requires.due
-    c.deref-2.result.now c.deref-2.ensures.0 c.for_trial-state.result c.for_trial-state.ensures) in
-    (long ∙ ap Some (sym wide), omega (arith, c.requires.room _ long, wide))
-
-pub returns-in-Ok-clause-writes : goal.returns-in-Ok-clause-writes
-returns-in-Ok-clause-writes g c =
+pub returns-in-Ok : goal.returns-in-Ok
+returns-in-Ok g c =
     let P = g.K.Keys.pairs in
     let v : Party = party_of P c.args.self.now in
     let a = c.self.inside in
@@ -96,15 +78,27 @@ returns-in-Ok-clause-writes g c =
     let q = subst (λ (z : SymmetricState). WritesMessage (writer_of P a.means) z c.write_message.new.state a.remote (take (length c.deref.result.now - c.self.inside.used) (drop c.self.inside.used c.deref.result.now))
     (tokens_of c.deref-2.result.now) c.args.payload.now c.write_message.new.out (Ok c.in-Ok.len)) trial c.in-Ok.ensures.written in
     let left = for-view v a.means.role a.means.has_psks (P a.means.keys).public (P a.means.keys).agree _ a.remote _ l
-    (λ w z s us. c.write_message.new.state ≡ after_payload w.has_psks v.state us q.0 c.args.payload.now) q.3 in (
-      q.0,
-      written v a.means.role a.means.has_psks (P a.means.keys).public (P a.means.keys).agree _ a.remote _ l c.args.payload.now q.0 (take c.in-Ok.len c.write_message.new.out) fits q.1 q.2,
-      ap (party_of P) c.go_on.ensures.value
-          ∙ gone-to P c.args.self.now c.write_message.new.state a.remote q.0 c.args.payload.now v.remote left l.known_is,
-    )
+    (λ w z s us. c.write_message.new.state ≡ after_payload w.has_psks v.state us q.0 c.args.payload.now) q.3 in
+    let long = writes-long P a c.self.invariant c.args.self.now c.self.view_is (length c.args.payload.now) c.requires.due in
+    let wide = c.in-Ok.ensures.width ∙ ap (λ (k : ℕ). k + length c.args.payload.now)
+    (writes-wide P a c.self.invariant c.args.self.now c.self.view_is (length c.args.payload.now) c.requires.due
+    c.deref-2.result.now c.deref-2.ensures.0 c.for_trial-state.result c.for_trial-state.ensures) in
+    record {
+      writes = (
+        (long ∙ ap Some (sym wide), omega (arith, c.requires.room _ long, wide), c.in-Ok.ensures.beyond),
+        (
+          c.requires.psks,
+          (
+            q.0,
+            written v a.means.role a.means.has_psks (P a.means.keys).public (P a.means.keys).agree _ a.remote _ l c.args.payload.now q.0 (take c.in-Ok.len c.write_message.new.out) fits q.1 q.2,
+            c.go_on.ensures.value ∙ gone-same c.args.self.now c.write_message.new.state a.remote _ v.remote left l.known_is,
+          ),
+        ),
+      );
+    }
 
-pub returns-in-Err-clause-writes : goal.returns-in-Err-clause-writes
-returns-in-Err-clause-writes g c =
+pub returns-in-Err : goal.returns-in-Err
+returns-in-Err g c =
     let P = g.K.Keys.pairs in
     let v : Party = party_of P c.args.self.now in
     let a = c.self.inside in
@@ -113,11 +107,10 @@ returns-in-Err-clause-writes g c =
     let l = speaking-next g.K.Keys.pairs c.self.inside c.self.invariant less c.deref-2.result.now c.deref-2.ensures.0 c.args.self.now c.self.view_is
     c.deref.result.now c.deref.ensures.0 (length c.args.payload.now) c.requires.due in
     let trial = trial-next g.K.Keys.pairs c.self.inside c.self.invariant less c.deref-2.result.now c.deref-2.ensures.0 c.args.self.now c.self.view_is c.for_trial-state.result c.for_trial-state.ensures in
-    let q = c.in-Err.ensures.written in (
-      (
-        short-next g.K.Keys.pairs c.self.inside c.self.invariant less c.deref-2.result.now c.deref-2.ensures.0 c.args.self.now c.self.view_is
-            (length c.args.payload.now) c.requires.due,
-        lacking v a.means.role a.means.has_psks (P a.means.keys).public (P a.means.keys).agree _ a.remote _ l _ q,
-      ),
-      ap (λ (z : HandshakeValue g.row.K.Denot). ended_party (party_of P z)) c.self.view_is,
-    )
+    record {
+      writes = (
+        (c.requires.due, inl (c.requires.psks, lacking v a.means.role a.means.has_psks (P a.means.keys).public (P a.means.keys).agree _ a.remote _ l _ c.in-Err.ensures.written)),
+        ap (λ (z : HandshakeValue g.row.K.Denot). ended_as z) c.self.view_is,
+        λ other. absurd (other tt),
+      );
+    }

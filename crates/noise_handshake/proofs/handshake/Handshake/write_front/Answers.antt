@@ -15,7 +15,7 @@ use Rattle.noise_handshake.proofs.Wrote.{for-view}
 use Rattle.noise_handshake.proofs.handshake.Handshake.write_front.Goals as goal
 
 pub returns-in-Some-clause-front : goal.returns-in-Some-clause-front
-returns-in-Some-clause-front g c xs all within given = absurd (supplied-not c.args.self.now c.requires.more all _ c.in-Some.ensures.lacks)
+returns-in-Some-clause-front g c xs all within given = absurd (supplied-not c.args.self.now all _ c.in-Some.ensures.lacks)
 
 pub returns-then-count-len-clause-front : goal.returns-then-count-len-clause-front
 returns-then-count-len-clause-front g c xs all within given =

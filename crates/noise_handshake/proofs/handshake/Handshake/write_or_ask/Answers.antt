@@ -1,64 +1,72 @@
-use Rattle.std.proofs.Common.{◌≡◌, ap, refl, ℕ, length, sym, subst, ◌∙◌, arith, suc}
-use Rattle.noise_handshake.proofs.Common.{HasPsks, IsAgreement, LacksDhResult, Err, MatchOption, Option, Some, Party, party_of, party_with, Wants, tokens_now}
+use Rattle.std.proofs.Common.{◌≡◌, inl, inr, ap, refl, ℕ, List, length, sym, subst, ◌∙◌, arith, suc}
+use Rattle.noise_handshake.proofs.Common.{Err, MatchOption, None, Option, Some, HandshakeValue, HasPsks, IsWantedToWrite, LacksDhResult, Party, WriteFault, party_of, party_with, tokens_due, tokens_now, write_fault}
+use Rattle.noise_handshake.specs.Calls.{HandshakeWrites}
 use Rattle.noise_handshake.specs.declared.faults.Want.{Want}
 use Rattle.noise_handshake.specs.declared.faults.Want.TheVariants as want
+use Rattle.noise_handshake.specs.declared.faults.WriteFault.TheVariants as write
 use Rattle.noise_handshake.specs.declared.faults.Unwritten.TheVariants as unwritten
-use Rattle.noise_handshake.proofs.LateParties.{agrees, after-written, writes-partial, still-with, fault-no-agreement, speaks-due, written-no-agreement, withholds-partial, lacks-partial, withheld-view}
+use Rattle.noise_handshake.proofs.LateParties.{agrees, writes-partial, speaks-due, lacks-partial}
 use Rattle.noise_handshake.proofs.Later.{count-take}
+use Rattle.noise_handshake.proofs.NotDue.{still-unwritten}
+use Rattle.noise_handshake.proofs.Wrote.{due-not}
+use Rattle.noise_handshake.proofs.PskPlaces.{no-place}
 use Rattle.noise_handshake.proofs.handshake.Handshake.write_or_ask.Goals as goal
+use Rattle.noise_keys.specs.Keys.{KeyPairs}
+
+-- a message that is due isn't withheld
+module _ {K : Type 0} (pairs : K → KeyPairs) (h next : HandshakeValue K) (payload out new : List ℕ) (due : write_fault h (length payload) ≡ None)
+    (has : HasPsks h) (none : (token : ℕ) → LacksDhResult (party_of pairs h) token → ⊥) where
+  written : {B : Type 0} (fault : WriteFault) → HandshakeWrites pairs h payload out (Err fault) next new → B
+  written write.Ended w = absurd (due-not pairs h (length payload) due write.Ended (λ x. x) w.0)
+  written write.Done w = absurd (due-not pairs h (length payload) due write.Done (λ x. x) w.0)
+  written write.NotYourTurn w = absurd (due-not pairs h (length payload) due write.NotYourTurn (λ x. x) w.0)
+  written write.TooLong w = absurd (due-not pairs h (length payload) due write.TooLong (λ x. x) w.0)
+  written (write.Agreement token) w = absurd (elim w.0.1 [
+    | inl lacks ↦ none token lacks.1
+    | inr at ↦ no-place (tokens_due h) (length h.psks) token has at
+  ])
 
 pub returns-in-Some-clause-writes : goal.returns-in-Some-clause-writes
 returns-in-Some-clause-writes g c later =
-    let h = c.args.self.now in
-    let v : Party = party_with g.K.Keys.pairs later h in
-    let len : ℕ = length c.args.payload.now in
-    let clear = fault-no-agreement h len c.in-Some.fault (sym c.withheld.ensures.value ∙ c.in-Some.is) in (
-      (
-        withholds-partial v h.psks len c.in-Some.fault clear (c.in-Some.ensures.withholds),
-        clear,
-      ),
-      refl,
-    )
+    let e = sym c.write_fault.ensures.value ∙ c.in-Some.is in
+    (still-unwritten g.K.Keys.pairs c.args.self.now c.write_fault.ensures.within later (length c.args.payload.now) c.in-Some.fault e, refl, refl)
 
 pub write_due-requires-clause-psks : goal.write_due-requires-clause-psks
 write_due-requires-clause-psks g c =
-    c.wants_to_write.ensures.psks (speaks-due c.args.self.now (length c.args.payload.now) (sym c.withheld.ensures.value ∙ c.in_default.is)) c.in_default-wants_to_write.is
+    c.wants_to_write.ensures.psks (speaks-due c.args.self.now (length c.args.payload.now) (sym c.write_fault.ensures.value ∙ c.in_default.is)) c.in_default-wants_to_write.is
 
 pub returns-in-Ok-clause-writes : goal.returns-in-Ok-clause-writes
 returns-in-Ok-clause-writes g c later =
     let P = g.K.Keys.pairs in
     let h = c.args.self.now in
-    let v : Party = party_with P later h in
-    let has : HasPsks h = c.wants_to_write.ensures.psks (speaks-due h (length c.args.payload.now) (sym c.withheld.ensures.value ∙ c.in_default.is)) c.in_default-wants_to_write.is in
-    let q = c.in-Ok.ensures.writes in (
-      q.0,
-      writes-partial v h.psks (length h.psks) (agrees P h later) _ q.0 _ has q.1,
-      after-written P h later c.write_due.new.self q.0 _ has q.2,
-    )
+    let q = c.in-Ok.ensures.writes in
+    let r = q.1.1 in
+    let writes = writes-partial (party_with P later h) h.psks (length h.psks) (agrees P h later) _ r.0 _ q.1.0 r.1 in
+    (q.0, (q.1.0, (r.0, writes, r.2)))
 
 pub returns-in-Err-clause-writes : goal.returns-in-Err-clause-writes
 returns-in-Err-clause-writes g c later =
     let P = g.K.Keys.pairs in
     let h = c.args.self.now in
     let v : Party = party_with P later h in
-    let has : HasPsks h = c.wants_to_write.ensures.psks (speaks-due h (length c.args.payload.now) (sym c.withheld.ensures.value ∙ c.in_default.is)) c.in_default-wants_to_write.is in
-    let len : ℕ = length c.args.payload.now in
-    let q = c.in-Err.ensures.writes in
-    let lacks = subst (λ (o : Option Want). MatchOption o ((token : ℕ) → LacksDhResult v token → ⊥) (λ want. Wants v (length h.psks) want))
+    let due : write_fault h (length c.args.payload.now) ≡ None = sym c.write_fault.ensures.value ∙ c.in_default.is in
+    let has : HasPsks h = c.wants_to_write.ensures.psks (speaks-due h (length c.args.payload.now) due) c.in_default-wants_to_write.is in
+    let lacks = subst (λ (o : Option Want). MatchOption o ((token : ℕ) → LacksDhResult v token → ⊥) (λ want. IsWantedToWrite v (length h.psks) want))
     c.in_default-wants_to_write.is (c.wants_to_write.ensures.wants later) in
-    let clear : IsAgreement c.in-Err.fault → ⊥ = written-no-agreement (party_of P h) len c.in-Err.fault q.0
+    written P h c.write_due.new.self c.args.payload.now c.args.out.now c.write_due.new.out due has
     (λ token l. lacks token (lacks-partial v h.psks (length h.psks) (agrees P h later) token
-    (omega (arith, has, count-take (tokens_now v) (suc token))) l)) in (
-      (withholds-partial v h.psks len c.in-Err.fault clear q.0, clear),
-      still-with P h later c.write_due.new.self (q.1 ∙ withheld-view (party_of P h) c.in-Err.fault clear),
-    )
+    (omega (arith, has, count-take (tokens_now v) (suc token))) l)) c.in-Err.fault c.in-Err.ensures.writes
 
 pub returns-in-Some-wants_to_write-clause-writes : goal.returns-in-Some-wants_to_write-clause-writes
 returns-in-Some-wants_to_write-clause-writes g c later =
     let n : ℕ = length c.args.self.now.psks in
     let v : Party = party_with g.K.Keys.pairs later c.args.self.now in (
-      subst (λ (o : Option Want). MatchOption o ((token : ℕ) → LacksDhResult v token → ⊥) (λ want. Wants v n want)) c.in-Some-wants_to_write.is
-          (c.wants_to_write.ensures.wants later),
+      (
+        sym c.write_fault.ensures.value ∙ c.in_default.is,
+        subst (λ (o : Option Want). MatchOption o ((token : ℕ) → LacksDhResult v token → ⊥) (λ want. IsWantedToWrite v n want)) c.in-Some-wants_to_write.is
+            (c.wants_to_write.ensures.wants later),
+      ),
+      refl,
       refl,
     )
 

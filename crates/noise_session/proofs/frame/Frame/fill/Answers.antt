@@ -1,4 +1,4 @@
-use Rattle.std.proofs.Common.{rules, ◌-◌, length-drop}
+use Rattle.std.proofs.Common.{rules, length-drop}
 use Rattle.noise_session.proofs.Common.{length-take-le, take_rest}
 use Rattle.noise_session.proofs.Growing.{two-parts, all-came}
 use Rattle.noise_session.proofs.frame.Frame.fill.Goals as goal

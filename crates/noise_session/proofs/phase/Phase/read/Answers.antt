@@ -1,12 +1,10 @@
-use Rattle.std.proofs.Common.{◌+◌, [], None, Some, ap, refl, sym, subst}
+use Rattle.std.proofs.Common.{◌+◌, [], None, Some, ap, refl, sym, subst, ◌∙◌}
 use Rattle.noise_session.proofs.Common.{slice_range, after_message, Phase, TransportValue, EndState, PhaseMatches, OpenMatches, EndedMatches, transport_in, ended_session, accepted}
-use Rattle.noise_handshake.specs.Calls.{HasNotRead, HasReadAt}
-use Rattle.noise_handshake.specs.Matching.{Matches}
+use Rattle.noise_handshake.specs.HandshakeValue.{HandshakeValue}
 use Rattle.noise_handshake.specs.Party.{Party}
-use Rattle.noise_handshake.specs.declared.faults.ReadFault.{ReadFault}
-use Rattle.noise_handshake.specs.declared.faults.ReadFault.TheVariants as read
 use Rattle.noise_session.specs.Taking.Judges.{refused}
 use Rattle.noise_session.proofs.Parties.{no-hash, as-handshake, as-open, phase-partial}
+use Rattle.noise_session.proofs.Passing.{was-read, was-refused}
 use Rattle.noise_session.proofs.Judging.{opened-as, dropped-as, exhausted-as, ended-open}
 use Rattle.noise_session.specs.declared.faults.OpenFault.TheVariants as unopened
 use Rattle.noise_session.specs.declared.phase.Phase.TheVariants as phase
@@ -14,25 +12,33 @@ use Rattle.noise_session.proofs.phase.Phase.read.Goals as goal
 
 pub returns-in-Ok-clause-judges : goal.returns-in-Ok-clause-judges
 returns-in-Ok-clause-judges g c v s =
-    let h = as-handshake g.K.Keys.pairs _ _ _ v c.in-Handshaking.is s in
     let P = g.K.Keys.pairs in
-    let r = subst (λ (w : Party). HasReadAt (Matches P) w c.args.message.now c.read_within.new.message c.read_within.new.self c.in-Ok.place) h.party.is
-    (c.in-Ok.ensures.reads h.party.supplied) in
+    let old = c.in-Handshaking.handshake in
+    let h = as-handshake P _ _ _ v c.in-Handshaking.is s in
     let payload = slice_range c.read_within.new.message c.in-Ok.place.0 c.in-Ok.place.1 in
+    let r = was-read P old c.read_within.new.self v.party h.party (c.psks_suffice.ensures.kept old) c.args.message.now payload
+    c.in-Ok.ensures.reads.1 in
     let next : EndState = record v { party = after_message v.party r.0 payload; partial = [] } in
     (next, accepted v c.args.message.now payload r.0 r.1, c.settle.ensures.matches next (r.2, h.interval, h.sent, h.received), refl)
 
 pub returns-in-Err-Refused-clause-judges : goal.returns-in-Err-Refused-clause-judges
 returns-in-Err-Refused-clause-judges g c v s =
-    let h = as-handshake g.K.Keys.pairs _ _ _ v c.in-Handshaking.is s in
     let P = g.K.Keys.pairs in
-    let fault : ReadFault = read.Refused c.in-Err-Refused.token c.in-Err-Refused.cause in
-    let r = subst (λ (w : Party). HasNotRead (Matches P) w c.args.message.now c.read_within.new.self fault) h.party.is
-    (rw c.in-Err-Refused.field-0-is at c.in-Err-Refused.ensures.reads h.party.supplied) in
-    let ended_party : EndedMatches c.read_within.new.self.role None (ended_session v) = record { ended = refl; role = ap (λ (w : Party). w.role) r.1.is; hash = sym (no-hash v h.more) } in (
+    let old = c.in-Handshaking.handshake in
+    let token = c.in-Err-Refused.token in
+    let cause = c.in-Err-Refused.cause in
+    let h = as-handshake P _ _ _ v c.in-Handshaking.is s in
+    let w = rw c.in-Err-Refused.field-0-is at c.in-Err-Refused.ensures.reads in
+    let refuses = was-refused P old c.read_within.new.self v.party h.party (c.psks_suffice.ensures.due old) (c.psks_suffice.ensures.none old)
+    c.args.message.now token cause w.0.0 in
+    let ended_party : EndedMatches c.read_within.new.self.role None (ended_session v) = record {
+      ended = refl;
+      role = ap (λ (z : HandshakeValue g.row.K.Denot). z.role) w.0.1 ∙ ap (λ (z : Party). z.role) h.party.is;
+      hash = sym (no-hash v h.more);
+    } in (
       ended_session v,
-      refused v c.args.message.now c.in-Err-Refused.token c.in-Err-Refused.cause r.0,
-      subst (λ (p : Phase g.row.K.Denot). PhaseMatches g.K.Keys.pairs p (ended_session v)) (sym c.end.ensures) ended_party,
+      refused v c.args.message.now token cause refuses,
+      subst (λ (p : Phase g.row.K.Denot). PhaseMatches P p (ended_session v)) (sym c.end.ensures) ended_party,
       refl,
     )
 

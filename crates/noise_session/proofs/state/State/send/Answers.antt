@@ -1,17 +1,15 @@
-use Rattle.std.proofs.Common.{◌≡◌, ◌≤◌, ◌+◌, ◌-◌, ℕ, List, [], length, take, drop, None, Some, Ok, Err, IsTrue, refl, sym, ◌∙◌, ap, subst, arith, rules}
+use Rattle.std.proofs.Common.{◌≡◌, ◌≤◌, ◌+◌, ◌-◌, ℕ, List, [], length, take, drop, None, Some, Ok, Err, refl, sym, ◌∙◌, ap, subst, arith, rules}
 use Rattle.std.specs.Option.{ForSome}
 use Rattle.std.specs.Prelude.{if◌then◌else◌}
 use Rattle.noise_session.proofs.Common.{is_none, put_mid, Progress, refusal, message_length, frame_len_of, progress_in, frame}
 use Rattle.noise_session.proofs.Common.{after_own, Phase, TransportValue, seal_fault, EndState, EndMatches, PhaseMatches, HandshakeMatches, OpenMatches, EndedMatches, transport_in, ended_session, Sends, lacks_dh_result, sends_handshake, sends_transport}
-use Rattle.noise_handshake.specs.Calls.{HasNotWritten, HasWrittenTo}
-use Rattle.noise_handshake.specs.Matching.{Matches}
+use Rattle.noise_handshake.specs.HandshakeValue.{HandshakeValue}
 use Rattle.noise_handshake.specs.Party.{Party}
-use Rattle.noise_handshake.specs.declared.faults.WriteFault.TheVariants as write
-use Rattle.noise_session.specs.inner.Phases.{is_due}
 use Rattle.noise_session.specs.Sending.Sends.{refuses}
 use Rattle.noise_session.proofs.Parties.{no-hash, is-open, as-handshake, as-open, refused-by}
 use Rattle.noise_session.proofs.Judging.{ended-open}
-use Rattle.noise_session.proofs.Making.{ok-due, not-turn, too-long, lack-due, seal-due, seal-refused, refused-whole}
+use Rattle.noise_session.proofs.Making.{due-now, length-due, not-turn, too-long, seal-due, seal-refused, refused-whole}
+use Rattle.noise_session.proofs.Passing.{was-lacking, was-written}
 use Rattle.noise_session.proofs.Places.{framed, rest-after, room-after}
 use Rattle.noise_session.specs.declared.faults.SendFault.TheVariants as fault
 use Rattle.noise_session.proofs.state.State.send.Goals as goal
@@ -67,20 +65,20 @@ returns-in-Ok-clause-writes g c =
     let start = c.min-start.result in
     let written = c.write.new.out in
     let p = progress_in c.args.self.now.phase in
-    let due-there = ok-due h n (take (length out - start) (drop start out)) written len c.in-Ok.ensures.fault in
+    let wrote = c.in-Ok.ensures.writes in
+    let due-there = length-due h n len wrote.0.0 in
     let due : refusal p n ≡ None = rw c.in-Handshaking.is due-there in
     let long : len ≡ message_length p n = search rules in
     let room = due-fits p n (length out) c.requires.room due in
     let f = made p n len c.frame_message.result out written c.frame_message.new.out c.requires.room due long c.frame_message.ensures.len.0 start
-    (omega arith) c.frame_message.ensures.frame c.frame_message.ensures.beyond c.in-Ok.ensures.beyond in
+    (omega arith) c.frame_message.ensures.frame c.frame_message.ensures.beyond wrote.0.2 in
     record {
       len = (f.0, c.frame_message.ensures.len.1);
       beyond = f.1;
       refused = rw due tt;
       sends = λ v s.
           let m = as-handshake g.K.Keys.pairs _ _ _ v c.in-Handshaking.is s.phase in
-          let w = subst (λ (u : Party). HasWrittenTo (Matches g.K.Keys.pairs) u c.args.payload.now written c.write.new.self len) m.party.is
-          (c.in-Ok.ensures.writes m.party.supplied) in
+          let w = was-written g.K.Keys.pairs h c.write.new.self v.party m.party (c.psks_suffice.ensures.kept h) c.args.payload.now (take len written) wrote.1 in
           let due-by = refused-by g.K.Keys.pairs _ _ v n _ s.phase c.in-Handshaking.is due-there in
           let next : EndState = record v { party = after_own v.party w.0 c.args.payload.now } in (
             next,
@@ -95,15 +93,13 @@ returns-in-Err-NotYourTurn-clause-writes g c =
     let n = length c.args.payload.now in
     let out = c.args.out.now in
     let start = c.min-start.result in
-    let part = take (length out - start) (drop start out) in
-    let reported = rw c.in-Err-NotYourTurn.field-0-is at c.in-Err-NotYourTurn.ensures.fault in
-    let unchanged = rw c.in-Err-NotYourTurn.field-0-is at c.in-Err-NotYourTurn.ensures.state in
-    let due = subst (λ (p : Phase g.row.K.Denot). IsTrue (is_due p)) c.in-Handshaking.is c.args.self.now.due in
-    let why-there = not-turn c.in-Handshaking.handshake n part c.write.new.out due reported in
+    let reported = rw c.in-Err-NotYourTurn.field-0-is at c.in-Err-NotYourTurn.ensures.writes in
+    let unchanged = reported.1 in
+    let why-there = not-turn c.in-Handshaking.handshake n g.K.Keys.pairs reported.0 in
     record {
       len = tt;
       beyond = tt;
-      refused = refused-whole _ (Err fault.NotYourTurn) start out c.write.new.out (search rules);
+      refused = refused-whole _ (Err fault.NotYourTurn) start out c.write.new.out (rw c.in-Handshaking.is (rw why-there (refl, reported.2 (λ none. none))));
       sends = λ v s.
           let m = as-handshake g.K.Keys.pairs _ _ _ v c.in-Handshaking.is s.phase in (
             refuses v c.args.payload.now fault.NotYourTurn (refused-by g.K.Keys.pairs _ _ v n _ s.phase c.in-Handshaking.is why-there),
@@ -116,15 +112,13 @@ returns-in-Err-TooLong-clause-writes g c =
     let n = length c.args.payload.now in
     let out = c.args.out.now in
     let start = c.min-start.result in
-    let part = take (length out - start) (drop start out) in
-    let reported = rw c.in-Err-TooLong.field-0-is at c.in-Err-TooLong.ensures.fault in
-    let unchanged = rw c.in-Err-TooLong.field-0-is at c.in-Err-TooLong.ensures.state in
-    let due = subst (λ (p : Phase g.row.K.Denot). IsTrue (is_due p)) c.in-Handshaking.is c.args.self.now.due in
-    let why-there = too-long c.in-Handshaking.handshake n part c.write.new.out due reported in
+    let reported = rw c.in-Err-TooLong.field-0-is at c.in-Err-TooLong.ensures.writes in
+    let unchanged = reported.1 in
+    let why-there = too-long c.in-Handshaking.handshake n g.K.Keys.pairs reported.0 in
     record {
       len = tt;
       beyond = tt;
-      refused = refused-whole _ (Err fault.TooLong) start out c.write.new.out (search rules);
+      refused = refused-whole _ (Err fault.TooLong) start out c.write.new.out (rw c.in-Handshaking.is (rw why-there (refl, reported.2 (λ none. none))));
       sends = λ v s.
           let m = as-handshake g.K.Keys.pairs _ _ _ v c.in-Handshaking.is s.phase in (
             refuses v c.args.payload.now fault.TooLong (refused-by g.K.Keys.pairs _ _ v n _ s.phase c.in-Handshaking.is why-there),
@@ -137,9 +131,9 @@ returns-in-Err-Agreement-clause-writes g c =
     let n = length c.args.payload.now in
     let out = c.args.out.now in
     let start = c.min-start.result in
-    let part = take (length out - start) (drop start out) in
-    let reported = rw c.in-Err-Agreement.field-0-is at c.in-Err-Agreement.ensures.fault in
-    let due-there = lack-due c.in-Handshaking.handshake n part c.write.new.out c.in-Err-Agreement.token reported in
+    let reported = rw c.in-Err-Agreement.field-0-is at c.in-Err-Agreement.ensures.writes in
+    let old = c.in-Handshaking.handshake in
+    let due-there = due-now old n reported.0.0 in
     let due : refusal (progress_in c.args.self.now.phase) n ≡ None = rw c.in-Handshaking.is due-there in
     record {
       len = tt;
@@ -147,11 +141,11 @@ returns-in-Err-Agreement-clause-writes g c =
       refused = rw due tt;
       sends = λ v s.
           let m = as-handshake g.K.Keys.pairs _ _ _ v c.in-Handshaking.is s.phase in
-          let w = subst (λ (u : Party). HasNotWritten (Matches g.K.Keys.pairs) u n c.write.new.self (write.Agreement c.in-Err-Agreement.token)) m.party.is
-          (rw c.in-Err-Agreement.field-0-is at c.in-Err-Agreement.ensures.writes m.party.supplied) in
+          let lacks = was-lacking g.K.Keys.pairs old c.write.new.self v.party m.party (c.psks_suffice.ensures.due old) (c.psks_suffice.ensures.none old) n
+          c.in-Err-Agreement.token reported.0 in
           let due-by = refused-by g.K.Keys.pairs _ _ v n _ s.phase c.in-Handshaking.is due-there in
-          let ended_party : EndedMatches c.write.new.self.role None (ended_session v) = record { ended = refl; role = ap (λ (u : Party). u.role) w.1.is; hash = sym (no-hash v m.more) } in (
-            lacks_dh_result v c.args.payload.now c.in-Err-Agreement.token due-by w.0.1,
+          let ended_party : EndedMatches c.write.new.self.role None (ended_session v) = record { ended = refl; role = ap (λ (z : HandshakeValue g.row.K.Denot). z.role) reported.1 ∙ ap (λ (u : Party). u.role) m.party.is; hash = sym (no-hash v m.more) } in (
+            lacks_dh_result v c.args.payload.now c.in-Err-Agreement.token due-by lacks,
             record {
               phase = subst (λ (p : Phase g.row.K.Denot). PhaseMatches g.K.Keys.pairs p (ended_session v)) (sym c.end.ensures) ended_party;
               partial = c.clear.ensures.empty;
