@@ -5,7 +5,7 @@ CLIENT.
 Cut after some bytes, or with one of them flipped, doubled or left out, the client has to end with a status other than
 0; with nothing done to it, with 0. So a client never takes a part of the answer for the whole. Meanwhile another server
 has a client that sends a byte of a handshake each second: the server has to end with status 1 after some 10 seconds,
-all of the handshake's time.
+all of the handshake's time. Before, several servers start at once, in one folder: each has to take a client.
 """
 import socket
 import subprocess
@@ -16,6 +16,7 @@ import time
 TEXT = "an answer that has to come whole"
 STEP = 17
 SERVER_PORT, CLIENT_PORT, SLOW_PORT = 4051, 4052, 4055
+TOGETHER = range(4061, 4069)    # the ports of servers that start at once
 PATIENCE = 60   # seconds for a program to start or to end on a machine that has other work
 
 
@@ -87,6 +88,19 @@ def connect(port, serving):
     sys.exit("cut.py: no server")
 
 
+def start_together(server):
+    quiet = {"stdout": subprocess.DEVNULL, "stderr": subprocess.DEVNULL}
+    started = [(port, subprocess.Popen([server, "XX", str(port)], **quiet)) for port in TOGETHER]
+    try:
+        for port, serving in started:
+            connect(port, serving).close()
+            serving.wait(PATIENCE)
+    finally:
+        for _, serving in started:
+            serving.kill()
+            serving.wait()
+
+
 def be_slow(server, said):
     """Sends a frame's bytes one a second, and tells when the server has had enough."""
     quiet = {"stdout": subprocess.DEVNULL, "stderr": subprocess.DEVNULL}
@@ -107,6 +121,7 @@ def be_slow(server, said):
 
 def main():
     server, client = sys.argv[1:]
+    start_together(server)
     slow = []
     slowness = threading.Thread(target=be_slow, args=(server, slow))
     slowness.start()

@@ -62,9 +62,9 @@ key_pair pair_in(const char *file) {
 
 void save_public(const char *file, const uint8_t key[32]) {
     char other[200];
-    snprintf(other, sizeof other, "%s.new", file);
+    snprintf(other, sizeof other, "%s.%ld", file, (long)getpid());
     FILE *it = fopen(other, "wb");
-    // It gets its name last, so that nobody reads half of it.
+    // It gets its name last, so that nobody reads half of it; and two servers that start at once write two files.
     if (!it || fwrite(key, 1, 32, it) != 32 || fclose(it) || rename(other, file)) die(file);
 }
 
