@@ -1,8 +1,8 @@
 # make           builds the libraries and the command of the assembly text in dist/, in OUT (packaging/out); CC is the
 #                compiler
 # make noisecat  builds noisecat, the command of the package for Go; needs Go
-# make check     tries what was built, with a C compiler alone, in seconds; RUN is what runs a program for another
-#                machine, as qemu-aarch64
+# make check     tries what was built, with a C compiler alone, in half a minute; RUN is what runs a program for
+#                another machine, as qemu-aarch64
 # make install   installs what was built: PREFIX (/usr/local), LIBDIR (PREFIX/lib), DESTDIR
 # make uninstall removes what `make install` installs
 # make prove     proves the library and the command from the sources, and compares what comes out with dist/; needs `rt`

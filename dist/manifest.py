@@ -69,6 +69,10 @@ COPIES.update(
 COPIES["bindings/js/noise_c.wasm"] = (f"dist/{JS_MODULE}", b"")
 
 
+# What other scripts make of files of this folder in packages, without `rt`: go-assembler.
+MADE = [f"bindings/go/internal/library/{it}" for it in ("calls.go", "calls_amd64.s", "calls_arm64.s")]
+
+
 def files_of(products):
     return [it for it in TEXTS if TEXTS[it][0] in products] + [it for product in products for it in MODULES[product]]
 
@@ -79,7 +83,7 @@ def manifest():
         return {}
     with open(MANIFEST, encoding="utf-8") as it:
         lines = [line.rstrip("\n") for line in it if not line.startswith("#")]
-    parts = (re.match(r"(version|kit|(?:sources|commit|file|object|flags) \S+) (.*)", line) for line in lines)
+    parts = (re.match(r"(version|kit|(?:sources|commit|file|made|object|flags) \S+) (.*)", line) for line in lines)
     return {part[1]: part[2] for part in parts if part}
 
 
@@ -133,6 +137,13 @@ def manifest_of(products, made):
     return head + "".join(f"{key} {words}\n" for key, words in lines.items())
 
 
+def renew_made():
+    """Sets the lines of what other scripts have made, in place."""
+    text = re.sub(r"(?m)^made .*\n", "", read(MANIFEST).decode())
+    lines = "".join(f"made {it} {sum_of(read(f'{ROOT}/{it}'))}\n" for it in MADE)
+    write(MANIFEST, re.sub(r"(?m)^(file runtime\.c .*\n)", lambda it: it[0] + lines, text).encode())
+
+
 def write(path, content):
     os.makedirs(os.path.dirname(path), exist_ok=True)
     if not os.path.exists(path) or read(path) != content:
@@ -140,7 +151,7 @@ def write(path, content):
             it.write(content)
 
 
-def differences(products, made, is_same_kit):
+def differences(products, made):
     """What differs from the tree, a line each."""
     said, wanted = manifest(), {"version": version(), **{f"sources {it}": sources_of(it) for it in products}}
     for key, value in wanted.items():
@@ -150,8 +161,11 @@ def differences(products, made, is_same_kit):
         there = read(f"{HERE}/{file}") if os.path.exists(f"{HERE}/{file}") else b""
         if said.get(f"file {file}") != sum_of(there):
             yield f"{file}: not the file that MANIFEST names"
-        elif is_same_kit and file in made and made[file][0] not in (None, there):
+        elif file in made and made[file][0] not in (None, there):
             yield f"{file}: not what these sources make"
     for copy, (of, head) in COPIES.items() if "noise_c" in products else ():
         if not os.path.exists(f"{ROOT}/{copy}") or read(f"{ROOT}/{copy}") != head + read(f"{ROOT}/{of}"):
             yield f"{copy}: not the same as {of}"
+    for it in MADE if "noise_c" in products else ():
+        if not os.path.exists(f"{ROOT}/{it}") or said.get(f"made {it}") != sum_of(read(f"{ROOT}/{it}")):
+            yield f"{it}: not the file that MANIFEST names"

@@ -232,14 +232,14 @@ static void try_bytes(const snapshot *s) {
     for (size_t i = 0; i < sizeof s->h; i++) {
         for (size_t v = 0; v < sizeof values; v++) {
             changed.h.opaque[i] = values[v];
-            if (values[v] != s->h.opaque[i]) use_handshake(&changed);
+            if (values[v] != s->h.opaque[i] && is_due()) use_handshake(&changed);
         }
         changed.h.opaque[i] = s->h.opaque[i];
     }
 }
 
 static void try_random(const snapshot *s) {
-    for (unsigned round = 0; round < RANDOM_ROUNDS; round++) {
+    for (unsigned round = 0; round < RANDOM_ROUNDS / every; round++) {
         snapshot changed = *s;
         for (unsigned n = 1 + random_number() % 12; n; n--)
             changed.h.opaque[random_number() % sizeof s->h] = (uint8_t)random_number();
@@ -250,6 +250,7 @@ static void try_random(const snapshot *s) {
 static void try_filled(const snapshot *s) {
     snapshot changed = *s;
     for (unsigned v = 0; v < 256; v++) {
+        if (!is_due()) continue;
         memset(&changed.h, (int)v, sizeof changed.h);
         use_handshake(&changed);
         fill_randomly(changed.h.opaque, sizeof changed.h);
@@ -337,11 +338,12 @@ static void try_opened(const plan *p) {
         MUST(noise_datagram_seal(&others.s, public_key(1, true), 24, datagram, 48, result) == NOISE_OK);
     for (size_t i = 0; i < sizeof right; i++)
         for (size_t v = 0; v < sizeof values; v++) {
+            if (!is_due()) continue;
             opened changed = right;
             ((uint8_t *)&changed)[i] = values[v];
             use_opened(&changed, message, datagram);
         }
-    for (unsigned round = 0; round < RANDOM_ROUNDS; round++) {
+    for (unsigned round = 0; round < RANDOM_ROUNDS / every; round++) {
         opened changed = right;
         for (unsigned n = random_number() % 20; n; n--)
             ((uint8_t *)&changed)[random_number() % sizeof changed] = (uint8_t)random_number();
@@ -364,6 +366,7 @@ static void try_patterns(const plan *p) {
     static const char others[] = "\n :>-.,ekps0189AZ_\x80\xff";
     for (size_t i = 0; i <= size; i++)
         for (size_t v = 0; v < sizeof others; v++) {     // the zero after them is tried too
+            if (!is_due()) continue;
             *setup = setup_of(p, v & 1);
             memcpy(bytes, pattern, size);
             if (i < size) bytes[i] = (uint8_t)others[v];
@@ -372,7 +375,7 @@ static void try_patterns(const plan *p) {
             must_be(noise_start(h, at, some, nothing, 0, setup), faults);
             must_be(noise_check_pattern(at, some, of_text), CODE(NOISE_RULE + 1) - CODE(NOISE_HEADING));
         }
-    for (unsigned round = 0; round < RANDOM_ROUNDS; round++) {
+    for (unsigned round = 0; round < RANDOM_ROUNDS / every; round++) {
         fill_randomly((uint8_t *)setup, sizeof *setup);
         must_be(noise_start(h, bytes_of(0, (const uint8_t *)pattern, size), size, nothing, 0, setup), faults);
     }

@@ -8,6 +8,14 @@
 const char *const patterns[PATTERNS] = {
     "N", "K", "X", "NN", "NK", "NX", "KN", "KK", "KX", "XN", "XK", "XX", "IN", "IK", "IX"};
 
+_Thread_local unsigned long comparisons;
+unsigned every = 1;
+
+bool is_due(void) {
+    static _Thread_local unsigned long cases;
+    return cases++ % every == 0;
+}
+
 void fail(const char *file, int line, const char *what) {
     fprintf(stderr, "%s:%d: not so: %s\n", file, line, what);
     abort();

@@ -8,9 +8,14 @@
 #include <stdio.h>
 #include <string.h>
 
-// Ends the check where this isn't so.
-#define MUST(what) ((what) ? (void)0 : fail(__FILE__, __LINE__, #what))
+// Ends the check where this isn't so, and counts it where it is.
+#define MUST(what) ((what) ? (void)comparisons++ : fail(__FILE__, __LINE__, #what))
+extern _Thread_local unsigned long comparisons;
 _Noreturn void fail(const char *file, int line, const char *what);
+
+// Of the cases that are tried at each byte, each `every`-th is, and is_due says whether the next one is.
+extern unsigned every;
+bool is_due(void);
 
 // A set of codes, and whether a code is in it.
 #define CODE(code) (UINT64_C(1) << (code))

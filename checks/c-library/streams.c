@@ -420,6 +420,7 @@ static void check_network(void) {
             for (size_t at = 0; at < right.pipes[!direction].len; at++)
                 for (damage kind = FLIP; kind < KINDS; kind++)
                     for (unsigned bit = 0; bit < (kind == FLIP ? 8u : 1u); bit++) {
+                        if (!is_due()) continue;
                         session s = pass_session((attack){kind, direction, at, bit}, order == 1, order == 2);
                         bool hurt = judge(&s, !direction), back = judge(&s, direction);
                         // Whatever was done, the reader of the damaged direction knows it.
