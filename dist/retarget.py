@@ -49,6 +49,25 @@ def named(text):
     return re.sub(label, r"\1\2noise_\3", text)
 
 
+def plainly_named(text):
+    """The text with names of letters, digits and `_` in place of quoted ones, which clang takes for no symbol in
+    `call` on RISC-V."""
+    names = {}
+
+    def plain(it):
+        if it[1] not in names:
+            name = "noise_" + re.sub(r"[^A-Za-z0-9]+", "_", it[1]).strip("_")
+            while name in names.values():
+                name += "_"
+            names[it[1]] = name
+        return names[it[1]]
+
+    words = re.compile(r"\s*\.(ascii|asciz|string|ident|file|section|attribute)\b")
+    return "".join(
+        line if words.match(line) else re.sub(r'"([^"\n]*)"', plain, line) for line in text.splitlines(keepends=True)
+    )
+
+
 def marked(text):
     """A text for x86-64 with an instruction, endbr64, at the beginning of each function whose address is known
     elsewhere, so that a program of which the library is a part keeps Intel's CET: its shadow stack, and the test of
