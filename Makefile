@@ -1,17 +1,20 @@
+# This is for GNU make, which other systems call gmake.
 # make           builds the libraries and the command of the assembly text in dist/, in OUT (packaging/out); CC is the
 #                compiler
 # make noisecat  builds noisecat, the command of the package for Go; needs Go
 # make check     tries what was built, with a C compiler alone, in half a minute; RUN is what runs a program for
 #                another machine, as qemu-aarch64
-# make install   installs what was built: PREFIX (/usr/local), LIBDIR (PREFIX/lib), DESTDIR
+# make install   installs what was built: PREFIX (/usr/local), BINDIR, LIBDIR, INCLUDEDIR, MANDIR (PREFIX/bin, lib,
+#                include, share/man), DESTDIR
 # make uninstall removes what `make install` installs
 # make prove     proves the library and the command from the sources, and compares what comes out with dist/; needs `rt`
 # make web       puts the page, for any static server, into out/web
 # make vectors   packs the test vectors and their runners into packaging/out
 # make clean     removes what `make` built, and no proofs
-# CI runs ./check. In a tree that can't be written, name another folder by OUT.
+# CI runs ./check. In a tree that can't be written, name another folder by OUT. The compiler is given CPPFLAGS, CFLAGS
+# and LDFLAGS.
 PREFIX ?= /usr/local
-export CFLAGS LDFLAGS AR PREFIX LIBDIR DESTDIR RUN
+export CPPFLAGS CFLAGS LDFLAGS AR PREFIX BINDIR LIBDIR INCLUDEDIR MANDIR DESTDIR RUN
 
 # (make's own AR is always `ar`; packaging/assemble asks CC for its own)
 ifeq ($(origin AR),default)
@@ -20,6 +23,9 @@ endif
 
 top := $(dir $(lastword $(MAKEFILE_LIST)))
 OUT ?= $(top)packaging/out
+ifneq (1 1,$(words $(OUT)) $(words $(MAKEFILE_LIST)))
+$(error GNU make takes no folder whose name has a space: $(OUT))
+endif
 
 # What was built for another machine is installed and checked as it is, without another word on the compiler.
 ifeq ($(origin CC),default)

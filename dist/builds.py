@@ -10,6 +10,7 @@ import subprocess
 import tempfile
 
 from levels import Failure
+import modules
 
 HERE = os.path.dirname(os.path.realpath(__file__))
 ROOT = os.path.dirname(HERE)
@@ -40,6 +41,14 @@ def output_of(*words, **how):
         said = (ran.stdout + ran.stderr).decode(errors="replace").rstrip().split("\n")
         raise Failure("\n".join([f"{' '.join(words)[:200]}: status {ran.returncode}", *said[-30:]]))
     return ran.stdout
+
+
+# By --from-modules: the folder for the modules of modules/, of which all is made then, and `clang` of their version.
+FROM_MODULES = {}
+
+
+def clang():
+    return FROM_MODULES["clang"] if FROM_MODULES else f"{kit()}/toolchain/bin/clang"
 
 
 @functools.lru_cache
@@ -120,13 +129,21 @@ def build_command(name, words, of_text):
 
 @functools.lru_cache
 def build(product, name, of_text):
+    """The object of a build, and the folder of what LLVM's compiler was given for it."""
     words = BUILDS[product, name]
+    if FROM_MODULES:
+        given, module = modules.unpacked(name, FROM_MODULES["folder"])
+        made = f"{FROM_MODULES['folder']}/{name}.o"
+        output_of(clang(), *given, "-c", "-x", "ir", module, "-o", made)
+        return read(made), name
     return build_library(name, words) if product == "noise_c" else build_command(name, words, of_text)
 
 
 def recorded(record):
     """The words of the last call of `clang`, which makes the object, without the names of files; and the module that it
     read."""
+    if FROM_MODULES:
+        return modules.unpacked(record, FROM_MODULES["folder"])
     last = max(os.listdir(record), key=int)
     with open(f"{record}/{last}/words", encoding="utf-8") as it:
         words = it.read().splitlines()

@@ -4,8 +4,9 @@ differs from it.
 import os
 import re
 
-from builds import HERE, ROOT, kit, output_of, read, sum_of
+from builds import HERE, ROOT, clang, kit, output_of, read, sum_of
 import levels
+import modules
 from levels import Failure
 
 MANIFEST = f"{HERE}/MANIFEST"
@@ -83,8 +84,16 @@ def manifest():
         return {}
     with open(MANIFEST, encoding="utf-8") as it:
         lines = [line.rstrip("\n") for line in it if not line.startswith("#")]
-    parts = (re.match(r"(version|kit|(?:sources|commit|file|made|object|flags) \S+) (.*)", line) for line in lines)
+    key = r"(version|kit|clang|(?:sources|commit|file|made|object|flags) \S+) (.*)"
+    parts = (re.match(key, line) for line in lines)
     return {part[1]: part[2] for part in parts if part}
+
+
+def clang_of_modules():
+    """The version of `clang` that MANIFEST names."""
+    if "clang" not in manifest():
+        raise Failure("MANIFEST names no version of clang")
+    return manifest()["clang"]
 
 
 def kits():
@@ -127,7 +136,8 @@ def manifest_of(products, made):
         of = commit() if product in products else said.get(f"commit {product}")
         lines.update({f"commit {product}": of} if of else {})
     lines.update({f"file {it}": sum_of(made[it][0]) if it in made else said.get(f"file {it}", "none") for it in every})
-    lines["file runtime.c"] = sum_of(read(f"{HERE}/runtime.c"))
+    lines["clang"] = modules.version_of(clang())
+    lines.update({f"file {it}": sum_of(read(f"{HERE}/{it}")) for it in ["runtime.c", *modules.FILES]})
     for file in (it for it in TEXTS if not TEXTS[it][2]):
         objects = made[file][2] if file in made else objects_in(said, file) or {"": "none"}
         lines.update({f"object {file}{level}": it for level, it in objects.items()})
@@ -141,7 +151,8 @@ def renew_made():
     """Sets the lines of what other scripts have made, in place."""
     text = re.sub(r"(?m)^made .*\n", "", read(MANIFEST).decode())
     lines = "".join(f"made {it} {sum_of(read(f'{ROOT}/{it}'))}\n" for it in MADE)
-    write(MANIFEST, re.sub(r"(?m)^(file runtime\.c .*\n)", lambda it: it[0] + lines, text).encode())
+    before = r"(?m)^(file runtime\.c .*\n(?:file modules/.*\n)*)"
+    write(MANIFEST, re.sub(before, lambda it: it[0] + lines, text).encode())
 
 
 def write(path, content):
@@ -157,12 +168,15 @@ def differences(products, made):
     for key, value in wanted.items():
         if said.get(key) != value:
             yield f"MANIFEST: {key}: it has {said.get(key)}, and the tree {value}"
-    for file in [*files_of(products), "runtime.c"]:
+    for file in [*files_of(products), "runtime.c", *modules.FILES]:
         there = read(f"{HERE}/{file}") if os.path.exists(f"{HERE}/{file}") else b""
         if said.get(f"file {file}") != sum_of(there):
             yield f"{file}: not the file that MANIFEST names"
         elif file in made and made[file][0] not in (None, there):
             yield f"{file}: not what these sources make"
+    for file, level, it in ((file, *it) for file in made for it in (made[file][2] or {}).items()):
+        if said.get(f"object {file}{level}") != it:
+            yield f"MANIFEST: object {file}{level}: another than this"
     for copy, (of, head) in COPIES.items() if "noise_c" in products else ():
         if not os.path.exists(f"{ROOT}/{copy}") or read(f"{ROOT}/{copy}") != head + read(f"{ROOT}/{of}"):
             yield f"{copy}: not the same as {of}"
