@@ -189,7 +189,7 @@ impl<T: Write> Stream<T> {
     /// # Ok(()) }
     /// ```
     pub fn split(mut self, clone: impl FnOnce(&T) -> io::Result<T>) -> io::Result<(ReadHalf<T>, WriteHalf<T>)> {
-        match self.writing.before_a_wait(&mut self.below, false) {
+        match self.writing.before_a_wait(&mut self.below) {
             Err(error) if !is_wait(&error) => return Err(error),
             _ => {}
         }
@@ -214,15 +214,18 @@ impl<T: Write> WriteHalf<T> {
 }
 
 impl<T: Read + Write> Stream<T> {
+    // Where the last message of the handshake would have to wait, what comes is still read.
     fn before_a_read(&mut self) -> io::Result<()> {
         if self.reading.has_decrypted() {
             return Ok(());
         }
-        let sent = self.writing.before_a_wait(&mut self.below, self.reading.is_idle());
-        sent.map_err(|error| {
-            self.reading.lose(&error);
-            error
-        })
+        match self.writing.before_a_wait(&mut self.below) {
+            Err(error) if !is_wait(&error) => {
+                self.reading.lose(&error);
+                Err(error)
+            }
+            _ => Ok(()),
+        }
     }
 }
 
