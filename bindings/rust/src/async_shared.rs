@@ -3,7 +3,7 @@ use super::{below_closes, below_reads, AsyncRead, AsyncWrite};
 use crate::connection::connecting::Peer;
 use crate::raw::wipe;
 use crate::stream::passing::{Asked, Passing};
-use crate::stream::{hands_out, over, own, Reading, Writing};
+use crate::stream::{hands_out, is_later, over, own, Reading, Writing};
 use crate::{Connection, Dh, Ephemeral, Error, Handshake};
 use std::fmt;
 use std::future::{ready, Future};
@@ -82,7 +82,12 @@ impl<T: AsyncRead + AsyncWrite + Unpin> AsyncStream<T> {
         mut psk_for: impl FnMut([u8; 32]) -> G,
     ) -> io::Result<AsyncStream<T>> {
         loop {
-            match (Pass { below: &mut below, passing: &mut passing }).await? {
+            let passed = (Pass { below: &mut below, passing: &mut passing }).await;
+            if matches!(&passed, Err(error) if is_later(error)) {
+                agreed_later(&mut passing).await?;
+                continue;
+            }
+            match passed? {
                 Asked::Verify(key) if accept(key).await => passing.connecting.accept(),
                 Asked::Verify(_) => return Err(Error::Refused.into()),
                 Asked::Psk(key) => {
@@ -97,6 +102,17 @@ impl<T: AsyncRead + AsyncWrite + Unpin> AsyncStream<T> {
     }
 }
 
+// Waits for the key pair's result of X25519, and passes it.
+async fn agreed_later<S: Dh, E: Ephemeral>(passing: &mut Passing<S, E>) -> Result<(), Error> {
+    if let Some(agreed) = passing.connecting.agree_async() {
+        let mut dh_result = agreed.await?;
+        let passed = passing.connecting.answer_later(&dh_result);
+        wipe(&mut dh_result);
+        passed?;
+    }
+    Ok(())
+}
+
 impl<T: AsyncWrite + Unpin> AsyncStream<T> {
     /// Two halves, for two tasks, over those of the stream below: `stream.split(TcpStream::into_split).await?`. It
     /// sends the last message of the handshake, if that wasn't sent.
@@ -106,8 +122,8 @@ impl<T: AsyncWrite + Unpin> AsyncStream<T> {
     ) -> io::Result<(AsyncReadHalf<R>, AsyncWriteHalf<W>)> {
         (SendLast { below: &mut self.below, writing: &mut self.writing }).await?;
         let (reads, writes) = split(self.below);
-        let reads = AsyncReadHalf { below: reads, reading: self.reading };
-        Ok((reads, AsyncWriteHalf { below: writes, writing: self.writing, is_closed: self.is_closed }))
+        let (reads, writing) = (AsyncReadHalf { below: reads, reading: self.reading }, self.writing.of_half());
+        Ok((reads, AsyncWriteHalf { below: writes, writing, is_closed: self.is_closed }))
     }
 }
 
@@ -148,8 +164,8 @@ impl<T: AsyncRead + AsyncWrite + Unpin, S: Dh, E: Ephemeral> Future for Pass<'_,
     }
 }
 
-// The task that reads and the one that writes, while the last message of the handshake is due, which both send: a stream
-// below wakes only the last task that it was polled for. So it is polled for both.
+// The task that reads and the one that writes, while the last message of the handshake is due, which both send: a
+// stream below wakes only the last task that it was polled for. So it is polled for both.
 #[derive(Default)]
 struct Writers(Mutex<[Option<Waker>; 2]>);
 
@@ -274,6 +290,7 @@ impl<T: AsyncRead + AsyncWrite + Unpin> AsyncStream<T> {
         }
         let mut below = Polled::new(below, context);
         let filled = reading.fill(&mut below);
+        writing.release_at(&filled);
         below.polled(filled)
     }
 }
@@ -351,7 +368,7 @@ macro_rules! writes {
             // After the end there is nothing to flush, and the stream below is closed.
             pub(super) fn flush(&mut self, context: &mut Context<'_>) -> Poll<io::Result<()>> {
                 if self.is_closed {
-                    return Poll::Ready(Ok(()));
+                    return Poll::Ready(self.writing.check());
                 }
                 self.by_writer(context, |below, writing, context| {
                     let mut below = Polled::new(below, context);
@@ -363,7 +380,7 @@ macro_rules! writes {
             // Sends the end, and closes the stream below for writing.
             pub(super) fn end(&mut self, context: &mut Context<'_>) -> Poll<io::Result<()>> {
                 if self.is_closed {
-                    return Poll::Ready(Ok(()));
+                    return Poll::Ready(self.writing.check());
                 }
                 let ended = self.by_writer(context, |below, writing, context| {
                     let mut polled = Polled::new(&mut *below, context);

@@ -6,14 +6,20 @@ use std::io::{self, ErrorKind, Write};
 #[derive(Debug)]
 pub(crate) struct Writing {
     sender: StreamSender,
-    is_due: bool,     // the last message of the handshake, which this party sends: until the stream below has flushed it
+    is_due: bool, // the last message of the handshake, which this party sends: until the stream below has flushed it
     is_flushed: bool, // all that the stream below has taken
+    is_asked: bool, // for a flush, which isn't done
+    is_half: bool, // no read says when nothing is to do
 }
 
 impl Writing {
     pub(crate) fn new(sender: StreamSender) -> Writing {
         let is_due = !sender.outgoing().is_empty();
-        Writing { sender, is_due, is_flushed: true }
+        Writing { sender, is_due, is_flushed: true, is_asked: false, is_half: false }
+    }
+
+    pub(crate) fn of_half(self) -> Writing {
+        Writing { is_half: true, ..self }
     }
 
     pub(crate) fn write(&mut self, below: &mut impl Write, bytes: &[u8]) -> io::Result<usize> {
@@ -28,11 +34,14 @@ impl Writing {
     }
 
     pub(crate) fn flush(&mut self, below: &mut impl Write) -> io::Result<()> {
+        self.is_asked = true;
         self.send(below)?;
-        self.sender.release();
+        if self.is_half {
+            self.sender.release();
+        }
         let flushed = below.flush();
         self.lose(flushed)?;
-        (self.is_due, self.is_flushed) = (false, true);
+        (self.is_due, self.is_flushed, self.is_asked) = (false, true, false);
         Ok(())
     }
 
@@ -50,13 +59,26 @@ impl Writing {
         Ok(())
     }
 
-    // Gives a large buffer back, of which all was sent.
-    pub(crate) fn release(&mut self) {
-        self.sender.release();
+    // An error where the channel is over.
+    #[cfg(any(feature = "tokio", feature = "futures-io"))]
+    pub(crate) fn check(&self) -> io::Result<()> {
+        Ok(self.sender.check()?)
     }
 
-    // Ends the stream; or, where an earlier call has sealed the end, continues to send it. What is flushed isn't flushed
-    // again: a stream below may be pending at each call.
+    // Whether something waits until the stream below takes bytes.
+    pub(crate) fn wants(&self) -> bool {
+        self.sender.check().is_ok() && (self.is_due || self.is_asked || !self.sender.outgoing().is_empty())
+    }
+
+    // Where a read has to wait a large buffer is given back, of which all was sent.
+    pub(crate) fn release_at<R>(&mut self, read: &io::Result<R>) {
+        if matches!(read, Err(error) if is_wait(error)) {
+            self.sender.release();
+        }
+    }
+
+    // Ends the stream; or, where an earlier call has sealed the end, continues to send it. What is flushed isn't
+    // flushed again: a stream below may be pending at each call.
     pub(crate) fn end(&mut self, below: &mut impl Write) -> io::Result<()> {
         self.sender.end()?;
         self.send(below)?;
@@ -81,8 +103,7 @@ impl Writing {
             self.sender.sent(count);
             self.is_flushed = false;
         }
-        self.sender.check()
-            .map_err(io::Error::from)
+        Ok(self.sender.check()?)
     }
 
     // After an error but one of time the connection is lost.

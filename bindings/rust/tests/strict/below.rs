@@ -3,7 +3,7 @@
 use super::{Later, Random, SharedSide};
 use std::cell::RefCell;
 use std::collections::VecDeque;
-use std::io::{self, ErrorKind, Read};
+use std::io::{self, ErrorKind, Read, Write};
 use std::rc::Rc;
 use std::task::{Context, Poll, Waker};
 
@@ -190,6 +190,33 @@ impl Below {
     }
 }
 
+// For a program that waits until an end can read or write.
+impl Below {
+    pub fn poll_readable(&mut self, context: &mut Context<'_>) -> Poll<()> {
+        let mut from = self.from.borrow_mut();
+        if from.bytes.is_empty() && !from.is_closed {
+            from.reader = Some(context.waker().clone());
+            return Poll::Pending;
+        }
+        if self.manner.late > 0 && self.later.is_waiting(&self.reads, context) {
+            return Poll::Pending;
+        }
+        Poll::Ready(())
+    }
+
+    pub fn poll_writable(&mut self, context: &mut Context<'_>) -> Poll<()> {
+        let mut to = self.to.borrow_mut();
+        if to.bytes.len() == to.room && !to.is_left {
+            to.writer = Some(context.waker().clone());
+            return Poll::Pending;
+        }
+        if self.manner.late > 0 && self.later.is_waiting(&self.writes, context) {
+            return Poll::Pending;
+        }
+        Poll::Ready(())
+    }
+}
+
 // What waits for a flush is lost.
 impl Drop for Below {
     fn drop(&mut self) {
@@ -204,6 +231,7 @@ impl Drop for Below {
 }
 
 /// A half of an end.
+#[derive(Clone)]
 pub struct Half(Rc<RefCell<Below>>);
 
 impl Half {
@@ -213,7 +241,47 @@ impl Half {
     }
 }
 
-trait Whole {
+/// An end that doesn't block: where it is pending it says `WouldBlock`.
+#[derive(Clone)]
+pub struct Nonblocking(pub Half);
+
+impl Nonblocking {
+    pub fn new(below: Below) -> Nonblocking {
+        Nonblocking(Half::halves(below).0)
+    }
+
+    fn once<R>(&mut self, poll: impl FnOnce(&mut Below, &mut Context<'_>) -> Poll<io::Result<R>>) -> io::Result<R> {
+        struct Nobody;
+
+        impl std::task::Wake for Nobody {
+            fn wake(self: std::sync::Arc<Self>) {}
+        }
+
+        let waker = std::sync::Arc::new(Nobody).into();
+        match self.0.with(|below| poll(below, &mut Context::from_waker(&waker))) {
+            Poll::Ready(answer) => answer,
+            Poll::Pending => Err(ErrorKind::WouldBlock.into()),
+        }
+    }
+}
+
+impl Read for Nonblocking {
+    fn read(&mut self, into: &mut [u8]) -> io::Result<usize> {
+        self.once(|below, context| below.poll_read(context, into))
+    }
+}
+
+impl Write for Nonblocking {
+    fn write(&mut self, bytes: &[u8]) -> io::Result<usize> {
+        self.once(|below, context| below.poll_write(context, bytes))
+    }
+
+    fn flush(&mut self) -> io::Result<()> {
+        self.once(Below::poll_flush)
+    }
+}
+
+pub trait Whole {
     fn with<R>(&mut self, call: impl FnOnce(&mut Below) -> R) -> R;
 }
 

@@ -10,7 +10,7 @@ use std::future::Future;
 use std::pin::Pin;
 use std::rc::Rc;
 use std::sync::atomic::{AtomicBool, AtomicUsize, Ordering};
-use std::sync::Arc;
+use std::sync::{Arc, Mutex};
 use std::task::{Context, Poll, Wake, Waker};
 
 /// Numbers of a seed (splitmix64).
@@ -40,7 +40,8 @@ impl Random {
     }
 }
 
-/// What is pending without a reason at one side of a stream, until the executor wakes it: it keeps the last waker alone.
+/// What is pending without a reason at one side of a stream, until the executor wakes it. It keeps the last waker
+/// alone.
 #[derive(Default)]
 pub struct Side {
     waker: Option<Waker>,
@@ -48,16 +49,16 @@ pub struct Side {
     passes: bool, // the next call
 }
 
-pub type SharedSide = Rc<RefCell<Side>>;
+pub type SharedSide = Arc<Mutex<Side>>;
 
 /// The sides that the executor wakes at some time.
 #[derive(Clone, Default)]
-pub struct Later(Rc<RefCell<Vec<SharedSide>>>);
+pub struct Later(Arc<Mutex<Vec<SharedSide>>>);
 
 impl Later {
     /// Pending once; the next call after it was woken passes.
     pub fn is_late(&self, side: &SharedSide, context: &Context<'_>) -> bool {
-        if std::mem::take(&mut side.borrow_mut().passes) {
+        if std::mem::take(&mut side.lock().unwrap().passes) {
             return false;
         }
         self.wait(side, context);
@@ -66,7 +67,7 @@ impl Later {
 
     /// As `is_late`, and the next call still passes.
     pub fn is_waiting(&self, side: &SharedSide, context: &Context<'_>) -> bool {
-        let passes = side.borrow().passes;
+        let passes = side.lock().unwrap().passes;
         if !passes {
             self.wait(side, context);
         }
@@ -74,23 +75,28 @@ impl Later {
     }
 
     fn wait(&self, side: &SharedSide, context: &Context<'_>) {
-        side.borrow_mut().waker = Some(context.waker().clone());
-        if !std::mem::replace(&mut side.borrow_mut().is_listed, true) {
-            self.0.borrow_mut().push(side.clone());
+        side.lock().unwrap().waker = Some(context.waker().clone());
+        if !std::mem::replace(&mut side.lock().unwrap().is_listed, true) {
+            self.0.lock().unwrap().push(side.clone());
         }
     }
 
     fn len(&self) -> usize {
-        self.0.borrow().len()
+        self.0.lock().unwrap().len()
     }
 
     fn wake(&self, place: usize) {
-        let side = self.0.borrow_mut().swap_remove(place);
-        let mut side = side.borrow_mut();
+        let side = self.0.lock().unwrap().swap_remove(place);
+        let mut side = side.lock().unwrap();
         (side.is_listed, side.passes) = (false, true);
         if let Some(waker) = side.waker.take() {
             waker.wake();
         }
+    }
+
+    /// Whether the next call passes: then it doesn't any more.
+    pub fn has_passed(side: &SharedSide) -> bool {
+        std::mem::take(&mut side.lock().unwrap().passes)
     }
 
     /// Pending once.

@@ -1,7 +1,7 @@
 // Two parties over a stream below, in every manner: what each sends the other reads whole, up to its end.
 use super::below::{connection, Below};
-use super::{by, Executor, Later, Random};
-use crate::toy::{builder, Party, Toy, PSK};
+use super::{by, Executor, Later, Random, SharedSide};
+use crate::toy::{builder, Toy, PSK};
 use std::cell::{Cell, RefCell};
 use std::collections::HashMap;
 use std::future::Future;
@@ -9,13 +9,16 @@ use std::io::{self, ErrorKind};
 use std::pin::Pin;
 use std::rc::Rc;
 use std::task::{Context, Poll, Waker};
-use yulimosar::{Builder, Pattern};
+use yulimosar::{Agent, Builder, Dh, DhError, Handshake, Pattern};
 
 /// The fifteen fundamental patterns, and some with psks.
 pub const PATTERNS: [&str; 21] = [
-    "N", "K", "X", "NN", "NK", "NX", "KN", "KK", "KX", "XN", "XK", "XX", "IN", "IK", "IX", "NNpsk0", "KNpsk2", "IKpsk1",
-    "IKpsk2", "XXpsk3", "Xpsk1",
+    "N", "K", "X", "NN", "NK", "NX", "KN", "KK", "KX", "XN", "XK", "XX", "IN", "IK", "IX", "NNpsk0", "KNpsk2",
+    "IKpsk1", "IKpsk2", "XXpsk3", "Xpsk1",
 ];
+
+/// The static key pair may be in an agent, or say that its result comes later.
+pub type Party = Handshake<Box<dyn Dh>, Toy>;
 
 pub type Opening<C> = Pin<Box<dyn Future<Output = io::Result<C>>>>;
 
@@ -45,7 +48,11 @@ pub trait Channel: Reads + Writes {
     type Reads: Reads;
     type Writes: Writes;
 
-    fn open(below: Below, handshake: Party, way: Way, later: Later) -> Opening<Self>
+    /// Whether two tasks may share it.
+    const IS_SHARED: bool = true;
+
+    /// `key`: the side at which the program waits for its key pair, if nothing else does.
+    fn open(below: Below, handshake: Party, way: Way, later: Later, key: SharedSide) -> Opening<Self>
     where
         Self: Sized;
     fn halves(self) -> Opening<(Self::Reads, Self::Writes)>;
@@ -117,6 +124,29 @@ pub enum Style {
     Halves, // in two tasks, which have a half each
 }
 
+/// Where its static secret key is.
+#[derive(Clone, Copy, Debug, PartialEq, Eq)]
+pub enum Key {
+    Here,
+    Agent,
+}
+
+// A key pair that says that its result comes later, until the program has waited for it.
+struct Slow(Toy, SharedSide);
+
+impl Dh for Slow {
+    fn public(&self) -> [u8; 32] {
+        self.0.public()
+    }
+
+    fn agree(&self, remote: &[u8; 32]) -> Result<[u8; 32], DhError> {
+        if Later::has_passed(&self.1) {
+            return self.0.agree(remote);
+        }
+        Err(DhError::later())
+    }
+}
+
 /// When it writes.
 #[derive(Clone, Copy, Debug, PartialEq, Eq)]
 pub enum Speaks {
@@ -153,7 +183,13 @@ impl Signal {
 // A channel, or its half, that two tasks may share.
 type Shared<C> = Rc<RefCell<C>>;
 
-async fn read_all<C: Reads>(run: Run, channel: Shared<C>, names: [&'static str; 2], outcome: SharedOutcome, came: Signal) {
+async fn read_all<C: Reads>(
+    run: Run,
+    channel: Shared<C>,
+    names: [&'static str; 2],
+    outcome: SharedOutcome,
+    came: Signal,
+) {
     let mut room = vec![0; run.random.of(&[1, 3, 100, 5000])];
     let end = loop {
         let fills = run.random.one_in(3);
@@ -175,7 +211,12 @@ async fn read_all<C: Reads>(run: Run, channel: Shared<C>, names: [&'static str; 
     came.set();
 }
 
-async fn write_all<C: Writes>(run: &Run, channel: &Shared<C>, names: [&'static str; 4], bytes: &[u8]) -> io::Result<()> {
+async fn write_all<C: Writes>(
+    run: &Run,
+    channel: &Shared<C>,
+    names: [&'static str; 4],
+    bytes: &[u8],
+) -> io::Result<()> {
     let mut rest = bytes;
     while !rest.is_empty() {
         let part = &rest[..rest.len().min(1 + run.random.below(400))];
@@ -226,6 +267,10 @@ async fn write_then<C: Writes>(
 
 /// What a party does.
 pub struct Plan {
+    pub pattern: String,
+    pub initiator: bool,
+    pub key: Key,
+    pub flushes: bool, // the last message before the channel is there
     pub style: Style,
     pub speaks: Speaks,
     pub bytes: Option<Vec<u8>>, // None: the pattern is one-way, and this is the other direction
@@ -270,14 +315,16 @@ async fn both(one: impl Future<Output = ()> + 'static, other: impl Future<Output
 }
 
 /// One party: it opens the channel, and does what its plan says.
-pub async fn party<C: Channel>(run: Run, below: Below, handshake: Party, plan: Rc<Plan>, outcome: SharedOutcome) {
+pub async fn party<C: Channel>(run: Run, below: Below, plan: Rc<Plan>, outcome: SharedOutcome) {
     let opening = match plan.way {
         Way::Verified => "AsyncStream::new",
         Way::Anonymous => "AsyncStream::anonymous",
         Way::Psk => "AsyncStream::with_psk_for",
     };
     run.counts.note(run.number, opening);
-    let channel = match C::open(below, handshake, plan.way, run.executor.later.clone()).await {
+    let key = SharedSide::default();
+    let handshake = plan.handshake(C::IS_SHARED, &run, &key);
+    let channel = match C::open(below, handshake, plan.way, run.executor.later.clone(), key).await {
         Ok(channel) => channel,
         Err(error) => {
             outcome.borrow_mut().end = Some(Err(error.kind()));
@@ -333,20 +380,41 @@ pub fn way_of(pattern: &str, initiator: bool, random: &Random) -> Way {
     }
 }
 
-fn handshake(pattern: &str, initiator: bool, way: Way) -> Party {
-    let (client, server) = (Toy(3), Toy(5));
-    let (own, other) = if initiator { (client, server) } else { (server, client) };
-    match way {
-        Way::Psk => {
-            let mut builder = Builder::new(pattern).prologue(b"test").static_key(own).late_psks();
-            let other_key = [other.0; 32];
-            if Pattern::new(pattern).unwrap().responder().remote_static {
-                builder = builder.remote_static(&other_key);
+impl Plan {
+    fn key(&self, own: Toy, is_async: bool, run: &Run, side: &SharedSide) -> Box<dyn Dh> {
+        match self.key {
+            Key::Here => Box::new(own),
+            Key::Agent if is_async => {
+                let later = run.executor.later.clone();
+                Box::new(Agent::new(own.public(), move |remote| {
+                    let later = later.clone();
+                    async move {
+                        later.pass().await;
+                        later.pass().await;
+                        own.agree(&remote)
+                    }
+                }))
             }
-            builder.responder_with().unwrap()
+            Key::Agent => Box::new(Slow(own, side.clone())),
         }
-        _ if initiator => builder(pattern, own, other, true).initiator_with().unwrap(),
-        _ => builder(pattern, own, other, false).responder_with().unwrap(),
+    }
+
+    fn handshake(&self, is_async: bool, run: &Run, side: &SharedSide) -> Party {
+        let (client, server) = (Toy(3), Toy(5));
+        let (own, other) = if self.initiator { (client, server) } else { (server, client) };
+        let (key, other_key) = (self.key(own, is_async, run, side), other.public());
+        let pattern = &*self.pattern;
+        let mut builder = match self.way {
+            Way::Psk => Builder::new(pattern).prologue(b"test").late_psks().static_key(key),
+            _ => builder(pattern, own, other, self.initiator).static_key(key),
+        };
+        if matches!(self.way, Way::Psk) && Pattern::new(pattern).unwrap().responder().remote_static {
+            builder = builder.remote_static(&other_key);
+        }
+        if self.flushes {
+            builder = builder.flush_handshake();
+        }
+        if self.initiator { builder.initiator_with() } else { builder.responder_with() }.unwrap()
     }
 }
 
@@ -354,7 +422,7 @@ pub fn psk_for(key: [u8; 32]) -> Option<[u8; 32]> {
     (key == [3; 32]).then(|| PSK)
 }
 
-fn plan(run: &Run, pattern: &str, initiator: bool, speaks: Speaks, dropped_at: usize) -> Plan {
+fn plan(run: &Run, pattern: &str, initiator: bool, speaks: Speaks, dropped_at: usize, is_shared: bool) -> Plan {
     let random = &run.random;
     let one_way = Pattern::new(pattern).unwrap().is_one_way();
     let len = random.of(&[0, 1, 50, 300, 1500]);
@@ -363,10 +431,16 @@ fn plan(run: &Run, pattern: &str, initiator: bool, speaks: Speaks, dropped_at: u
     let styles = match (dropped_at < usize::MAX, speaks == Speaks::AtOnce && !one_way) {
         (true, true) => &[Style::Joined][..],
         (true, false) => &[Style::Joined, Style::Turns],
+        (false, true) if !is_shared => &[Style::Joined, Style::Halves],
         (false, true) => &[Style::Joined, Style::Tasks, Style::Halves],
+        (false, false) if !is_shared => &[Style::Joined, Style::Halves, Style::Turns],
         (false, false) => &[Style::Joined, Style::Tasks, Style::Halves, Style::Turns],
     };
     Plan {
+        pattern: pattern.into(),
+        initiator,
+        key: random.of(&[Key::Here, Key::Here, Key::Agent]),
+        flushes: random.one_in(3),
         style: random.of(styles),
         speaks,
         bytes: (initiator || !one_way).then(|| bytes),
@@ -391,14 +465,13 @@ pub fn session<C: Channel>(run: &Run, pattern: &str, is_dropped: bool) -> Result
     let outcomes = [SharedOutcome::default(), SharedOutcome::default()];
     for (place, below) in [client, server].into_iter().enumerate() {
         let dropped_at = if is_dropped && place == victim { 1 + random.below(30) } else { usize::MAX };
-        let plan = Rc::new(plan(run, pattern, place == 0, speaks[place], dropped_at));
+        let plan = Rc::new(plan(run, pattern, place == 0, speaks[place], dropped_at, C::IS_SHARED));
         plans.push(plan.clone());
-        let handshake = handshake(pattern, place == 0, plan.way);
-        let work = party::<C>(run.clone(), below, handshake, plan, outcomes[place].clone());
+        let work = party::<C>(run.clone(), below, plan, outcomes[place].clone());
         run.executor.start_dropped_at(["the initiator", "the responder"][place], dropped_at, work);
     }
     let describe = |fault: String| {
-        let plan = |plan: &Plan| format!("{:?} {:?} {:?}", plan.style, plan.speaks, plan.way);
+        let plan = |plan: &Plan| format!("{:?} {:?} {:?} {:?}", plan.style, plan.speaks, plan.way, plan.key);
         format!("{pattern}, {} with {}: {fault}", plan(&plans[0]), plan(&plans[1]))
     };
     let polls = run.executor.run(random).map_err(describe)?;
@@ -413,7 +486,12 @@ pub fn session<C: Channel>(run: &Run, pattern: &str, is_dropped: bool) -> Result
             _ if !is_dropped && outcome.sent != Some(Ok(())) => "it could not write",
             _ => continue,
         };
-        return Err(describe(format!("{}: {fault} ({:?}, {:?})", ["initiator", "responder"][place], outcome.end, outcome.sent)));
+        return Err(describe(format!(
+            "{}: {fault} ({:?}, {:?})",
+            ["initiator", "responder"][place],
+            outcome.end,
+            outcome.sent
+        )));
     }
     Ok(polls)
 }
