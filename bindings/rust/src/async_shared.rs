@@ -3,19 +3,23 @@ use super::{below_closes, below_reads, AsyncRead, AsyncWrite};
 use crate::connection::connecting::Peer;
 use crate::raw::wipe;
 use crate::stream::passing::{Asked, Passing};
-use crate::stream::{hands_out, over, own, Reading, Writing};
+use crate::stream::{hands_out, is_later, over, own, Reading, Writing};
 use crate::{Connection, Dh, Ephemeral, Error, Handshake};
 use std::fmt;
 use std::future::{ready, Future};
 use std::io::{self, ErrorKind, Read, Write};
+use std::mem::take;
 use std::pin::Pin;
-use std::task::{Context, Poll};
+use std::sync::{Arc, Mutex, MutexGuard, PoisonError};
+use std::task::{Context, Poll, Wake, Waker};
 
 /// A secure channel over anything that is `AsyncRead` and `AsyncWrite`. Its module says more.
 pub struct AsyncStream<T> {
     below: T,
     reading: Reading,
     writing: Writing,
+    writers: Arc<Writers>,
+    is_closed: bool, // the stream below, for writing
     hash: [u8; 32],
     remote_static: Option<[u8; 32]>,
 }
@@ -30,6 +34,7 @@ pub struct AsyncReadHalf<T> {
 pub struct AsyncWriteHalf<T> {
     below: T,
     writing: Writing,
+    is_closed: bool,
 }
 
 impl<T: AsyncRead + AsyncWrite + Unpin> AsyncStream<T> {
@@ -77,7 +82,12 @@ impl<T: AsyncRead + AsyncWrite + Unpin> AsyncStream<T> {
         mut psk_for: impl FnMut([u8; 32]) -> G,
     ) -> io::Result<AsyncStream<T>> {
         loop {
-            match (Pass { below: &mut below, passing: &mut passing }).await? {
+            let passed = (Pass { below: &mut below, passing: &mut passing }).await;
+            if matches!(&passed, Err(error) if is_later(error)) {
+                agreed_later(&mut passing).await?;
+                continue;
+            }
+            match passed? {
                 Asked::Verify(key) if accept(key).await => passing.connecting.accept(),
                 Asked::Verify(_) => return Err(Error::Refused.into()),
                 Asked::Psk(key) => {
@@ -92,6 +102,17 @@ impl<T: AsyncRead + AsyncWrite + Unpin> AsyncStream<T> {
     }
 }
 
+// Waits for the key pair's result of X25519, and passes it.
+async fn agreed_later<S: Dh, E: Ephemeral>(passing: &mut Passing<S, E>) -> Result<(), Error> {
+    if let Some(agreed) = passing.connecting.agree_async() {
+        let mut dh_result = agreed.await?;
+        let passed = passing.connecting.answer_later(&dh_result);
+        wipe(&mut dh_result);
+        passed?;
+    }
+    Ok(())
+}
+
 impl<T: AsyncWrite + Unpin> AsyncStream<T> {
     /// Two halves, for two tasks, over those of the stream below: `stream.split(TcpStream::into_split).await?`. It
     /// sends the last message of the handshake, if that wasn't sent.
@@ -101,8 +122,8 @@ impl<T: AsyncWrite + Unpin> AsyncStream<T> {
     ) -> io::Result<(AsyncReadHalf<R>, AsyncWriteHalf<W>)> {
         (SendLast { below: &mut self.below, writing: &mut self.writing }).await?;
         let (reads, writes) = split(self.below);
-        let reads = AsyncReadHalf { below: reads, reading: self.reading };
-        Ok((reads, AsyncWriteHalf { below: writes, writing: self.writing }))
+        let (reads, writing) = (AsyncReadHalf { below: reads, reading: self.reading }, self.writing.of_half());
+        Ok((reads, AsyncWriteHalf { below: writes, writing, is_closed: self.is_closed }))
     }
 }
 
@@ -110,7 +131,9 @@ impl<T> AsyncStream<T> {
     fn of(below: T, connection: Connection) -> AsyncStream<T> {
         let (hash, remote_static) = (*connection.hash(), connection.remote_static().copied());
         let (sender, receiver) = connection.split();
-        AsyncStream { below, reading: Reading::new(receiver), writing: Writing::new(sender), hash, remote_static }
+        let (reading, writing) = (Reading::new(receiver), Writing::new(sender));
+        let writers = Arc::default();
+        AsyncStream { below, reading, writing, writers, is_closed: false, hash, remote_static }
     }
 
     /// The handshake hash, the same at both parties, to bind other data to the channel (Noise, 11.2).
@@ -141,6 +164,50 @@ impl<T: AsyncRead + AsyncWrite + Unpin, S: Dh, E: Ephemeral> Future for Pass<'_,
     }
 }
 
+// The task that reads and the one that writes, while the last message of the handshake is due, which both send: a
+// stream below wakes only the last task that it was polled for. So it is polled for both.
+#[derive(Default)]
+struct Writers(Mutex<[Option<Waker>; 2]>);
+
+#[derive(Clone, Copy)]
+enum Role {
+    Reads,
+    Writes,
+}
+
+impl Writers {
+    fn wakers(&self) -> MutexGuard<'_, [Option<Waker>; 2]> {
+        self.0.lock().unwrap_or_else(PoisonError::into_inner)
+    }
+
+    // Where one has got on, the stream below has forgotten the other one.
+    fn poll<R>(
+        self: &Arc<Self>,
+        role: Role,
+        context: &Context<'_>,
+        poll: impl FnOnce(&mut Context<'_>) -> Poll<R>,
+    ) -> Poll<R> {
+        self.wakers()[role as usize] = Some(context.waker().clone());
+        let answer = poll(&mut Context::from_waker(&self.clone().into()));
+        if answer.is_ready() {
+            self.wakers()[role as usize] = None;
+            self.wake_by_ref();
+        }
+        answer
+    }
+}
+
+impl Wake for Writers {
+    fn wake(self: Arc<Self>) {
+        self.wake_by_ref();
+    }
+
+    fn wake_by_ref(self: &Arc<Self>) {
+        let wakers = take(&mut *self.wakers());
+        wakers.into_iter().flatten().for_each(Waker::wake);
+    }
+}
+
 // The last message of a handshake.
 struct SendLast<'p, T> {
     below: &'p mut T,
@@ -153,7 +220,7 @@ impl<T: AsyncWrite + Unpin> Future for SendLast<'_, T> {
     fn poll(self: Pin<&mut Self>, context: &mut Context<'_>) -> Poll<io::Result<()>> {
         let SendLast { below, writing } = self.get_mut();
         let mut below = Polled::new(below, context);
-        let sent = writing.before_a_wait(&mut below, false);
+        let sent = writing.before_a_wait(&mut below);
         below.polled(sent)
     }
 }
@@ -209,21 +276,46 @@ impl<T: AsyncWrite + Unpin> Write for Polled<'_, '_, T> {
 
 impl<T: AsyncRead + AsyncWrite + Unpin> AsyncStream<T> {
     pub(super) fn fill(&mut self, context: &mut Context<'_>) -> Poll<io::Result<&[u8]>> {
-        let AsyncStream { below, reading, writing, .. } = self;
-        let mut below = Polled::new(below, context);
-        if !reading.has_decrypted() {
-            let sent = writing.before_a_wait(&mut below, reading.is_idle());
-            match below.polled(sent) {
-                Poll::Ready(Ok(())) => {}
-                Poll::Ready(Err(error)) => {
-                    reading.lose(&error);
-                    return Poll::Ready(Err(error));
-                }
-                Poll::Pending => return Poll::Pending,
+        let AsyncStream { below, reading, writing, writers, .. } = self;
+        if writing.is_due() && !reading.has_decrypted() {
+            let sent = writers.poll(Role::Reads, context, |context| {
+                let mut below = Polled::new(&mut *below, context);
+                let sent = writing.before_a_wait(&mut below);
+                below.polled(sent)
+            });
+            if let Poll::Ready(Err(error)) = sent {
+                reading.lose(&error);
+                return Poll::Ready(Err(error));
             }
         }
+        let mut below = Polled::new(below, context);
         let filled = reading.fill(&mut below);
+        writing.release_at(&filled);
         below.polled(filled)
+    }
+}
+
+impl<T: AsyncWrite + Unpin> AsyncStream<T> {
+    fn by_writer<R>(
+        &mut self,
+        context: &mut Context<'_>,
+        poll: impl FnOnce(&mut T, &mut Writing, &mut Context<'_>) -> Poll<io::Result<R>>,
+    ) -> Poll<io::Result<R>> {
+        let AsyncStream { below, writing, writers, .. } = self;
+        if writing.is_due() {
+            return writers.poll(Role::Writes, context, |context| poll(below, writing, context));
+        }
+        poll(below, writing, context)
+    }
+}
+
+impl<T: AsyncWrite + Unpin> AsyncWriteHalf<T> {
+    fn by_writer<R>(
+        &mut self,
+        context: &mut Context<'_>,
+        poll: impl FnOnce(&mut T, &mut Writing, &mut Context<'_>) -> Poll<io::Result<R>>,
+    ) -> Poll<io::Result<R>> {
+        poll(&mut self.below, &mut self.writing, context)
     }
 }
 
@@ -266,25 +358,40 @@ macro_rules! writes {
     ($stream:ident) => {
         impl<T: AsyncWrite + Unpin> $stream<T> {
             pub(super) fn write(&mut self, context: &mut Context<'_>, bytes: &[u8]) -> Poll<io::Result<usize>> {
-                let mut below = Polled::new(&mut self.below, context);
-                let wrote = self.writing.write(&mut below, bytes);
-                below.polled(wrote)
+                self.by_writer(context, |below, writing, context| {
+                    let mut below = Polled::new(below, context);
+                    let wrote = writing.write(&mut below, bytes);
+                    below.polled(wrote)
+                })
             }
 
+            // After the end there is nothing to flush, and the stream below is closed.
             pub(super) fn flush(&mut self, context: &mut Context<'_>) -> Poll<io::Result<()>> {
-                let mut below = Polled::new(&mut self.below, context);
-                let flushed = self.writing.flush(&mut below);
-                below.polled(flushed)
+                if self.is_closed {
+                    return Poll::Ready(self.writing.check());
+                }
+                self.by_writer(context, |below, writing, context| {
+                    let mut below = Polled::new(below, context);
+                    let flushed = writing.flush(&mut below);
+                    below.polled(flushed)
+                })
             }
 
             // Sends the end, and closes the stream below for writing.
             pub(super) fn end(&mut self, context: &mut Context<'_>) -> Poll<io::Result<()>> {
-                let mut below = Polled::new(&mut self.below, context);
-                let ended = self.writing.end(&mut below);
-                match below.polled(ended) {
-                    Poll::Ready(Ok(())) => below_closes(Pin::new(&mut self.below), context),
-                    answer => answer,
+                if self.is_closed {
+                    return Poll::Ready(self.writing.check());
                 }
+                let ended = self.by_writer(context, |below, writing, context| {
+                    let mut polled = Polled::new(&mut *below, context);
+                    let ended = writing.end(&mut polled);
+                    match polled.polled(ended) {
+                        Poll::Ready(Ok(())) => below_closes(Pin::new(below), context),
+                        answer => answer,
+                    }
+                });
+                self.is_closed = matches!(ended, Poll::Ready(Ok(())));
+                ended
             }
         }
     };

@@ -99,6 +99,14 @@ impl<'a, S: Dh> Builder<'a, S> {
         self
     }
 
+    /// `Stream::new`, `AsyncStream::new` and their like send the last message of the handshake, where this party writes
+    /// it, before they return. Without this it leaves with what is written first, by `flush`, or before the first read
+    /// that may wait; until then the other party waits.
+    pub fn flush_handshake(mut self) -> Self {
+        self.options.flushes = true;
+        self
+    }
+
     /// The most bytes of a handshake message that `Connecting` accepts, and so `Stream` and `AsyncStream`; 8192 at
     /// first. A longer one is refused with `TooLong` as soon as its length has come.
     pub fn max_handshake_message(mut self, len: usize) -> Self {

@@ -184,6 +184,7 @@ impl Error {
             Error::Deadline => ErrorKind::TimedOut,
             Error::Closed => ErrorKind::BrokenPipe,
             Error::Aborted => ErrorKind::ConnectionAborted,
+            Error::KeyPair(cause) if cause.is_later() => ErrorKind::WouldBlock,
             Error::Exhausted | Error::KeyPair(_) | Error::Library(_) => ErrorKind::Other,
         }
     }

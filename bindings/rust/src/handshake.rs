@@ -1,5 +1,7 @@
 use crate::header::{OK, WANTED, WANTED_PSK};
 use crate::raw::{self, CallResult, Held, Stage};
+#[cfg(feature = "std")]
+use crate::DhFuture;
 use crate::{Datagrams, Dh, Ephemeral, Error, ReceiveCipherState, SendCipherState, Transport};
 use core::fmt;
 use core::ops::Range;
@@ -36,6 +38,8 @@ pub struct Handshake<S: Dh, E: Ephemeral> {
     options: Options,
     is_asked: bool, // for the psk of a message that is read
     chosen: usize,  // psks for that message
+    #[cfg(feature = "std")]
+    later: Option<(u8, [u8; 32])>, // the key pair and the public key of an X25519 result that comes later
 }
 
 // What a builder says of the time after the start.
@@ -47,6 +51,9 @@ pub(crate) struct Options {
     #[cfg_attr(not(feature = "alloc"), allow(dead_code))]
     pub(crate) other_has_static: bool,
     pub(crate) lacking_psks: usize,
+    // A stream sends its last message before it is there.
+    #[cfg_attr(not(feature = "std"), allow(dead_code))]
+    pub(crate) flushes: bool,
     // Nothing comes after the handshake.
     #[cfg_attr(not(feature = "alloc"), allow(dead_code))]
     pub(crate) is_silent: bool,
@@ -54,7 +61,14 @@ pub(crate) struct Options {
 
 impl Default for Options {
     fn default() -> Options {
-        Options { interval: 0, max_message: 8192, other_has_static: false, lacking_psks: 0, is_silent: false }
+        Options {
+            interval: 0,
+            max_message: 8192,
+            other_has_static: false,
+            lacking_psks: 0,
+            flushes: false,
+            is_silent: false,
+        }
     }
 }
 
@@ -66,7 +80,17 @@ impl<S: Dh, E: Ephemeral> Handshake<S, E> {
         ephemeral: E,
         options: Options,
     ) -> Self {
-        Handshake { memory, stage, static_key, ephemeral, options, is_asked: false, chosen: 0 }
+        Handshake {
+            memory,
+            stage,
+            static_key,
+            ephemeral,
+            options,
+            is_asked: false,
+            chosen: 0,
+            #[cfg(feature = "std")]
+            later: None,
+        }
     }
 
     /// Writes the next message, with this payload, to the start of `out`, and returns its length. At an error, as
@@ -167,19 +191,51 @@ impl<S: Dh, E: Ephemeral> Handshake<S, E> {
     // Passes the X25519 result that the call needs. Zeros are refused (Noise, 12.1).
     #[inline(never)] // what it leaves on the stack is overwritten once the handshake is finished
     fn answer(&mut self, result: &CallResult) -> Result<(), Error> {
-        let mut dh_result = match &self.static_key {
-            Some(key) if result.of_static != 0 => key.agree(&result.remote)?,
-            _ => self.ephemeral.agree(&result.remote)?,
+        let agreed = match &self.static_key {
+            Some(key) if result.of_static != 0 => key.agree(&result.remote),
+            _ => self.ephemeral.agree(&result.remote),
         };
+        #[cfg(feature = "std")]
+        if matches!(&agreed, Err(error) if error.is_later()) {
+            self.later = Some((result.of_static, result.remote));
+        }
+        self.agreed(result.of_static, &result.remote, agreed?)
+    }
+
+    #[inline(never)]
+    fn agreed(&mut self, of_static: u8, remote: &[u8; 32], mut dh_result: [u8; 32]) -> Result<(), Error> {
         if dh_result == [0; 32] {
             return Err(Error::Zeros);
         }
-        let code = self.memory.answer(result.of_static, &result.remote, &dh_result);
+        let code = self.memory.answer(of_static, remote, &dh_result);
         raw::wipe(&mut dh_result);
         match code {
             OK => Ok(()),
             code => Err(Error::of(code, None)),
         }
+    }
+
+    // The result that comes later, and how it is passed.
+    #[cfg(feature = "std")]
+    pub(crate) fn agree_async(&self) -> Option<DhFuture> {
+        let (of_static, remote) = self.later.as_ref()?;
+        match &self.static_key {
+            Some(key) if *of_static != 0 => Some(key.agree_async(remote)),
+            _ => Some(self.ephemeral.agree_async(remote)),
+        }
+    }
+
+    #[cfg(feature = "std")]
+    pub(crate) fn answer_later(&mut self, dh_result: &[u8; 32]) -> Result<(), Error> {
+        match self.later.take() {
+            Some((of_static, remote)) => self.agreed(of_static, &remote, *dh_result),
+            None => Ok(()),
+        }
+    }
+
+    #[cfg(feature = "std")]
+    pub(crate) fn flushes(&self) -> bool {
+        self.options.flushes
     }
 
     /// Passes the secret of the first psk token that has none: after `WantedPsk`, or before. `PskCount`: no token

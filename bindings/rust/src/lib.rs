@@ -98,6 +98,8 @@ pub use cipher_state::{ReceiveCipherState, SendCipherState};
 pub use connection::{Connecting, Connection, Event, Step, StreamReceiver, StreamSender};
 #[cfg(feature = "std")]
 pub use deadline::{Deadline, Timeouts};
+#[cfg(feature = "std")]
+pub use dh::{Agent, DhFuture};
 pub use dh::{Dh, DhError, Ephemeral, NoKey};
 pub use error::Error;
 pub use handshake::Handshake;

@@ -33,7 +33,8 @@ pub(crate) use writing::Writing;
 /// a `write` that can't do so accepts nothing. So `flush` after the last `write`. Windows doesn't say how much of a
 /// write past its timeout was sent: drop the channel there.
 ///
-/// Buffers of more than 4096 bytes are given back where `read` has to wait, and that for writing also by `flush`.
+/// Buffers of more than 4096 bytes are given back where a `read` returns `WouldBlock` or `TimedOut`, and that of a half
+/// that writes by `flush`.
 pub struct Stream<T> {
     below: T,
     reading: Reading,
@@ -62,6 +63,11 @@ pub(crate) fn own(error: &io::Error) -> Option<&Error> {
 // Whether the stream below has to be waited for. A deadline that has passed is final.
 pub(crate) fn is_wait(error: &io::Error) -> bool {
     matches!(error.kind(), ErrorKind::WouldBlock | ErrorKind::TimedOut) && own(error).is_none()
+}
+
+// Whether the key pair has to be waited for.
+pub(crate) fn is_later(error: &io::Error) -> bool {
+    matches!(own(error), Some(Error::KeyPair(error)) if error.is_later())
 }
 
 // The same error once more.
@@ -189,12 +195,13 @@ impl<T: Write> Stream<T> {
     /// # Ok(()) }
     /// ```
     pub fn split(mut self, clone: impl FnOnce(&T) -> io::Result<T>) -> io::Result<(ReadHalf<T>, WriteHalf<T>)> {
-        match self.writing.before_a_wait(&mut self.below, false) {
+        match self.writing.before_a_wait(&mut self.below) {
             Err(error) if !is_wait(&error) => return Err(error),
             _ => {}
         }
         let second = clone(&self.below)?;
-        Ok((ReadHalf { below: self.below, reading: self.reading }, WriteHalf { below: second, writing: self.writing }))
+        let writing = self.writing.of_half();
+        Ok((ReadHalf { below: self.below, reading: self.reading }, WriteHalf { below: second, writing }))
     }
 
     /// Sends the end of this party's stream: `read` at the other party returns 0. What that party writes can still be
@@ -214,29 +221,36 @@ impl<T: Write> WriteHalf<T> {
 }
 
 impl<T: Read + Write> Stream<T> {
+    // Where the last message of the handshake would have to wait, what comes is still read.
     fn before_a_read(&mut self) -> io::Result<()> {
         if self.reading.has_decrypted() {
             return Ok(());
         }
-        let sent = self.writing.before_a_wait(&mut self.below, self.reading.is_idle());
-        sent.map_err(|error| {
-            self.reading.lose(&error);
-            error
-        })
+        match self.writing.before_a_wait(&mut self.below) {
+            Err(error) if !is_wait(&error) => {
+                self.reading.lose(&error);
+                Err(error)
+            }
+            _ => Ok(()),
+        }
     }
 }
 
 impl<T: Read + Write> Read for Stream<T> {
     fn read(&mut self, into: &mut [u8]) -> io::Result<usize> {
         self.before_a_read()?;
-        self.reading.read(&mut self.below, into)
+        let read = self.reading.read(&mut self.below, into);
+        self.writing.release_at(&read);
+        read
     }
 }
 
 impl<T: Read + Write> BufRead for Stream<T> {
     fn fill_buf(&mut self) -> io::Result<&[u8]> {
         self.before_a_read()?;
-        self.reading.fill(&mut self.below)
+        let filled = self.reading.fill(&mut self.below);
+        self.writing.release_at(&filled);
+        filled
     }
 
     fn consume(&mut self, count: usize) {
@@ -278,6 +292,26 @@ impl<T: Write> Write for WriteHalf<T> {
     fn flush(&mut self) -> io::Result<()> {
         self.writing.flush(&mut self.below)
     }
+}
+
+macro_rules! wants {
+    ($($stream:ident: $direction:ident, $wants:ident, $text:literal;)*) => {
+        $(impl<T> $stream<T> {
+            #[doc = $text]
+            pub fn $wants(&self) -> bool {
+                self.$direction.wants()
+            }
+        })*
+    };
+}
+
+wants! {
+    Stream: reading, wants_read, "Whether a `read` would wait until the stream below has bytes. Where it is \
+        false `read` has an answer, and the stream below may stay silent: read before you wait for it.";
+    ReadHalf: reading, wants_read, "Whether a `read` would wait: see [`Stream::wants_read`].";
+    Stream: writing, wants_write, "Whether something waits until the stream below takes bytes: call `flush`, or \
+        `close_write` if that was called, once it does.";
+    WriteHalf: writing, wants_write, "Whether something waits to be sent: see [`Stream::wants_write`].";
 }
 
 macro_rules! over {

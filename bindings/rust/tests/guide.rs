@@ -292,10 +292,12 @@ fn the_texts_of_errors() {
 #[cfg(feature = "tokio")]
 mod by_tokio {
     use super::*;
+    use std::error::Error;
     use tokio::io::{AsyncReadExt, AsyncWriteExt};
     use tokio::net::{TcpListener, TcpStream};
+    use tokio::sync::{mpsc, oneshot};
     use tokio::time::timeout;
-    use yulimosar::AsyncStream;
+    use yulimosar::{Agent, AsyncStream, Dh, DhError, Handshake};
 
     async fn serve(below: TcpStream, key: KeyPair) -> io::Result<()> {
         let handshake = Builder::new("XX").prologue(b"chat 1").static_key(key).responder()?;
@@ -313,6 +315,66 @@ mod by_tokio {
             }
             timeout(limit, stream.flush()).await??;
         }
+    }
+
+    // An agent: a task that has the secret key.
+    #[derive(Clone)]
+    struct Keeper(mpsc::Sender<([u8; 32], oneshot::Sender<Result<[u8; 32], DhError>>)>);
+
+    impl Keeper {
+        fn start(key: KeyPair) -> Keeper {
+            let (asks, mut asked) = mpsc::channel(8);
+            tokio::spawn(async move {
+                while let Some((remote, answers)) = asked.recv().await {
+                    tokio::time::sleep(Duration::from_millis(20)).await;
+                    let _: Result<_, Result<[u8; 32], DhError>> = oneshot::Sender::send(answers, key.agree(&remote));
+                }
+            });
+            Keeper(asks)
+        }
+
+        async fn x25519(&self, remote: [u8; 32]) -> Result<[u8; 32], &'static str> {
+            let (answers, answer) = oneshot::channel();
+            self.0.send((remote, answers)).await.map_err(|_| "the agent has gone")?;
+            answer.await.map_err(|_| "the agent has gone")?.map_err(|_| "the agent refuses")
+        }
+    }
+
+    fn responder(public_key: [u8; 32], agent: Keeper) -> io::Result<Handshake<impl Dh, KeyPair>> {
+        let key = Agent::new(public_key, move |remote: [u8; 32]| {
+            let agent = agent.clone();
+            async move { agent.x25519(remote).await.map_err(DhError::new) }
+        });
+        let handshake = Builder::new("XX").prologue(b"chat 1").static_key(key).responder()?;
+        Ok(handshake)
+    }
+
+    #[tokio::test]
+    async fn a_key_in_an_agent() {
+        let ((server, client), listener) = (keys(), TcpListener::bind("127.0.0.1:0").await.unwrap());
+        let (address, public_key) = (listener.local_addr().unwrap(), *server.public_key());
+        let handshake = responder(public_key, Keeper::start(server)).unwrap();
+        let client = thread::spawn(move || talk(address, client, public_key));
+        let below = listener.accept().await.unwrap().0;
+        let mut stream = AsyncStream::new(below, handshake, |_| async { true }).await.unwrap();
+        let mut text = String::new();
+        stream.read_to_string(&mut text).await.unwrap();
+        stream.write_all(text.as_bytes()).await.unwrap();
+        stream.shutdown().await.unwrap();
+        assert_eq!(client.join().unwrap().unwrap(), "hello");
+        // An agent that has gone is an error with its cause.
+        let (gone, _) = mpsc::channel(1);
+        let (here, there) = tokio::io::duplex(1000);
+        let key = Agent::new([9; 32], move |remote| {
+            let agent = Keeper(gone.clone());
+            async move { agent.x25519(remote).await.map_err(DhError::new) }
+        });
+        let handshake = Builder::new("KN").static_key(key).initiator().unwrap();
+        let other = Builder::new("KN").remote_static(&[9; 32]).flush_handshake().responder().unwrap();
+        tokio::spawn(AsyncStream::anonymous(there, other));
+        let error = AsyncStream::anonymous(here, handshake).await.err().unwrap();
+        assert_eq!(error.kind(), ErrorKind::Other);
+        assert_eq!(error.source().unwrap().to_string(), "the agent has gone");
     }
 
     #[tokio::test]

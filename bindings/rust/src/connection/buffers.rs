@@ -12,7 +12,6 @@ const KEPT: usize = 4096;
 pub(super) struct Incoming {
     buffer: Vec<u8>,
     have: Range<usize>,
-    is_filled: bool, // the room was filled when bytes came last: there may be more
 }
 
 impl Incoming {
@@ -32,9 +31,6 @@ impl Incoming {
     pub(super) fn room(&mut self) -> &mut [u8] {
         if self.have.is_empty() {
             self.have = 0..0;
-            if !self.is_filled {
-                self.release();
-            }
         }
         if self.have.end == self.buffer.len() {
             self.make_room();
@@ -45,7 +41,6 @@ impl Incoming {
     // The first bytes of the room came.
     pub(super) fn came(&mut self, count: usize) {
         self.have.end += count;
-        self.is_filled = self.have.end == self.buffer.len();
     }
 
     // Takes at most `wanted` bytes, and returns how many.
@@ -77,12 +72,6 @@ impl Incoming {
 
     pub(super) fn remove(&mut self, used: usize) {
         self.have.start += used;
-    }
-
-    // Whether there may be more than came last.
-    #[cfg(feature = "std")]
-    pub(super) fn is_filled(&self) -> bool {
-        self.is_filled
     }
 
     // Gives a large buffer back, of which nothing is used any more.
@@ -157,9 +146,12 @@ mod tests {
             incoming.room();
             assert_eq!(incoming.buffer.len(), kept);
         }
-        let count = incoming.room().len();
-        incoming.came(count - 1);
+        incoming.release();
+        assert_eq!(incoming.buffer.len(), MAX_FRAME, "bytes of it aren't used yet");
         incoming.remove(incoming.len());
+        incoming.room();
+        assert_eq!(incoming.buffer.len(), MAX_FRAME, "the next frame may be as large");
+        incoming.release();
         incoming.room();
         assert_eq!(incoming.buffer.len(), KEPT);
         let mut outgoing = Outgoing::default();

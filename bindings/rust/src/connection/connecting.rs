@@ -102,6 +102,7 @@ impl<S: Dh, E: Ephemeral> Connecting<S, E> {
         match self.advance() {
             Ok(Some(step)) => Ok(step),
             Ok(None) => Ok(Step::Send(self.outgoing.rest())),
+            Err(Error::KeyPair(error)) if error.is_later() => Err(Error::KeyPair(error)),
             Err(error) => {
                 self.failure = Some(error.clone());
                 Err(error)
@@ -206,6 +207,22 @@ impl<S: Dh, E: Ephemeral> Connecting<S, E> {
         outgoing.release();
         incoming.release();
         Ok(Connection { hash, remote_static, ..Connection::of(raw, (outgoing, incoming), is_silent) })
+    }
+
+    // An X25519 result that comes later, and how it is passed.
+    #[cfg(any(feature = "tokio", feature = "futures-io"))]
+    pub(crate) fn agree_async(&self) -> Option<crate::DhFuture> {
+        self.handshake.agree_async()
+    }
+
+    #[cfg(any(feature = "tokio", feature = "futures-io"))]
+    pub(crate) fn answer_later(&mut self, dh_result: &[u8; 32]) -> Result<(), Error> {
+        self.handshake.answer_later(dh_result)
+    }
+
+    #[cfg(feature = "std")]
+    pub(crate) fn flushes(&self) -> bool {
+        self.handshake.flushes()
     }
 
     // What is to be sent, and whether it is the last message.

@@ -70,7 +70,10 @@ impl StreamReceiver {
                 let range = take(&mut self.decrypted);
                 Ok(Event::Data(&self.incoming.bytes()[range]))
             }
-            Due::Receive => Ok(Event::Receive(self.wanted)),
+            Due::Receive => {
+                self.incoming.release();
+                Ok(Event::Receive(self.wanted))
+            }
             Due::End => Ok(Event::End),
         }
     }
@@ -174,10 +177,12 @@ impl StreamReceiver {
         self.wanted = self.wanted.saturating_sub(count);
     }
 
-    // Whether all that came was used, and as far as is known nothing more has come.
+    // Whether more bytes have to come: no frame is whole, and none is refused.
     #[cfg(feature = "std")]
-    pub(crate) fn is_idle(&self) -> bool {
-        self.incoming.len() == self.used && !self.incoming.is_filled()
+    pub(crate) fn wants(&self) -> bool {
+        let is_over = self.has_ended || self.is_closed || self.is_silent || self.failure.is_some();
+        let rest = &self.incoming.bytes()[self.used..];
+        self.decrypted.is_empty() && !is_over && raw::frame_find(rest, &mut StreamResult::default()) == MORE
     }
 
     // Gives a large buffer back, of which nothing is used any more.

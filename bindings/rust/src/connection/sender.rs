@@ -56,12 +56,6 @@ impl StreamSender {
         !self.has_begun || self.outgoing.rest().is_empty()
     }
 
-    // Whether bytes, or the end, were sealed.
-    #[cfg(feature = "std")]
-    pub(crate) fn has_begun(&self) -> bool {
-        self.has_begun
-    }
-
     // Gives a large buffer back, of which all was sent.
     #[cfg(feature = "std")]
     pub(crate) fn release(&mut self) {

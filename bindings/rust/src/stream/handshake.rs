@@ -1,5 +1,5 @@
 use super::passing::{Asked, Passing};
-use super::{is_wait, Stream};
+use super::{is_later, is_wait, Stream};
 use crate::connection::connecting::Peer;
 use crate::raw::wipe;
 use crate::{Dh, Ephemeral, Error, Handshake};
@@ -10,14 +10,14 @@ use std::{error, fmt};
 /// where the key pair isn't a reference, for `Interrupted` has the key pair in it.
 #[non_exhaustive]
 pub enum HandshakeError<T, S: Dh, E: Ephemeral> {
-    /// The stream below had `WouldBlock` or `TimedOut`. Nothing is lost: the handshake can continue.
+    /// The stream below had `WouldBlock` or `TimedOut`, or the key pair said [`DhError::later`](crate::DhError::later).
+    /// Nothing is lost: the handshake can continue.
     Interrupted(MidHandshake<T, S, E>),
     /// The handshake has failed, and the stream below is dropped.
     Failed(io::Error),
 }
 
-/// A handshake that was interrupted by `WouldBlock` or `TimedOut` of the stream below. It continues with the call that
-/// goes with the one by which it began.
+/// A handshake that was interrupted. It continues with the call that goes with the one by which it began.
 ///
 #[cfg_attr(any(feature = "x25519", feature = "openssl"), doc = "```")]
 #[cfg_attr(not(any(feature = "x25519", feature = "openssl")), doc = "```ignore")]
@@ -88,7 +88,7 @@ impl<T: Read + Write, S: Dh, E: Ephemeral> MidHandshake<T, S, E> {
         }
         match self.0.pass(accept, psk_for) {
             Ok(()) => Ok(Stream::of(self.0.below, self.0.passing.connecting.finish()?)),
-            Err(error) if is_wait(&error) => {
+            Err(error) if is_wait(&error) || is_later(&error) => {
                 self.0.error = error;
                 Err(HandshakeError::Interrupted(self))
             }
@@ -116,9 +116,20 @@ impl<T: Read + Write, S: Dh, E: Ephemeral> Parts<T, S, E> {
 }
 
 impl<T, S: Dh, E: Ephemeral> MidHandshake<T, S, E> {
-    /// The error of the stream below that interrupted the handshake: `WouldBlock` or `TimedOut`.
+    /// The error that interrupted the handshake: `WouldBlock` or `TimedOut`.
     pub fn error(&self) -> &io::Error {
         &self.0.error
+    }
+
+    /// Whether it waits until the stream below has bytes. Where `wants_write` and this are both false it waits for its
+    /// key pair, which has said [`DhError::later`](crate::DhError::later).
+    pub fn wants_read(&self) -> bool {
+        !self.wants_write() && !is_later(&self.0.error)
+    }
+
+    /// Whether it waits until the stream below takes bytes.
+    pub fn wants_write(&self) -> bool {
+        self.0.passing.wants_write()
     }
 
     /// The stream below, to wait for it. To read from it or write to it breaks the handshake.

@@ -22,13 +22,19 @@ impl<S: Dh, E: Ephemeral> Passing<S, E> {
         Ok(Passing { connecting: Connecting::with(handshake, peer)?, is_flushed: true })
     }
 
+    // Whether it waits to send, or for a flush.
+    pub(crate) fn wants_write(&self) -> bool {
+        !self.connecting.outgoing().is_empty() || !self.is_flushed
+    }
+
     // Sends and receives until the party is asked for something. After an error of time a later call continues. The
-    // last message, if it is this party's, is kept: the channel sends it with its first frame.
+    // last message, if it is this party's, is kept: the channel sends it with its first frame, unless the party has
+    // said otherwise.
     pub(crate) fn pass(&mut self, below: &mut (impl Read + Write)) -> io::Result<Asked> {
         loop {
             match self.connecting.step()? {
                 Step::Send(_) => {
-                    if self.connecting.is_last() {
+                    if self.connecting.is_last() && !self.connecting.flushes() {
                         return Ok(Asked::Nothing);
                     }
                     let count = send(below, self.connecting.outgoing())?;

@@ -42,9 +42,9 @@ impl Reading {
         self.receiver.read(count);
     }
 
-    // Whether a read has to wait, as far as is known: nothing has come that isn't used.
-    pub(crate) fn is_idle(&self) -> bool {
-        self.receiver.is_idle()
+    // Whether a read has to wait for bytes.
+    pub(crate) fn wants(&self) -> bool {
+        self.lost.is_none() && self.receiver.wants()
     }
 
     // Whether bytes are decrypted.
