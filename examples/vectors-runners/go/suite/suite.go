@@ -7,6 +7,7 @@ import (
 	"crypto/sha256"
 	"encoding/hex"
 	"encoding/json"
+	"encoding/xml"
 	"errors"
 	"fmt"
 	"os"
@@ -56,20 +57,26 @@ func (b *Bytes) is(data []byte) bool {
 // Keys are a party's private keys, and the public ones of the other party's pre-message.
 type Keys struct{ E, S, RE, RS Bytes }
 
-// Group is a set-up, the right conversation, and the tests.
-type Group struct {
-	Type, Protocol       string
+// Setup is what a party starts from. What is "name" if the protocol name is tested: read it, and not the pattern.
+type Setup struct {
+	Protocol, What       string
 	Pattern              []string
 	Prologue             Bytes
 	PSKs                 []Bytes
 	Initiator, Responder Keys
-	Hash                 Bytes
-	Messages             []struct{ Payload, Message Bytes }
-	Tests                []*Test
+}
+
+// Group is a set-up, the right conversation, and the tests.
+type Group struct {
+	Setup
+	Type     string
+	Hash     Bytes
+	Messages []struct{ Payload, Message Bytes }
+	Tests    []*Test
 }
 
 // Keys returns those of a role.
-func (g *Group) Keys(role string) *Keys {
+func (g *Setup) Keys(role string) *Keys {
 	if role == "initiator" {
 		return &g.Initiator
 	}
@@ -77,7 +84,7 @@ func (g *Group) Keys(role string) *Keys {
 }
 
 // Before returns the tokens of a role's pre-message, joined by commas.
-func (g *Group) Before(role string) string {
+func (g *Setup) Before(role string) string {
 	arrow := map[string]string{"initiator": "-> ", "responder": "<- "}[role]
 	for i, line := range g.Pattern {
 		if line == "..." {
@@ -96,11 +103,11 @@ func (g *Group) name() string {
 	if parts := strings.Split(g.Protocol, "_"); len(parts) > 1 {
 		return parts[1]
 	}
-	return "frame"
+	return strings.ToLower(strings.TrimPrefix(g.Type, "Noise"))
 }
 
 // Tokens returns the tokens of each message of the handshake.
-func (g *Group) Tokens() (messages [][]string) {
+func (g *Setup) Tokens() (messages [][]string) {
 	for _, line := range g.Pattern {
 		if line == "..." {
 			messages = nil
@@ -111,8 +118,10 @@ func (g *Group) Tokens() (messages [][]string) {
 	return messages
 }
 
-// Test is a test, and what came of it.
+// Test is a test, and what came of it. A test of a set-up has that itself.
 type Test struct {
+	Setup
+	Place                 string
 	ID                    int `json:"tcId"`
 	Comment, Result, Role string
 	Flags                 []string
@@ -129,6 +138,7 @@ type note struct{ Kind string }
 type Step struct {
 	Do, Role, Direction, Nonce, Refused, At string
 	Message, Cut                            *int
+	Optional                                bool
 	XOR                                     []int
 	Append                                  Bytes
 	Bytes, Is, Payload                      *Bytes
@@ -142,16 +152,19 @@ type Party interface {
 	Rekey(direction string) error
 	SetNonce(direction string, nonce uint64) error
 	Hash() []byte
+	// RemoteStatic returns the other party's static key, after the handshake.
+	RemoteStatic() ([]byte, error)
 	// Place returns the token at which a message was refused; nothing if the Noise doesn't say so.
 	Place(err error) string
 }
 
-// Start starts a party of a group.
-type Start func(group *Group, role string) (Party, error)
+// Start starts a party of a set-up.
+type Start func(setup *Setup, role string) (Party, error)
 
 // run is a test that is being run.
 type run struct {
 	group   *Group
+	setup   *Setup
 	test    *Test
 	start   Start
 	parties map[string]Party
@@ -162,19 +175,20 @@ func (r *run) party(role string) (Party, error) {
 	if p := r.parties[role]; p != nil {
 		return p, nil
 	}
-	p, err := r.start(r.group, role)
+	p, err := r.start(r.setup, role)
 	r.parties[role] = p
 	return p, err
 }
 
 // received returns the bytes that a step reads, with the step's change.
 func (r *run) received(s *Step) []byte {
+	var data []byte
 	if s.Bytes != nil {
-		return append([]byte{}, s.Bytes.Data...)
-	}
-	data := r.group.Messages[*s.Message].Message.Data
-	if r.group.Messages[*s.Message].Message.SHA256 != "" {
+		data = s.Bytes.Data
+	} else if message := &r.group.Messages[*s.Message].Message; message.SHA256 != "" {
 		data = r.written[*s.Message]
+	} else {
+		data = message.Data
 	}
 	if s.Cut != nil {
 		data = data[:*s.Cut]
@@ -214,6 +228,11 @@ func (r *run) call(p Party, s *Step) (got []byte, wanted *Bytes, err error) {
 		wanted, err = &Bytes{}, p.SetNonce(s.Direction, nonce)
 	case "hash":
 		got, wanted = p.Hash(), &r.group.Hash
+	case "remote":
+		wanted = s.Is
+		got, err = p.RemoteStatic()
+	case "start":
+		wanted = &Bytes{}
 	}
 	return got, wanted, err
 }
@@ -228,7 +247,7 @@ func (r *run) step(s *Step) (on bool, fault error) {
 	switch {
 	case errors.Is(err, ErrNotSupported):
 		return false, err
-	case err != nil && r.test.Result == "acceptable":
+	case err != nil && r.test.Steps[0].Optional:
 		return false, nil
 	case err != nil:
 		return false, fmt.Errorf("the start was refused: %v", err)
@@ -237,7 +256,7 @@ func (r *run) step(s *Step) (on bool, fault error) {
 	switch {
 	case errors.Is(err, ErrNotSupported):
 		return false, err
-	case err != nil && s.Refused == "" && r.test.Result == "acceptable":
+	case err != nil && s.Refused == "" && s.Optional:
 		return false, nil
 	case err != nil && s.Refused == "":
 		return false, fmt.Errorf("%s was refused: %v", s.Do, err)
@@ -254,6 +273,32 @@ func (r *run) step(s *Step) (on bool, fault error) {
 	return true, nil
 }
 
+// run takes the steps: whether none was refused that may be, and what is wrong.
+func (r *run) run() (through bool, fault error) {
+	for i := range r.test.Steps {
+		on, err := r.step(&r.test.Steps[i])
+		if err != nil && !errors.Is(err, ErrNotSupported) {
+			err = fmt.Errorf("step %d: %v", i, err)
+		}
+		if !on {
+			return false, err
+		}
+	}
+	return true, nil
+}
+
+// runStart runs a test of a set-up: if it is wrong, the start or a later step has to be refused.
+func (r *run) runStart() error {
+	through, err := r.run()
+	if r.test.Result != "invalid" || errors.Is(err, ErrNotSupported) {
+		return err
+	}
+	if through || err != nil {
+		return fmt.Errorf("the set-up was taken, and has to be refused: %s", r.test.Place)
+	}
+	return nil
+}
+
 // pass runs a test.
 func (t *Test) pass(g *Group, start Start) {
 	defer func() {
@@ -261,22 +306,22 @@ func (t *Test) pass(g *Group, start Start) {
 			t.outcome, t.why = "failed", fmt.Sprint("crashed: ", r)
 		}
 	}()
-	t.outcome = "passed"
-	if g.Type != "NoiseHandshake" {
-		t.outcome, t.why = "not run", "frames are the caller's"
-		return
+	var err error
+	r := &run{g, &g.Setup, t, start, map[string]Party{}, map[int][]byte{}}
+	switch g.Type {
+	case "NoiseHandshake":
+		_, err = r.run()
+	case "NoiseStart":
+		r.setup = &t.Setup
+		err = r.runStart()
+	default:
+		err = fmt.Errorf("%w: frames are the caller's", ErrNotSupported)
 	}
-	r := &run{g, t, start, map[string]Party{}, map[int][]byte{}}
-	for i := range t.Steps {
-		on, err := r.step(&t.Steps[i])
-		if errors.Is(err, ErrNotSupported) {
-			t.outcome, t.why = "not run", err.Error()
-		} else if err != nil {
-			t.outcome, t.why = "failed", fmt.Sprintf("step %d: %v", i, err)
-		}
-		if !on {
-			return
-		}
+	t.outcome = "passed"
+	if errors.Is(err, ErrNotSupported) {
+		t.outcome, t.why = "not run", err.Error()
+	} else if err != nil {
+		t.outcome, t.why = "failed", err.Error()
 	}
 }
 
@@ -317,4 +362,84 @@ func Main(name string, start Start) {
 	if failed {
 		os.Exit(1)
 	}
+}
+
+// printReport prints a line for each flag, the tests that failed, and why some weren't run.
+func printReport(tests []*Test, notes map[string]note) (failed bool) {
+	counts, total, reasons := map[string]map[string]int{}, map[string]int{}, map[string]int{}
+	var flags, why []string
+	for _, t := range tests {
+		total[t.outcome]++
+		for _, flag := range t.Flags {
+			if counts[flag] == nil {
+				counts[flag] = map[string]int{}
+				flags = append(flags, flag)
+			}
+			counts[flag][t.outcome]++
+		}
+		if t.outcome == "not run" {
+			if reasons[t.why] == 0 {
+				why = append(why, t.why)
+			}
+			reasons[t.why]++
+		}
+	}
+	fmt.Printf("%-28s %-7s %7s %7s %7s\n", "flag", "kind", "passed", "failed", "not run")
+	for _, flag := range flags {
+		count := counts[flag]
+		fmt.Printf("%-28s %-7s %7d %7d %7d\n", flag, notes[flag].Kind,
+			count["passed"], count["failed"], count["not run"])
+	}
+	for _, t := range tests {
+		if t.outcome == "failed" {
+			fmt.Printf("failed %d %s %s: %s: %s\n", t.ID, t.pattern, strings.Join(t.Flags, ","), t.Comment, t.why)
+		}
+	}
+	for _, it := range why {
+		fmt.Printf("not run %d: %s\n", reasons[it], it)
+	}
+	fmt.Printf("%d passed, %d failed, %d not run\n", total["passed"], total["failed"], total["not run"])
+	return total["failed"] > 0
+}
+
+type junitMessage struct {
+	Message string `xml:"message,attr"`
+}
+
+type junitCase struct {
+	Class   string        `xml:"classname,attr"`
+	Name    string        `xml:"name,attr"`
+	Failure *junitMessage `xml:"failure"`
+	Skipped *junitMessage `xml:"skipped"`
+}
+
+type junitSuite struct {
+	XMLName  xml.Name    `xml:"testsuite"`
+	Name     string      `xml:"name,attr"`
+	Tests    int         `xml:"tests,attr"`
+	Failures int         `xml:"failures,attr"`
+	Skipped  int         `xml:"skipped,attr"`
+	Cases    []junitCase `xml:"testcase"`
+}
+
+// writeJUnit writes JUnit's XML: a test case for each test, whose class is its first flag.
+func writeJUnit(path, name string, tests []*Test) error {
+	made := junitSuite{Name: name, Tests: len(tests)}
+	for _, t := range tests {
+		it := junitCase{Class: t.Flags[0], Name: fmt.Sprintf("%d %s: %s", t.ID, t.pattern, t.Comment)}
+		switch t.outcome {
+		case "failed":
+			it.Failure = &junitMessage{t.why}
+			made.Failures++
+		case "not run":
+			it.Skipped = &junitMessage{t.why}
+			made.Skipped++
+		}
+		made.Cases = append(made.Cases, it)
+	}
+	text, err := xml.MarshalIndent(made, "", " ")
+	if err != nil {
+		return err
+	}
+	return os.WriteFile(path, append([]byte(xml.Header), text...), 0o666)
 }
