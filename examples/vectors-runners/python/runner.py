@@ -218,12 +218,9 @@ def junit_report(name: str, rows: list[tuple[dict, str, str]]) -> str:
     return "\n".join(['<?xml version="1.0" encoding="UTF-8"?>', head, *lines, "</testsuite>"]) + "\n"
 
 
-def main(words: list[str]) -> int:
-    if len(words) not in (2, 3):
-        print(__doc__, file=sys.stderr)
-        return 2
-    kind = importlib.import_module(words[0]).Party
-    with open(words[1], encoding="ascii") as file:
+def report(kind: Any, name: str, path: str, junit: str = "") -> int:
+    """Runs the suite of a file, and reports: the status is 0 if no test failed."""
+    with open(path, encoding="ascii") as file:
         suite = json.load(file)
     rows = [
         (test | {"pattern": pattern_name(group)}, *outcome(group, test, kind))
@@ -231,10 +228,17 @@ def main(words: list[str]) -> int:
         for test in group["tests"]
     ]
     sys.stdout.write(text_report(rows, suite["notes"]))
-    if len(words) == 3:
-        with open(words[2], "w", encoding="utf-8") as file:
-            file.write(junit_report(words[0], rows))
+    if junit:
+        with open(junit, "w", encoding="utf-8") as file:
+            file.write(junit_report(name, rows))
     return int(any(what == "failed" for _, what, _ in rows))
+
+
+def main(words: list[str]) -> int:
+    if len(words) not in (2, 3):
+        print(__doc__, file=sys.stderr)
+        return 2
+    return report(importlib.import_module(words[0]).Party, *words)
 
 
 if __name__ == "__main__":
