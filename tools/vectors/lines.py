@@ -90,7 +90,7 @@ class Party:
         own, pattern = setup[role], "/".join(setup["pattern"]).replace(" ", "")
         self.program = self.programs[role]
         words = [
-            "start", role, "-" if setup.get("what") == "name" else pattern, digits(setup["prologue"]),
+            "start", role, setup.get("what", "-"), pattern, digits(setup["prologue"]),
             ",".join(it or "empty" for it in setup["psks"]) or "-",
             *(own[it] or "empty" if it in own else "-" for it in ("e", "s", "re", "rs")), setup["protocol"],
         ]

@@ -37,9 +37,10 @@ OTHERS = dict(
     IK="KK", IX="XX",
 )
 NAME, SHARED_NAME = "25519_ChaChaPoly_SHA256.json", "25519_ChaChaPoly_SHA256_shared.json"
+LICENSE = "MIT OR Apache-2.0"
 SOURCE = {
     "suite": SUITE[1:],
-    "license": "MIT OR Apache-2.0",
+    "license": LICENSE,
     "source": "the command `noise` of this repository, but for what docs/VECTORS.md names",
     "confirmed_by": ["checks/suite/plain.py", "flynn/noise 1.0.0", "dissononce 0.34.3"],
     "proofs": "the code of `noise` is proved, except dist/runtime.c; no proof speaks of this file",

@@ -29,6 +29,10 @@ static void known(noise_key *at, int present, const uint8_t key[32]) {
 }
 
 int party_start(const party_setup *from, party **made) {
+    static const char suite[] = "_25519_ChaChaPoly_SHA256";
+    const size_t len = strlen(from->protocol), own = sizeof suite - 1;
+    if (strcmp(from->what, "name") && (len < own || strcmp(from->protocol + len - own, suite)))
+        return PARTY_NOT_SUPPORTED;
     party *p = calloc(1, sizeof *p);
     const char *pattern = strcmp(from->what, "name") ? from->pattern : from->protocol;
     noise_setup setup = {.responder = (uint8_t)from->responder, .psk_count = (uint8_t)from->psk_count};

@@ -10,6 +10,9 @@ export class Party {
     await load();
     const own = setup[role];
     const pair = async (digits) => (digits === undefined ? undefined : KeyPair.fromSecret(bytes(digits)));
+    if (setup.what !== 'name' && !setup.protocol.endsWith('_25519_ChaChaPoly_SHA256')) {
+      throw new setup.NotSupported('another suite');
+    }
     const party = new Party();
     const heading = setup.protocol.replace(/^Noise_/, '').split('_')[0];
     const text = `${heading}:\n${setup.pattern.map((line) => `  ${line}\n`).join('')}`;

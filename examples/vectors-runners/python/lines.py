@@ -17,12 +17,12 @@ def data_of(word: str) -> bytes:
 
 def setup_of(words: list[str]) -> tuple[dict[str, Any], str]:
     """The set-up of a line `start`."""
-    role, pattern, prologue, psks, *keys, protocol = words
+    role, what, pattern, prologue, psks, *keys, protocol = words
     own = {it: "" if key == "empty" else key for it, key in zip(("e", "s", "re", "rs"), keys) if key != "-"}
     lines = [it if it == "..." else f"{it[:2]} {it[2:].replace(',', ', ')}" for it in pattern.split("/")]
-    more = {"what": "name"} if pattern == "-" else {}
     listed = [] if psks == "-" else [data_of(it).hex() for it in psks.split(",")]
-    return more | {"protocol": protocol, "pattern": lines, "prologue": data_of(prologue), "psks": listed, role: own}, role
+    setup = {"protocol": protocol, "pattern": lines, "prologue": data_of(prologue), "psks": listed, role: own}
+    return setup | ({} if what == "-" else {"what": what}), role
 
 
 def answer(kind: Any, party: Any, word: str, words: list[str]) -> tuple[Any, bytes | None]:
@@ -40,7 +40,7 @@ def answer(kind: Any, party: Any, word: str, words: list[str]) -> tuple[Any, byt
 def main(words: list[str]) -> int:
     kind, party = importlib.import_module(words[0]).Party, None
     for line in sys.stdin:
-        word, *rest = line.rstrip("\n").split(" ", 9)
+        word, *rest = line.rstrip("\n").split(" ", 10)
         try:
             party, data = answer(kind, party, word, rest)
             print("ok", (data or b"").hex() or "-", flush=True)

@@ -5,6 +5,7 @@ from __future__ import annotations
 import logging
 from typing import Any
 
+from dissononce.cipher.aesgcm import AESGCMCipher
 from dissononce.cipher.chachapoly import ChaChaPolyCipher
 from dissononce.dh.x25519.private import PrivateKey
 from dissononce.dh.x25519.public import PublicKey
@@ -13,6 +14,7 @@ from dissononce.exceptions.decrypt import DecryptFailedException
 from dissononce.extras.dh.dangerous.dh_nogen import NoGenDH
 from dissononce.extras.meta.protocol.factory import NoiseProtocolFactory
 from dissononce.extras.processing.handshakestate_guarded import GuardedHandshakeState
+from dissononce.hash.blake2s import Blake2sHash
 from dissononce.hash.sha256 import SHA256Hash
 from dissononce.processing.handshakepatterns.handshakepattern import HandshakePattern
 from dissononce.processing.impl.cipherstate import CipherState
@@ -35,6 +37,14 @@ def pattern_of(setup: dict[str, Any]) -> HandshakePattern:
     return HandshakePattern(setup["protocol"].split("_")[1], messages, before.get("->"), before.get("<-"))
 
 
+def suite_of(protocol: str) -> tuple[Any, Any]:
+    """The cipher and the hash of a protocol name."""
+    parts = protocol.split("_")
+    cipher = {"ChaChaPoly": ChaChaPolyCipher, "AESGCM": AESGCMCipher}.get(parts[-2], ChaChaPolyCipher)
+    digest = {"SHA256": SHA256Hash, "BLAKE2s": Blake2sHash}.get(parts[-1], SHA256Hash)
+    return cipher(), digest()
+
+
 def named(protocol: str) -> HandshakePattern:
     """The pattern of a protocol name, as dissononce reads it."""
     found = NoiseProtocolFactory().get_noise_protocol(protocol)
@@ -53,7 +63,8 @@ class Party:
             raise NotSupported("patterns aren't checked")
         pattern = named(setup["protocol"]) if setup.get("what") == "name" else pattern_of(setup)
         dh = NoGenDH(X25519DH(), PrivateKey(bytes.fromhex(own["e"]))) if "e" in own else X25519DH()
-        self.inner = HandshakeState(SymmetricState(CipherState(ChaChaPolyCipher()), SHA256Hash()), dh)
+        cipher, digest = suite_of(setup["protocol"])
+        self.inner = HandshakeState(SymmetricState(CipherState(cipher), digest), dh)
         self.handshake = GuardedHandshakeState(self.inner)
         mine = pattern.initiator_pre_message_pattern if self.is_initiator else pattern.responder_pre_message_pattern
         self.handshake.initialize(

@@ -16,6 +16,8 @@ class Party:
     REFUSALS = (NoiseError, ValueError)
 
     def __init__(self, setup: dict[str, Any], role: str) -> None:
+        if setup.get("what") != "name" and not setup["protocol"].endswith("_25519_ChaChaPoly_SHA256"):
+            raise NotSupported("another suite")
         own, name = setup[role], setup["protocol"].removeprefix("Noise_").split("_")[0]
         keys = {letter: KeyPair.from_secret(bytes.fromhex(own[letter])) for letter in "es" if letter in own}
         if any("e" in line[3:].split(", ") for line in before(setup["pattern"])):

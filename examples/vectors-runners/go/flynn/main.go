@@ -13,8 +13,11 @@ import (
 )
 
 var (
-	cipherSuite = noise.NewCipherSuite(noise.DH25519, noise.CipherChaChaPoly, noise.HashSHA256)
-	tokens      = map[string]noise.MessagePattern{
+	ciphers = map[string]noise.CipherFunc{"ChaChaPoly": noise.CipherChaChaPoly, "AESGCM": noise.CipherAESGCM}
+	hashes  = map[string]noise.HashFunc{
+		"SHA256": noise.HashSHA256, "SHA512": noise.HashSHA512, "BLAKE2s": noise.HashBLAKE2s, "BLAKE2b": noise.HashBLAKE2b,
+	}
+	tokens = map[string]noise.MessagePattern{
 		"s":  noise.MessagePatternS,
 		"e":  noise.MessagePatternE,
 		"ee": noise.MessagePatternDHEE,
@@ -40,8 +43,12 @@ func start(g *suite.Setup, role string) (suite.Party, error) {
 	if found[4] != "" || len(g.PSKs) > 1 {
 		return nil, fmt.Errorf("%w: more than one psk", suite.ErrNotSupported)
 	}
+	cipher, hash := ciphers[g.Algorithm(1)], hashes[g.Algorithm(2)]
+	if cipher == nil || hash == nil || g.Algorithm(0) != "25519" {
+		return nil, fmt.Errorf("%w: another suite", suite.ErrNotSupported)
+	}
 	config := noise.Config{
-		CipherSuite:   cipherSuite,
+		CipherSuite:   noise.NewCipherSuite(noise.DH25519, cipher, hash),
 		Random:        bytes.NewReader(keys.E.Data),
 		Pattern:       patternOf(g, found[1]),
 		Initiator:     role == "initiator",

@@ -47,6 +47,9 @@ func start(g *suite.Setup, role string) (suite.Party, error) {
 	if strings.HasPrefix(g.Before("initiator"), "e") || strings.HasPrefix(g.Before("responder"), "e") {
 		return nil, fmt.Errorf("%w: ephemeral keys in pre-messages", suite.ErrNotSupported)
 	}
+	if g.What != "name" && !strings.HasSuffix(g.Protocol, "_25519_ChaChaPoly_SHA256") {
+		return nil, fmt.Errorf("%w: another suite", suite.ErrNotSupported)
+	}
 	config := &noise.Config{
 		Pattern:              name + ":\n  " + strings.Join(g.Pattern, "\n  ") + "\n",
 		Prologue:             g.Prologue.Data,

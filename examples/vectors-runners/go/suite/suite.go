@@ -3,6 +3,7 @@
 package suite
 
 import (
+	"bufio"
 	"bytes"
 	"crypto/sha256"
 	"encoding/hex"
@@ -81,6 +82,14 @@ func (g *Setup) Keys(role string) *Keys {
 		return &g.Initiator
 	}
 	return &g.Responder
+}
+
+// Algorithm returns the DH function, the cipher or the hash of the protocol name: number 0, 1 or 2.
+func (g *Setup) Algorithm(number int) string {
+	if parts := strings.Split(g.Protocol, "_"); len(parts) == 5 {
+		return parts[2+number]
+	}
+	return ""
 }
 
 // Before returns the tokens of a role's pre-message, joined by commas.
@@ -326,11 +335,15 @@ func (t *Test) pass(g *Group, start Start) {
 }
 
 // Main runs the suite of the file os.Args[1], and reports; os.Args[2] is a file for JUnit's XML. The
-// status is 0 if no test failed.
+// status is 0 if no test failed. If os.Args[1] is --lines, it speaks the line protocol instead.
 func Main(name string, start Start) {
 	if len(os.Args) < 2 {
-		fmt.Fprintf(os.Stderr, "usage: %s SUITE.json [JUNIT.xml]\n", name)
+		fmt.Fprintf(os.Stderr, "usage: %s SUITE.json [JUNIT.xml]\n       %[1]s --lines\n", name)
 		os.Exit(2)
+	}
+	if os.Args[1] == "--lines" {
+		speak(start)
+		return
 	}
 	text, err := os.ReadFile(os.Args[1])
 	var suite struct {
@@ -361,6 +374,73 @@ func Main(name string, start Start) {
 	}
 	if failed {
 		os.Exit(1)
+	}
+}
+
+// wordOf returns the bytes of a word of the line protocol.
+func wordOf(word string) Bytes {
+	data, _ := hex.DecodeString(word) // "-" and "empty" are none
+	return Bytes{Data: data}
+}
+
+// setupOf returns the set-up of a line that starts a party.
+func setupOf(words []string) *Setup {
+	keys := Keys{E: wordOf(words[5]), S: wordOf(words[6]), RE: wordOf(words[7]), RS: wordOf(words[8])}
+	g := &Setup{What: words[1], Prologue: wordOf(words[3]), Protocol: words[9], Initiator: keys, Responder: keys}
+	for _, line := range strings.Split(words[2], "/") {
+		line = strings.ReplaceAll(line, ",", ", ")
+		if len(line) > 2 && line != "..." {
+			line = line[:2] + " " + line[2:]
+		}
+		g.Pattern = append(g.Pattern, line)
+	}
+	for _, it := range strings.Split(words[4], ",") {
+		if it != "-" {
+			g.PSKs = append(g.PSKs, wordOf(it))
+		}
+	}
+	return g
+}
+
+// answer answers a line of the line protocol.
+func answer(p *Party, start Start, words []string) (data []byte, err error) {
+	switch words[0] {
+	case "start":
+		*p, err = start(setupOf(words[1:]), words[1])
+	case "write":
+		data, err = (*p).Write(wordOf(words[1]).Data)
+	case "read":
+		data, err = (*p).Read(wordOf(words[1]).Data)
+	case "rekey":
+		err = (*p).Rekey(words[1])
+	case "nonce":
+		nonce, _ := strconv.ParseUint(words[2], 10, 64)
+		err = (*p).SetNonce(words[1], nonce)
+	case "hash":
+		data = (*p).Hash()
+	case "remote":
+		data, err = (*p).RemoteStatic()
+	}
+	return data, err
+}
+
+// speak speaks the line protocol.
+func speak(start Start) {
+	var p Party
+	lines := bufio.NewScanner(os.Stdin)
+	lines.Buffer(nil, 1<<20)
+	for lines.Scan() {
+		data, err := answer(&p, start, strings.SplitN(lines.Text(), " ", 11))
+		switch {
+		case errors.Is(err, ErrNotSupported):
+			fmt.Println("unsupported", err)
+		case err != nil && p != nil:
+			fmt.Println("refused", p.Place(err))
+		case err != nil:
+			fmt.Println("refused")
+		default:
+			fmt.Printf("ok %x\n", data)
+		}
 	}
 }
 

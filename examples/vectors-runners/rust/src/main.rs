@@ -45,6 +45,9 @@ fn start(setup: &Setup) -> Result<Box<dyn Party>, Fault> {
     if setup.pattern.iter().position(|it| *it == "...").map_or(false, |at| setup.pattern[..at].iter().any(is_early)) {
         return Err(Fault::NotSupported("ephemeral keys in pre-messages".into()));
     }
+    if !setup.by_name && !setup.protocol.ends_with("_25519_ChaChaPoly_SHA256") {
+        return Err(Fault::NotSupported("another suite".into()));
+    }
     let name = setup.protocol.trim_start_matches("Noise_").split('_').next().unwrap();
     let text = format!("{}:\n{}", name, setup.pattern.iter().map(|it| format!("  {}\n", it)).collect::<String>());
     let pattern = if setup.by_name { setup.protocol } else { &text };
