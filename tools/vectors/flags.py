@@ -67,7 +67,7 @@ FLAGS = {
     "RightStart": ("A right set-up, and its handshake.", "5.3"),
     "NameTaken": ("A protocol name that is none has to be refused.", "8"),
     "ModifierTaken": ("A pattern's modifiers are none, or in another order.", "8.1, 9.4"),
-    "PatternTaken": ("A pattern breaks a rule.", "7.3, 9.3"),
+    "PatternTaken": ("A pattern breaks a rule, or isn't that of its name.", "7.1, 7.3, 9.3, 9.4"),
     "KeyMissing": ("A key is missing that the pattern needs: the start, or a later step, is refused.", "5.3"),
     "KeySuperfluous": ("There is a key that the pattern hasn't: it is refused, or changes nothing.", "5.3"),
     "KeyLengthTaken": ("A key, or a psk, hasn't 32 bytes.", "9, 12.1"),

@@ -42,7 +42,10 @@ SOURCE = {
     "suite": SUITE[1:],
     "license": LICENSE,
     "source": "the command `noise` of this repository, but for what docs/VECTORS.md names",
-    "confirmed_by": ["checks/suite/plain.py", "flynn/noise 1.0.0", "dissononce 0.34.3"],
+    "confirmed_by": [
+        "checks/suite/plain.py, written from the standard alone: all tests",
+        "flynn/noise 1.0.0 and dissononce 0.34.3: all that docs/PROTOCOLS.md doesn't name",
+    ],
     "proofs": "the code of `noise` is proved, except dist/runtime.c; no proof speaks of this file",
 }
 SIZES = (

@@ -23,7 +23,7 @@ NAMES = (
     ("Noise_XX_25519_chachapoly_SHA256", "the cipher in lower case"),
     ("Noise_XX_25519_ChaChaPoly_SHA-256", "the hash with a hyphen"), ("Noise-XX" + SUITE, "another separator"),
     ("Noise_ZZ" + SUITE, "a pattern that isn't one"), ("Noise_XXX" + SUITE, "a pattern that isn't one"),
-    ("Noise_XX" + SUITE + "_" * 300, "more than 255 bytes"),
+    ("Noise_Xx" + SUITE, "a pattern with a small letter"), ("Noise_X" + "X" * 240 + SUITE, "more than 255 bytes"),
 )  # fmt: skip
 MODIFIERS = (
     ("XXpsk", "a modifier without a number"), ("XXpsk4", "psk4 of three messages"), ("Npsk2", "psk2 of one message"),
@@ -31,7 +31,7 @@ MODIFIERS = (
     ("XXpsk0psk2", "modifiers without a plus"), ("XXpsk0+psk0", "a modifier twice"), ("XX+psk0", "a plus before it"),
     ("XXpsk0+", "a plus after it"), ("XXpsk0++psk2", "two pluses"), ("XXPSK0", "a modifier in upper case"),
     ("XXpsk-1", "a number with a sign"), ("XXpsk00", "a number of two digits"), ("XXpsk0+0", "a number alone"),
-    ("XXpsk0+unknown", "a modifier that isn't one"), ("psk0", "a modifier alone"),
+    ("XXpsk0+unknown", "a modifier that isn't one"), ("XXpsk0+qsk1", "a modifier that isn't one"), ("psk0", "a modifier alone"),
 )  # fmt: skip
 RIGHT_NAMES = ("NN", "XX", "IK", "N", "XXpsk3", "NNpsk0+psk2", "XXpsk0+psk1+psk2+psk3", "Xpsk1")
 # What breaks a rule of 7.3 or 9.3, or the form of a pattern: the section, the lines, what is wrong.
@@ -54,9 +54,20 @@ PATTERNS = (
     ("7.3", "PP:/  <- s/  .../  -> e/  <- e, es", "es, and no ee, before the responder encrypts"),
     ("7.3", "PQ:/  -> s/  <- s/  .../  -> e, es/  <- e, ee, se, ss/  -> s", "a static key that is known beforehand"),
     ("7.3", "PQQ:/  -> s/  <- s/  .../  -> e, es, ss/  <- e, ee", "ss, and no se, before the responder encrypts"),
-    ("9.3", "PRpsk0:/  -> psk, s/  <- e, es", "a psk, and no e, before the initiator encrypts"),
-    ("9.3", "PSpsk1:/  -> e, psk/  <- s, es", "a psk, and no e, before the responder encrypts"),
-    ("9.3", "PTpsk0:/  <- s/  .../  -> psk, s/  <- e, es", "a psk, and no e, before the initiator encrypts"),
+    ("7.3", "PRR:/  -> e/  <- e, se/  -> s, ee", "a DH before its first key"),
+    ("7.3", "PSS:/  -> s/  <- s/  .../  -> e, ss/  <- e, ee, se, es", "ss, and es later than the initiator encrypts"),
+    ("9.3", "PRpsk0:/  -> psk, s/  <- e, se/  -> e, ee", "a psk, and e later than the initiator encrypts"),
+    ("9.3", "PSpsk1:/  -> e, psk/  <- s", "a psk, and no e, before the responder encrypts"),
+    ("9.3", "PTpsk1:/  <- s/  .../  -> e, psk/  <- ee, e", "ee before its second key"),
+    ("9.4", "QApsk1:/  -> e/  <- e, ee", "a modifier, and no psk"),
+    ("9.4", "QA:/  -> psk, e/  <- e, ee", "a psk, and no modifier"),
+    ("9.4", "QApsk0:/  -> e, psk/  <- e, ee", "a psk at the end of message 1, and psk0"),
+    ("9.4", "QApsk2:/  -> e, psk/  <- e, ee", "a psk at the end of message 1, and psk2"),
+    ("9.4", "QApsk1:/  -> e, psk/  <- e, ee, psk", "two psks, and one modifier"),
+    ("8.1", "Qa:/  -> e/  <- e, ee", "a name with a small letter"),
+    ("8", f"{'Q' * 240}:/  -> e/  <- e, ee", "a protocol name of more than 255 bytes"),
+    ("7.1", "PYY:/  <- s, e/  .../  -> e, ee", "a pre-message in another order"),
+    ("7.1", "PYZ:/  <- s, s/  .../  -> e, es/  <- e, ee", "a key twice in a pre-message"),
     ("7.1", "PU:/  -> e, x/  <- e, ee", "a token that isn't one"),
     ("7.1", "PV:/  -> e, E/  <- e, ee", "a token in upper case"),
     ("7.1", "PW:/  -> e/  -> e, ee", "two messages of a party, one after the other"),
@@ -139,7 +150,7 @@ def patterns(command: Command, groups: dict[str, Group]) -> list[Test]:
         keys = {role: full_setup(groups["KK"])[role] for role in ROLES}
         setup = {
             "protocol": f"Noise_{heading[:-1]}{SUITE}", "pattern": [it.strip() for it in lines],
-            "psks": ["00" * 32] * text.count("psk,") or ["00" * 32] * text.count(", psk"),
+            "psks": ["00" * 32] * sum(it.count("psk") for it in lines),
         } | keys  # fmt: skip
         for role in ROLES:
             test = told(f"a pattern: {what} ({section})", "PatternTaken", "invalid", "pattern", place, setup, role)

@@ -52,6 +52,15 @@ def changed(group: Group, role: str, number: int) -> None:
     )
 
 
+def other_tags(tag: bytes) -> dict[str, bytes]:
+    """Tags that a careless comparison takes."""
+    return {
+        "zeros": bytes(16), "of bytes 255": b"\xff" * 16, "in reverse order": tag[::-1],
+        "moved by a byte": tag[1:] + tag[:1], "inverted": bytes(255 - it for it in tag),
+        "its first half twice": tag[:8] * 2,
+    }  # fmt: skip
+
+
 def tag_bits(group: Group) -> None:
     """Each bit of a tag changed, one after the other; then the right message."""
     for role in ROLES:
@@ -60,6 +69,10 @@ def tag_bits(group: Group) -> None:
         changes = [read(number, xor=[first + bit // 8, 1 << bit % 8]) for bit in range(128)]
         steps = [*right(group, role, number), *changes, read(number)]
         check(group, role, "each bit of a transport message's tag changed; then the right one", "TransportChanged", steps)
+        data = group.messages[number].data
+        for what, tag in other_tags(data[first:]).items():
+            steps = [*right(group, role, number), {"do": "read", "bytes": (data[:first] + tag).hex()}, read(number)]
+            check(group, role, f"a transport message whose tag is {what}; then the right one", "TransportChanged", steps)
 
 
 def renewed_at_once(group: Group) -> None:
