@@ -1,5 +1,5 @@
-"""Counts the lengths that the suite reaches, mod 64: of texts that are encrypted and decrypted, by ChaCha20's blocks of 64
-bytes; and of texts that are hashed after `h`, by SHA-256's. All of them have to be there, and those of 0 to 130 bytes.
+"""Counts the lengths that the suite reaches, mod 64: of texts that are encrypted and decrypted, by ChaCha20's blocks of
+64 bytes; and of texts that are hashed after `h`, by SHA-256's. All have to be there, and those of 0 to 130 bytes.
 
     lengths.py SUITE.json
 """

@@ -1,15 +1,14 @@
-"""A Noise of its own, revision 34 with 25519, ChaChaPoly and SHA256, written from the standard alone, section by section.
+"""A Noise of its own, revision 34 with 25519, ChaChaPoly and SHA256, written from the standard alone.
 
 It shares no code with `noise` nor with tools/vectors, and has to pass the whole suite: so the suite's expectations are
-those of two programs. checks/suite/mutants.py changes its text in 200 places, each of which the suite has to see. For
-runner.py it is a party (`plain.Party`); by itself it speaks the line protocol of docs/VECTORS.md.
+those of two programs. checks/suite/mutants.py changes its text in one place after another, and the suite has to see
+each. For runner.py it is a party (`plain.Party`).
 """
 
 from __future__ import annotations
 
 import hashlib
 import hmac
-import sys
 from copy import copy
 from typing import Any
 
@@ -218,29 +217,30 @@ class HandshakePattern:  # 7
     def check(self) -> None:  # 7.3, 9.3
         sent = {"i" + it for it in self.before["->"]} | {"r" + it for it in self.before["<-"]}
         done: set[str] = set()
-        has_key = False
         for number, tokens in enumerate(self.messages):
             party = "ir"[number % 2]
             for token in tokens:
-                if token in ("e", "s"):
-                    if party + token in sent:
-                        raise Refused(f"{token} twice")
-                    sent.add(party + token)
-                    if token == "s" and has_key:
-                        self.check_encrypt(party, sent, done)
-                elif token != "psk":
-                    if "i" + token[0] not in sent or "r" + token[1] not in sent:
-                        raise Refused(f"no key for {token}")
-                    if token in done:
-                        raise Refused(f"{token} twice")
-                    done.add(token)
-                else:
-                    done.add("psk")
-                has_key = bool(done)
-            if has_key:
+                self.check_token(party, token, sent, done)
+            if done:
                 self.check_encrypt(party, sent, done)
         for party in "i" if len(self.messages) == 1 else "ir":
             self.check_encrypt(party, sent, done)
+
+    def check_token(self, party: str, token: str, sent: set[str], done: set[str]) -> None:
+        if token in ("e", "s"):
+            if party + token in sent:
+                raise Refused(f"{token} twice")
+            sent.add(party + token)
+            if token == "s" and done:
+                self.check_encrypt(party, sent, done)
+        elif token == "psk":
+            done.add(token)
+        else:
+            if "i" + token[0] not in sent or "r" + token[1] not in sent:
+                raise Refused(f"no key for {token}")
+            if token in done:
+                raise Refused(f"{token} twice")
+            done.add(token)
 
     @staticmethod
     def check_encrypt(party: str, sent: set[str], done: set[str]) -> None:
@@ -315,8 +315,8 @@ class HandshakeState:  # 5.3
     def check_keys(self) -> None:
         own, theirs = ("->", "<-") if self.initiator else ("<-", "->")
         first = 0 if self.initiator else 1
-        needed = {*self.pattern.before[own], *(it for m in self.pattern.messages[first::2] for it in m if it in ("e", "s"))}
-        needed |= {"r" + it for it in self.pattern.before[theirs]}
+        sent = {it for tokens in self.pattern.messages[first::2] for it in tokens if it in ("e", "s")}
+        needed = sent | {*self.pattern.before[own]} | {"r" + it for it in self.pattern.before[theirs]}
         if not needed <= self.keys.keys() or len(self.psks) != self.pattern.psk_count():
             raise Refused("a key is missing, or psks are too few or too many")
         if any(len(it) != DHLEN for it in (*self.keys.values(), *self.psks)):

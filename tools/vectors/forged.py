@@ -1,7 +1,7 @@
 """Messages that one check alone refuses: all that follows a change is sealed for it.
 
-A changed `s` also changes the hash, so that the payload's tag would be wrong, too: a party that doesn't check the tag of
-`s` would pass such a test. Here the rest of the message is what a party that took the change expects.
+A changed `s` also changes the hash, so that the payload's tag would be wrong, too: a party that doesn't check the tag
+of `s` would pass such a test. Here the rest of the message is what a party that took the change expects.
 """
 
 from __future__ import annotations

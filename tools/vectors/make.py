@@ -200,6 +200,15 @@ class Plan:
                 "byte": b"t",
             }
             self.add(cases.positive, **what, transport=(size,) * 2)
+        self.transport()
+        for section, role, letter in special.TRIED:
+            what = self.command, by[section], role, letter
+            self.jobs.append(lambda it=what: [group.as_json() for group in special.bad_keys(*it)])
+        self.jobs.append(lambda: starts.groups_of(self.command, by, patterns.protocol_of))
+        self.jobs.append(lambda: [special.frames(self.group("XX, frames", by["XX"], [], lengths=(3,)), 1)])
+
+    def transport(self) -> None:
+        by = self.by_name
         for interval in (1, 2, 3, 5):
             for section in ("NN", "XX", "IK", "X", "NNpsk0"):
                 name = f"{section}, a new key after {interval}"
@@ -230,11 +239,6 @@ class Plan:
                 cases.positive, name=f"NN, {size} bytes", protocol=by["NN"], flags=["Lengths"],
                 prologue=draw(size, "prologue", "lengths", size), lengths=(size,), transport=(size, size),
             )
-        for section, role, letter in special.TRIED:
-            what = self.command, by[section], role, letter
-            self.jobs.append(lambda it=what: [group.as_json() for group in special.bad_keys(*it)])
-        self.jobs.append(lambda: starts.groups_of(self.command, by, patterns.protocol_of))
-        self.jobs.append(lambda: [special.frames(self.group("XX, frames", by["XX"], [], lengths=(3,)), 1)])
 
     @staticmethod
     def longest(group: Group) -> None:

@@ -31,7 +31,8 @@ MODIFIERS = (
     ("XXpsk0psk2", "modifiers without a plus"), ("XXpsk0+psk0", "a modifier twice"), ("XX+psk0", "a plus before it"),
     ("XXpsk0+", "a plus after it"), ("XXpsk0++psk2", "two pluses"), ("XXPSK0", "a modifier in upper case"),
     ("XXpsk-1", "a number with a sign"), ("XXpsk00", "a number of two digits"), ("XXpsk0+0", "a number alone"),
-    ("XXpsk0+unknown", "a modifier that isn't one"), ("XXpsk0+qsk1", "a modifier that isn't one"), ("psk0", "a modifier alone"),
+    ("XXpsk0+unknown", "a modifier that isn't one"), ("XXpsk0+qsk1", "a modifier that isn't one"),
+    ("psk0", "a modifier alone"),
 )  # fmt: skip
 RIGHT_NAMES = ("NN", "XX", "IK", "N", "XXpsk3", "NNpsk0+psk2", "XXpsk0+psk1+psk2+psk3", "Xpsk1")
 # What breaks a rule of 7.3 or 9.3, or the form of a pattern: the section, the lines, what is wrong.
@@ -235,10 +236,10 @@ def psks(groups: dict[str, Group]) -> list[Test]:
 
 def groups_of(command: Command, by: dict[str, Protocol], of: Any) -> list[dict[str, Any]]:
     """The groups of set-ups: `by` are the protocols by their sections, and `of` reads a pattern's text."""
-    wanted = {*RIGHT_NAMES, "NK", "KN", "KK", "X", "IKpsk2", "NNpsk0", "XXpsk0+psk3", "Npsk0"} - {"XXpsk0+psk1+psk2+psk3"}
+    wanted = {*RIGHT_NAMES[:6], *RIGHT_NAMES[7:], "NK", "KN", "KK", "X", "IKpsk2", "NNpsk0", "XXpsk0+psk3", "Npsk0"}
     groups = {it: Group(command, f"{it}, start", by[it], [], lengths=(2,), transport=()) for it in wanted}
-    four = "XXpsk0+psk1+psk2+psk3:/  -> psk, e, psk/  <- e, ee, s, es, psk/  -> s, se, psk"
-    groups["XXpsk0+psk1+psk2+psk3"] = Group(command, "four psks, start", of(four, ""), [], lengths=(2,), transport=())
+    four = f"{RIGHT_NAMES[6]}:/  -> psk, e, psk/  <- e, ee, s, es, psk/  -> s, se, psk"
+    groups[RIGHT_NAMES[6]] = Group(command, "four psks, start", of(four, ""), [], lengths=(2,), transport=())
     made = {
         "names (8)": names(command, groups),
         "patterns (7.1, 7.3, 9.3)": patterns(command, groups) + right_patterns(command, of),

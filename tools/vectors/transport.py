@@ -68,11 +68,13 @@ def tag_bits(group: Group) -> None:
         first = len(group.messages[number].data) - 16
         changes = [read(number, xor=[first + bit // 8, 1 << bit % 8]) for bit in range(128)]
         steps = [*right(group, role, number), *changes, read(number)]
-        check(group, role, "each bit of a transport message's tag changed; then the right one", "TransportChanged", steps)
+        words = "each bit of a transport message's tag changed; then the right one"
+        check(group, role, words, "TransportChanged", steps)
         data = group.messages[number].data
         for what, tag in other_tags(data[first:]).items():
             steps = [*right(group, role, number), {"do": "read", "bytes": (data[:first] + tag).hex()}, read(number)]
-            check(group, role, f"a transport message whose tag is {what}; then the right one", "TransportChanged", steps)
+            words = f"a transport message whose tag is {what}; then the right one"
+            check(group, role, words, "TransportChanged", steps)
 
 
 def renewed_at_once(group: Group) -> None:
@@ -179,7 +181,8 @@ def exhausted(group: Group, role: str, used: list[Step], key: bytes) -> None:
         add(group, role, "to send at nonce 2^64 - 2, and twice more", ["NonceWraps"], [*used, again, again])
         return
     reserved, first = (
-        {"do": "read", "bytes": sealed_at(key, nonce, b"never").hex(), "refused": "exhausted"} for nonce in (RESERVED, 0)
+        {"do": "read", "bytes": sealed_at(key, nonce, b"never").hex(), "refused": "exhausted"}
+        for nonce in (RESERVED, 0)
     )
     words = "to receive at nonce 2^64 - 2, and then a message of nonce"
     add(group, role, f"{words} 2^64 - 1", ["ReservedNonceRead"], [*used, reserved])

@@ -10,7 +10,9 @@ from mistaken import MISTAKES, Party, Refused
 from steps import add, is_renewed, judged, right
 
 # What no message of a party that makes the mistake shows: these have tests of their own.
-ELSEWHERE = ("ReservedNonceUsed", "ReservedNonceRead", "NonceWraps", "RekeyAtZeroOmitted", "HashMoves", "RemoteKeyWrong")
+ELSEWHERE = (
+    "ReservedNonceUsed", "ReservedNonceRead", "NonceWraps", "RekeyAtZeroOmitted", "HashMoves", "RemoteKeyWrong",
+)  # fmt: skip
 MOST = 2  # tests of a mistake for each party that makes it
 MESSAGE = {True: "the transport message", False: "the message"}
 

@@ -15,7 +15,8 @@ import (
 var (
 	ciphers = map[string]noise.CipherFunc{"ChaChaPoly": noise.CipherChaChaPoly, "AESGCM": noise.CipherAESGCM}
 	hashes  = map[string]noise.HashFunc{
-		"SHA256": noise.HashSHA256, "SHA512": noise.HashSHA512, "BLAKE2s": noise.HashBLAKE2s, "BLAKE2b": noise.HashBLAKE2b,
+		"SHA256": noise.HashSHA256, "SHA512": noise.HashSHA512,
+		"BLAKE2s": noise.HashBLAKE2s, "BLAKE2b": noise.HashBLAKE2b,
 	}
 	tokens = map[string]noise.MessagePattern{
 		"s":  noise.MessagePatternS,
