@@ -19,7 +19,7 @@ sys.path.insert(0, str(HERE.parent.parent / "examples" / "vectors-runners" / "py
 import runner  # noqa: E402
 from mutants_list import ESCAPES, MUTANTS  # noqa: E402
 
-LIMIT = 120  # seconds, of a mutant that doesn't end
+LIMIT = 300  # seconds of the processor, of a mutant that doesn't end
 PLAIN = (HERE / "plain.py").read_text("utf-8")
 
 
@@ -58,13 +58,13 @@ def first_failing(tests: list[Any], party: Any) -> int:
 
 
 def caught(tests: list[Any], mutant: tuple[str, str, str]) -> bool:
-    signal.alarm(LIMIT)
+    signal.setitimer(signal.ITIMER_VIRTUAL, LIMIT)
     try:
         return bool(first_failing(tests, party_of(edited(mutant))))
     except (TooLong, SyntaxError):
         raise ValueError(f"no mutant: {mutant}") from None
     finally:
-        signal.alarm(0)
+        signal.setitimer(signal.ITIMER_VIRTUAL, 0)
 
 
 def stop(*_: Any) -> None:
@@ -72,7 +72,7 @@ def stop(*_: Any) -> None:
 
 
 def main(words: list[str]) -> int:
-    signal.signal(signal.SIGALRM, stop)
+    signal.signal(signal.SIGVTALRM, stop)
     groups = json.loads(Path(words[0]).read_text("ascii"))["testGroups"]
     tests = spread([(group, test) for group in groups for test in group["tests"]])
     if number := first_failing(tests, party_of(PLAIN)):
