@@ -32,7 +32,7 @@ def wrong(suite: dict[str, Any], every: int) -> dict[str, Any]:
 
 
 def pattern_of(group: dict[str, Any]) -> str:
-    return group["protocol"].split("_")[1] if "protocol" in group else "frame"
+    return group["protocol"].split("_")[1] if "protocol" in group else group["type"][5:].lower()
 
 
 def table(lines: list[str], tests: list[tuple[str, dict]], notes: dict[str, dict]) -> tuple[list[str], Counter[str]]:

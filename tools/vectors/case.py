@@ -86,7 +86,8 @@ def vector_of(command: Command, told: dict[str, Any], test: dict[str, Any], your
 def has_vector(test: dict[str, Any]) -> bool:
     """Whether a vector file can say what this test does."""
     steps = test.get("steps", [{"do": "frame"}])
-    return not any(it["do"] in ("nonce", "frame") or it.get("refused") == "too-long" for it in steps)
+    is_told = not any(it["do"] in ("nonce", "frame", "start") or it.get("refused") == "too-long" for it in steps)
+    return is_told and "RekeyAtZeroOmitted" not in test["flags"]  # the command has no rekey before a message
 
 
 def print_one(command: Command, number: int, yours: list[str]) -> str:

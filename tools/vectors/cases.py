@@ -4,6 +4,7 @@ from __future__ import annotations
 
 from typing import NamedTuple
 
+import forged
 from group import Group, Setup, other
 from patterns import LETTERS, ROLES, SUITE, Protocol
 from steps import Step, add, bytes_of, fresh, judged, right
@@ -55,6 +56,23 @@ def positive(group: Group) -> None:
         add(group, role, f"{group.name}: {who}", group.flags, with_hash(group, role, right(group, role, count)))
 
 
+def looks(group: Group) -> None:
+    """What a party says after the handshake, and again after transport messages: the hash doesn't move, and the other
+    party's static key is the right one."""
+    last = len(group.messages)
+    for role in ROLES:
+        steps = right(group, role, last)
+        hashes = [*steps[: group.handshake], {"do": "hash"}, *steps[group.handshake :], {"do": "hash"}]
+        add(group, role, f"{group.name}: the hash, before and after transport messages", ["HashMoves"], hashes)
+        if "s" in group.protocol.own(other(role)):
+            remote = {"do": "remote", "is": group.public(other(role), "s").hex()}
+            steps = [*steps[: group.handshake], remote]
+            add(
+                group, role, f"{group.name}: the other party's static key, after the handshake", ["RemoteKeyWrong"],
+                steps,
+            )
+
+
 def with_hash(group: Group, role: str, steps: list[Step]) -> list[Step]:
     """The steps, with a look at the handshake hash after the last message of the handshake."""
     at = group.handshake * (2 if role == "both" else 1)
@@ -66,7 +84,8 @@ def refusal(
     group: Group, role: str, number: int, comment: str, flag: str, change: Step, then_right: bool = False
 ) -> None:
     """A party reads a changed message, which it has to refuse; afterwards, perhaps, the right one."""
-    steps = right(group, role, number) + [{"do": "read", "message": number} | change]
+    read = {"do": "read"} if "bytes" in change else {"do": "read", "message": number}
+    steps = right(group, role, number) + [read | change]
     if then_right:
         steps.append({"do": "read", "message": number})
     done = judged(group, role, steps)
@@ -108,11 +127,29 @@ def sealed_changes(group: Group) -> None:
                     if at >= piece.end - 16
                     else flags[piece.kind]
                 )
-                refusal(
-                    group, role, number, f"message {number + 1}: {piece.kind}, the {what}", flag,
-                    {"xor": [at, 1 << at % 8]},
-                )
+                change = changed_piece(group, number, piece, at, 1 << at % 8)
+                refusal(group, role, number, f"message {number + 1}: {piece.kind}, the {what}", flag, change)
         refusal(group, role, number, f"message {number + 1}: a byte more", "ByteAppended", {"append": "00"})
+
+
+def changed_piece(group: Group, number: int, piece: Piece, at: int, mask: int) -> Step:
+    """A message whose encrypted text is changed; after an `s` the rest is sealed for the change."""
+    if piece.kind == "payload":
+        return {"xor": [at, mask]}
+    return {"bytes": forged.changed(group, number, piece, at, mask).hex()}
+
+
+def tag_bits(group: Group, number: int, kind: str) -> None:
+    """Each bit of a tag changed, in a test of its own."""
+    role = other(group.messages[number].sender)
+    piece = next(it for it in pieces(group, number) if it.kind == kind and it.is_sealed)
+    for bit in range(128):
+        at = piece.end - 16 + bit // 8
+        flag = "TagEndChanged" if bit >= 64 else "TagChanged"
+        refusal(
+            group, role, number, f"message {number + 1}: {kind}, the tag's byte {bit // 8}, bit {bit % 8}", flag,
+            changed_piece(group, number, piece, at, 1 << bit % 8),
+        )
 
 
 def ended(group: Group) -> None:
@@ -163,15 +200,17 @@ def add_judged(group: Group, role: str, comment: str, flag: str, number: int, st
 
 
 def add_turn(group: Group, sender: str, reader: str, number: int) -> None:
-    """A party does the other thing than what is due, and then what is due."""
-    due = {"do": "read", "message": number}
+    """A party does the other thing than what is due, and then what is due: whether that still succeeds, the standard
+    doesn't say."""
+    due = {"do": "read", "message": number, "optional": True}
     done = judged(group, reader, right(group, reader, number) + [{"do": "write", "message": number}, due])
     add(
         group, reader, f"it writes where message {number + 1} is to be read, and then reads it", ["WriteOutOfTurn"],
         done,
     )
-    due = {"do": "write", "message": number}
-    done = judged(group, sender, right(group, sender, number) + [{"do": "read", "message": number}, due])
+    due = {"do": "write", "message": number, "optional": True}
+    read = {"do": "read", "bytes": forged.out_of_turn(group, sender, number).hex()}
+    done = judged(group, sender, right(group, sender, number) + [read, due])
     add(
         group, sender, f"it reads where message {number + 1} is to be written, and then writes it", ["ReadOutOfTurn"],
         done,
@@ -220,7 +259,7 @@ def clear_changes(group: Group) -> None:
         for piece in pieces(group, number):
             if piece.is_sealed or not piece.length:
                 continue
-            for at, mask in ((piece.start, 1), (piece.end - 1, 128)):
+            for at, mask in ((piece.start, 1), (piece.end - 1, 64)):
                 changed_later(group, reader, number, piece, {"xor": [at, mask]})
         if not pieces(group, number)[-1].is_sealed:
             changed_later(group, reader, number, pieces(group, number)[-1], {"append": "00"})

@@ -5,7 +5,8 @@
                                     right
     make.py PROGRAM FOLDER EVERY    makes each so-many-th part again, and compares it with the suite in FOLDER
 
-The keys are drawn of a seed (`group.SEED`), and X25519 is computed by `cryptography`.
+The keys are drawn of a seed (`group.SEED`), and X25519 is computed by `cryptography`. A test that was in FOLDER before
+keeps its number, and a number that a test has had is never that of another.
 """
 
 from __future__ import annotations
@@ -13,7 +14,7 @@ from __future__ import annotations
 import json
 import sys
 from collections import Counter
-from collections.abc import Callable, Iterator
+from collections.abc import Callable
 from concurrent.futures import ThreadPoolExecutor
 from pathlib import Path
 from typing import Any
@@ -21,12 +22,13 @@ from typing import Any
 import cases
 import patterns
 import special
+import starts
 import transport
 import wrong
 from command import Command
 from flags import notes
 from group import Group, draw
-from patterns import Protocol
+from patterns import SUITE, Protocol
 
 Made = list[dict[str, Any]]
 # The pattern that the other party has in its place.
@@ -35,6 +37,17 @@ OTHERS = dict(
     IK="KK", IX="XX",
 )
 NAME, SHARED_NAME = "25519_ChaChaPoly_SHA256.json", "25519_ChaChaPoly_SHA256_shared.json"
+LICENSE = "MIT OR Apache-2.0"
+SOURCE = {
+    "suite": SUITE[1:],
+    "license": LICENSE,
+    "source": "the command `noise` of this repository, but for what docs/VECTORS.md names",
+    "confirmed_by": [
+        "checks/suite/plain.py, written from the standard alone: all tests",
+        "flynn/noise 1.0.0 and dissononce 0.34.3: all that docs/PROTOCOLS.md doesn't name",
+    ],
+    "proofs": "the code of `noise` is proved, except dist/runtime.c; no proof speaks of this file",
+}
 SIZES = (
     0, 1, 2, 15, 16, 17, 31, 32, 33, 63, 64, 65, 127, 128, 129, 255, 256, 257, 511, 512, 1024, 4096, 16384, 32767,
     32768, 65518, 65519,
@@ -118,7 +131,7 @@ class Plan:
             self.add(cases.positive, name=protocol.section, protocol=protocol, flags=[protocol.kind, "EmptyPrologue"])
             also = [transport.one_way] if protocol.is_one_way else []
             self.add(
-                cases.positive, cases.negative, transport.negative, *pattern, *also,
+                cases.positive, cases.negative, transport.negative, cases.looks, *pattern, *also,
                 name=f"{protocol.section} with payloads", protocol=protocol, flags=[protocol.kind, "Prologue"],
                 prologue=b"\x01", lengths=(3, 1, 20), transport=(2, 3, 4, 5),
             )  # fmt: skip
@@ -187,6 +200,15 @@ class Plan:
                 "byte": b"t",
             }
             self.add(cases.positive, **what, transport=(size,) * 2)
+        self.transport()
+        for section, role, letter in special.TRIED:
+            what = self.command, by[section], role, letter
+            self.jobs.append(lambda it=what: [group.as_json() for group in special.bad_keys(*it)])
+        self.jobs.append(lambda: starts.groups_of(self.command, by, patterns.protocol_of))
+        self.jobs.append(lambda: [special.frames(self.group("XX, frames", by["XX"], [], lengths=(3,)), 1)])
+
+    def transport(self) -> None:
+        by = self.by_name
         for interval in (1, 2, 3, 5):
             for section in ("NN", "XX", "IK", "X", "NNpsk0"):
                 name = f"{section}, a new key after {interval}"
@@ -200,14 +222,23 @@ class Plan:
             self.add(
                 transport.nonces, name=f"{section}, nonces", protocol=by[section], flags=["HighNonce"], transport=()
             )
+            self.add(transport.renewed_at_once, name=f"{section}, a new key at once", protocol=by[section], flags=[],
+                     transport=())
+        for section in ("NN", "XX", "IKpsk2", "KK", "NNpsk0", "NNpsk2"):
             self.add(
                 special.too_long, name=f"{section}, 65536 bytes", protocol=by[section], flags=["LongMessageTaken"],
                 transport=(1, 1),
             )
-        for section, role, letter in special.TRIED:
-            what = self.command, by[section], role, letter
-            self.jobs.append(lambda it=what: [group.as_json() for group in special.bad_keys(*it)])
-        self.jobs.append(lambda: [special.frames(self.group("XX, frames", by["XX"], [], lengths=(3,)), 1)])
+        for section, kind, number in (("NN", "payload", 1), ("XX", "s", 1), ("XXpsk3", "payload", 2)):
+            self.add(
+                lambda group, it=(number, kind): cases.tag_bits(group, *it), transport.tag_bits,
+                name=f"{section}, each bit of a tag", protocol=by[section], flags=[], lengths=(2,), transport=(3, 3),
+            )
+        for size in range(131):
+            self.add(
+                cases.positive, name=f"NN, {size} bytes", protocol=by["NN"], flags=["Lengths"],
+                prologue=draw(size, "prologue", "lengths", size), lengths=(size,), transport=(size, size),
+            )
 
     @staticmethod
     def longest(group: Group) -> None:
@@ -217,15 +248,33 @@ class Plan:
         group.converse()
 
 
-def numbered(made: list[Made]) -> Iterator[dict[str, Any]]:
-    """The groups, their tests numbered from 1."""
-    number = 0
-    for groups in made:
+def is_what(group: dict[str, Any], test: dict[str, Any]) -> str:
+    """What makes a test the same: its set-up, and what its party does and gets."""
+    said = ("tcId", "comment", "flags", "result", "after")
+    steps = [{key: value for key, value in it.items() if key != "optional"} for it in test.get("steps", [])]
+    it = {key: value for key, value in test.items() if key not in said} | {"steps": steps}
+    return json.dumps([{key: value for key, value in group.items() if key != "tests"}, it], sort_keys=True)
+
+
+class Numbers:
+    """The numbers of the tests: those of the suite before, and new ones."""
+
+    def __init__(self, path: Path) -> None:
+        before = json.loads(path.read_text("ascii")) if path.exists() else {"testGroups": []}
+        self.known: dict[str, list[int]] = {}
+        for group in before["testGroups"]:
+            for test in group["tests"]:
+                self.known.setdefault(is_what(group, test), []).append(test["tcId"])
+        self.last = before.get("lastTcId", before.get("numberOfTests", 0))
+
+    def give(self, groups: list[dict[str, Any]]) -> None:
         for group in groups:
             for test in group["tests"]:
-                number += 1
-                test["tcId"] = number
-            yield group
+                if numbers := self.known.get(is_what(group, test)):
+                    test["tcId"] = numbers.pop(0)
+                else:
+                    self.last += 1
+                    test["tcId"] = self.last
 
 
 def text_of(suite: dict[str, Any]) -> str:
@@ -240,13 +289,15 @@ def text_of(suite: dict[str, Any]) -> str:
     return f'{head},\n "testGroups": [\n' + ",\n".join(texts) + "\n]}\n"
 
 
-def suite_of(groups: list[dict[str, Any]]) -> dict[str, Any]:
+def suite_of(groups: list[dict[str, Any]], last: int) -> dict[str, Any]:
     tests = [test for group in groups for test in group["tests"]]
     return {
         "algorithm": "Noise_25519_ChaChaPoly_SHA256",
         "schema": "schema.json",
-        "generatorVersion": "1",
+        "generatorVersion": "2",
+        **SOURCE,
         "numberOfTests": len(tests),
+        "lastTcId": last,
         "notes": notes({flag for test in tests for flag in test["flags"]}),
         "testGroups": groups,
     }
@@ -303,7 +354,7 @@ def main(words: list[str]) -> int:
     jobs = Plan(Command(words[0])).jobs[::every]
     with ThreadPoolExecutor(4) as pool:
         made = list(pool.map(lambda job: job(), jobs))
-    groups = list(numbered(made))
+    groups = [group for groups in made for group in groups]
     if every > 1:
         differ = differing(groups, folder)
         print(
@@ -315,7 +366,9 @@ def main(words: list[str]) -> int:
             )
         )
         return int(bool(differ))
-    (folder / NAME).write_text(text_of(suite_of(groups)), encoding="ascii")
+    numbers = Numbers(folder / NAME)
+    numbers.give(groups)
+    (folder / NAME).write_text(text_of(suite_of(groups, numbers.last)), encoding="ascii")
     shared = ",\n".join(json.dumps(it, separators=(",", ":")) for it in shared_format(groups)["vectors"])
     (folder / SHARED_NAME).write_text(f'{{"vectors":[\n{shared}\n]}}\n', encoding="ascii")
     results = Counter(test["result"] for group in groups for test in group["tests"])

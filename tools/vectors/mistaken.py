@@ -72,7 +72,33 @@ MISTAKES = {
     "HandshakeGoesOn": ("A refused message doesn't end the handshake.", "5"),
     "LongMessageTaken": ("Messages of more than 65535 bytes are written and read.", "3"),
     "TurnNotChecked": ("A party reads, or writes, when it is its turn to do the other.", "5.3"),
+    "ReservedNonceRead": ("A message is decrypted at the nonce 2^64 - 1.", "5.1"),
+    "NonceWraps": ("After a refusal at the nonce 2^64 - 1 the nonce is 0.", "5.1"),
+    "RekeyAtZeroOmitted": ("Rekey does nothing before the first message.", "11.3"),
+    "HashMoves": ("The handshake hash changes with transport messages.", "11.2"),
+    "RemoteKeyWrong": ("The other party's static key is taken for another key.", "5.3"),
 }
+
+
+# For each flag of a kind of cases a mistake that fails all of its tests: of these, or of MISTAKES. Those that aren't
+# named here are right conversations, which any mistake in the name fails.
+BREAKS = {
+    "EphemeralInPreMessage": "PreMessageOmitted", "EphemeralInPreMessageWithPsk": "PskNotMixedAtE",
+    "LongName": "LongNameCut", "EmptyPrologue": "EmptyPrologueOmitted", "Prologue": "PrologueOmitted",
+    "LongPrologue": "PrologueOmitted", "HighNonce": "NonceBigEndian", "LowOrderKey": "BadKeyCrash",
+    "NonCanonicalKey": "BadKeyCrash", "RightAfterRefused": "HandshakeGoesOn", "WriteOutOfTurn": "TurnNotChecked",
+    "ReadOutOfTurn": "TurnNotChecked", "OneWayAnswer": "TurnNotChecked", "Frame": "FrameLittleEndian",
+    "FrameCut": "FrameNotWaited",
+} | {
+    flag: "NothingRefused"
+    for flag in (
+        "MessageCut", "ByteAppended", "TagChanged", "TagEndChanged", "EncryptedKeyChanged", "PayloadChanged",
+        "ClearKeyChanged", "ClearPayloadChanged", "Reflected", "Repeated", "OutOfOrder", "WrongPrologue", "WrongPsk",
+        "WrongPattern", "TransportCut", "TransportChanged", "TransportByteAppended", "TransportReordered",
+        "TransportRepeated", "TransportLost", "TransportReflected", "HandshakeInTransport", "NameTaken",
+        "ModifierTaken", "PatternTaken", "KeyMissing", "KeyLengthTaken", "PskMissing",
+    )
+}  # fmt: skip
 
 
 class Refused(Exception):
@@ -85,6 +111,19 @@ def public_of(private: bytes) -> bytes:
 
 def agreement(private: bytes, public: bytes) -> bytes:
     return X25519PrivateKey.from_private_bytes(private).exchange(X25519PublicKey.from_public_bytes(public))
+
+
+def agreement_of(private: bytes | None, public: bytes | None) -> bytes:
+    """What an implementation computes that doesn't look whether it has the keys."""
+    try:
+        return agreement(private or b"\1" * 32, public or b"\x09".ljust(32, b"\0"))
+    except ValueError:
+        return bytes(32)
+
+
+def check_canonical(public: bytes) -> None:
+    if int.from_bytes(public, "little") >= 2**255 - 19:
+        raise ValueError("not the least number of its point")
 
 
 def mac(key: bytes, text: bytes) -> bytes:
@@ -104,16 +143,19 @@ class Cipher:
             return nonce.to_bytes(8, "little") + bytes(4)
         return bytes(4) + nonce.to_bytes(8, "little")
 
-    def check(self, length: int) -> None:
-        if self.nonce > RESERVED or self.nonce == RESERVED and self.mistake != "ReservedNonceUsed":
+    def check(self, length: int, is_write: bool) -> None:
+        is_used = self.mistake in ("ReservedNonceUsed" if is_write else "ReservedNonceRead", "NothingRefused")
+        if self.nonce >= RESERVED and not (is_used and self.nonce == RESERVED):
+            if self.mistake == "NonceWraps":
+                self.nonce = 0
             raise Refused("exhausted")
-        if length > LONGEST and self.mistake != "LongMessageTaken":
+        if length > LONGEST and self.mistake not in ("LongMessageTaken", "NothingRefused"):
             raise Refused("too-long")
 
     def encrypt(self, data: bytes, text: bytes) -> bytes:
         if self.key is None or self.mistake == "EmptyTextNotEncrypted" and not text:
             return text
-        self.check(len(text) + 16)
+        self.check(len(text) + 16, True)
         sealed = ChaCha20Poly1305(self.key).encrypt(self.bytes_of(self.nonce), text, data)
         self.nonce += 1
         return sealed
@@ -121,7 +163,7 @@ class Cipher:
     def decrypt(self, data: bytes, sealed: bytes) -> bytes:
         if self.key is None or self.mistake == "EmptyTextNotEncrypted" and not sealed:
             return sealed
-        self.check(len(sealed))
+        self.check(len(sealed), False)
         text = self.opened(data, sealed)
         self.nonce += 1
         return text
@@ -129,10 +171,12 @@ class Cipher:
     def opened(self, data: bytes, sealed: bytes) -> bytes:
         assert self.key is not None
         cipher, nonce = ChaCha20Poly1305(self.key), self.bytes_of(self.nonce)
-        if self.mistake in ("TagNotChecked", "TagCutTaken") and len(sealed) >= 16:
+        if self.mistake == "NothingRefused":
+            sealed = sealed.ljust(16, b"\0")
+        if self.mistake in ("TagNotChecked", "TagCutTaken", "NothingRefused") and len(sealed) >= 16:
             text = cipher.encrypt(nonce, sealed[:-16], data)[:-16]
             right = cipher.encrypt(nonce, text, data)
-            if self.mistake == "TagNotChecked" or right[:-8] == sealed[:-8]:
+            if self.mistake != "TagCutTaken" or right[:-8] == sealed[:-8]:
                 return text
         try:
             return cipher.decrypt(nonce, sealed, data)
@@ -143,7 +187,7 @@ class Cipher:
 
     def rekey(self) -> None:
         assert self.key is not None
-        if self.mistake == "RekeyOmitted":
+        if self.mistake == "RekeyOmitted" or self.mistake == "RekeyAtZeroOmitted" and self.nonce == 0:
             return
         nonce = self.nonce if self.mistake == "RekeyAtCurrentNonce" else RESERVED
         made = ChaCha20Poly1305(self.key).encrypt(self.bytes_of(nonce), bytes(32), b"")
@@ -290,9 +334,15 @@ class Party:
         if self.mistake == "SsTakenForEs" and token == "ss":
             token = "es"
         own, other = token if self.role == "initiator" else token[::-1]
+        if self.mistake == "BadKeyCrash":
+            check_canonical(self.remote[other])
+        if self.mistake in ("NothingRefused", "TurnNotChecked"):
+            return agreement_of(self.keys.get(own), self.remote.get(other))
         try:
             result = agreement(self.keys[own], self.remote[other])
         except (KeyError, ValueError):  # a key that isn't there, or zeros
+            if self.mistake == "BadKeyCrash":
+                raise
             raise Refused("agreement") from None
         return result[::-1] if self.mistake == "DhReversed" else result
 
@@ -309,6 +359,8 @@ class Party:
             self.symmetric.mix_key(key)
 
     def guard(self, is_write: bool) -> None:
+        if self.mistake == "NothingRefused":
+            return
         if self.ended and self.mistake != "HandshakeGoesOn":
             raise Refused("ended")
         is_turn = (self.at % 2 == ROLES.index(self.role)) == is_write
@@ -324,7 +376,7 @@ class Party:
         for token in self.messages[self.at]:
             message += self.noted(token, self.written(token))
         message += self.noted("payload", self.symmetric.encrypt_and_hash(payload, True))
-        if len(message) > LONGEST and self.mistake != "LongMessageTaken":
+        if len(message) > LONGEST and self.mistake not in ("LongMessageTaken", "NothingRefused"):
             self.put_back(kept)
             raise Refused("too-long")
         self.passed()
@@ -365,7 +417,7 @@ class Party:
         self.guard(False)
         kept = self.kept()
         try:
-            if len(message) > LONGEST and self.mistake != "LongMessageTaken":
+            if len(message) > LONGEST and self.mistake not in ("LongMessageTaken", "NothingRefused"):
                 raise Refused("too-long")
             for token in self.messages[self.at]:
                 rest = self.taken(token, message)
@@ -383,7 +435,7 @@ class Party:
 
     def taken(self, token: str, message: bytes) -> bytes:
         if token == "e":
-            key, rest = self.cut(message, 32)
+            key, rest = self.cut(self.filled(message, 32), 32)
             self.remote["e"] = key
             self.mix_ephemeral(key, "EphemeralNotHashedOnRead")
             return rest
@@ -399,9 +451,13 @@ class Party:
             self.symmetric.mix_hash(key)
             self.remote["s"] = key[:32]
             return rest
-        key, rest = self.cut(message, 32 if is_clear else 48)
+        length = 32 if is_clear else 48
+        key, rest = self.cut(self.filled(message, length), length)
         self.remote["s"] = self.symmetric.decrypt_and_hash(key)
         return rest
+
+    def filled(self, message: bytes, length: int) -> bytes:
+        return message.ljust(length, b"\0") if self.mistake == "NothingRefused" else message
 
     @staticmethod
     def cut(message: bytes, length: int) -> tuple[bytes, bytes]:
@@ -424,19 +480,29 @@ class Party:
         return self.symmetric.h if self.mistake == "HashInTransport" else b""
 
     def one_way(self, role: str) -> None:
-        if len(self.messages) == 1 and role == "responder" and self.mistake != "TurnNotChecked":
+        if len(self.messages) == 1 and role == "responder" and self.mistake not in ("TurnNotChecked", "NothingRefused"):
             raise Refused("one-way")
 
     def send(self, payload: bytes) -> bytes:
         self.one_way(self.role)
+        self.moved(payload)
         return self.ciphers[self.role].encrypt(self.transport_data(), payload)
 
     def receive(self, message: bytes) -> bytes:
         self.one_way(self.other())
+        self.moved(message)
         return self.ciphers[self.other()].decrypt(self.transport_data(), message)
 
     def other(self) -> str:
         return ROLES[1 - ROLES.index(self.role)]
+
+    def moved(self, data: bytes) -> None:
+        if self.mistake == "HashMoves":
+            self.symmetric.mix_hash(data)
+
+    def remote_static(self) -> bytes | None:
+        """The other party's static key, after the handshake."""
+        return self.remote.get("e") if self.mistake == "RemoteKeyWrong" else self.remote.get("s")
 
     def direction(self, name: str) -> Cipher:
         return self.ciphers[self.role if name == "send" else self.other()]
@@ -458,4 +524,6 @@ class Party:
         """The message of a frame, None if it isn't whole."""
         length = int.from_bytes(data[:2], "little" if self.mistake == "FrameLittleEndian" else "big")
         length -= 2 * (self.mistake == "FrameCountsItself")
+        if self.mistake == "FrameNotWaited":
+            return data[2:]
         return data[2 : 2 + length] if len(data) >= 2 + length and len(data) >= 2 else None

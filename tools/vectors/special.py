@@ -4,7 +4,9 @@ from __future__ import annotations
 
 from typing import Any
 
+from cases import pieces
 from command import Command
+from forged import ONE, long_message
 from group import Group, draw, other
 from mistaken import public_of
 from patterns import ROLES, Protocol
@@ -56,21 +58,19 @@ def bad_key(command: Command, protocol: Protocol, whose: tuple[str, str], key: i
     role, letter = whose
     data, tested = key.to_bytes(32, "little"), other(role)
     group = Group(command, f"{protocol.section} {data.hex()}", protocol, [flag], b"", (2,), (4, 4), bad={whose: data})
-    steps = right(group, tested, len(group.messages))
-    add(
-        group, tested, f"{protocol.section}: the {role}'s {letter} is {data.hex()}; {why}", [flag], steps,
-        result="acceptable",
-    )
+    steps = [it | {"optional": True} for it in right(group, tested, len(group.messages))]
+    add(group, tested, f"{protocol.section}: the {role}'s {letter} is {data.hex()}; {why}", [flag], steps)
     return group
 
 
 def rule(count: int) -> dict[str, Any]:
-    return {"byte": "aa", "count": count}
+    return {"byte": f"{ONE:02x}", "count": count}
 
 
 def too_long(group: Group) -> None:
-    """A message has at most 65535 bytes (3). What the command can't be asked of the handshake: its frames carry no
-    more."""
+    """A message has at most 65535 bytes (3). The longer one that is read is right in all else: its keys and its
+    ciphertext are of one byte, and its tag is that of them. The command's frames carry no more; it accepts the same
+    message with 65535 bytes."""
     for number in range(group.handshake + 2):
         sender, reader = group.messages[number].sender, other(group.messages[number].sender)
         overhead = len(group.messages[number].data) - len(group.messages[number].payload)
@@ -80,12 +80,30 @@ def too_long(group: Group) -> None:
             group, sender, f"a payload that makes 65536 bytes of message {number + 1}; then the right one",
             ["LongMessageTaken"], judged(group, sender, steps),
         )
-        steps = [*right(group, reader, number), {"do": "read", "bytes": rule(65536), "refused": "too-long"}]
-        add(group, reader, f"65536 bytes in place of message {number + 1}", ["LongMessageTaken"], steps)
+        if has_sealed_key(group, number):
+            continue
+        tag = long_message(group, number, 65536)
+        long = {"do": "read", "bytes": rule(65536 - len(tag)), "refused": "too-long"}
+        if tag:
+            long["append"] = tag.hex()
+        add(
+            group, reader, f"65536 bytes in place of message {number + 1}", ["LongMessageTaken"],
+            [*right(group, reader, number), long],
+        )
+        tag = long_message(group, number, 65535)
+        longest = bytes([ONE]) * (65535 - len(tag)) + tag
+        events = [f"say {it.sender} {it.payload.hex() or '-'} -" for it in group.messages[:number]]
+        said = group.replay([*events, f"raw {reader} ffff{longest.hex()}"], met={reader: [bytes([ONE]) * 32]})
+        assert said[2 * number].startswith(f"payload {reader} "), said[2 * number][:200]
     for role in ROLES:
         events = [f"say {it.sender} {it.payload.hex() or '-'} -" for it in group.messages[: group.handshake]]
         events += ["datagrams 64", f"foreign {role} {bytes(8).hex()}{'aa' * 65536}"]
         assert f"rejected {role} too-long" in group.replay(events)
+
+
+def has_sealed_key(group: Group, number: int) -> bool:
+    """Whether a message of the handshake has an encrypted key, whose tag isn't the byte of all others."""
+    return any(it.kind == "s" and it.is_sealed for it in pieces(group, number)) if number < group.handshake else False
 
 
 def frames(group: Group, number: int) -> dict[str, Any]:

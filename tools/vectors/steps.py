@@ -14,12 +14,14 @@ from patterns import ROLES, Protocol
 Step = dict[str, Any]
 # What a case of a flag is also for: mistakes that show in no message.
 ALSO = {
-    "RightAfterRefused": "HandshakeGoesOn",
-    "TransportChanged": "NonceRisesAtRefusal",
-    "WriteOutOfTurn": "TurnNotChecked",
-    "ReadOutOfTurn": "TurnNotChecked",
-    "TagChanged": "TagNotChecked",
-    "TagEndChanged": "TagCutTaken",
+    "RightAfterRefused": ["HandshakeGoesOn"],
+    "TransportChanged": ["NonceRisesAtRefusal", "TagNotChecked"],
+    "WriteOutOfTurn": ["TurnNotChecked"],
+    "ReadOutOfTurn": ["TurnNotChecked"],
+    "TagChanged": ["TagNotChecked"],
+    "TagEndChanged": ["TagCutTaken", "TagNotChecked"],
+    "EncryptedKeyChanged": ["TagNotChecked"],
+    "PayloadChanged": ["TagNotChecked"],
 }
 WHY = {"your-turn": "turn", "not-your-turn": "turn", "silent": "one-way"}
 
@@ -139,7 +141,9 @@ def add(group: Group, role: str, comment: str, flags: list[str], steps: list[Ste
     if steps is None:
         return
     result = more.pop("result", "invalid" if any("refused" in step for step in steps) else "valid")
-    flags = [*dict.fromkeys([*flags, *(ALSO[it] for it in flags if it in ALSO), *group.also])]
+    if any("optional" in step for step in steps):
+        result = "acceptable"
+    flags = [*dict.fromkeys([*flags, *(more for it in flags for more in ALSO.get(it, [])), *group.also])]
     test = {"tcId": 0, "comment": comment, "flags": flags, "result": result, "role": role}
     if result == "invalid":
         more["after"] = state_after(steps)

@@ -1,5 +1,6 @@
 // The library of this repository, with X25519 by OpenSSL. Copy this file, and have it call your implementation.
-#include "party.h"
+#define PARTY_ONLY
+#include "runner.c"
 #include <noise.h>
 #include <openssl/evp.h>
 #include <stdlib.h>
@@ -9,6 +10,7 @@ struct party {
     noise_handshake handshake;
     noise_cipher ciphers[2]; // to send, to receive
     EVP_PKEY *own[2];        // ephemeral, static
+    noise_key remote;
     uint8_t hash[32];
     int is_open, token;
 };
@@ -26,20 +28,25 @@ static void known(noise_key *at, int present, const uint8_t key[32]) {
     memcpy(at->bytes, key, 32);
 }
 
-party *party_start(const party_setup *from) {
+int party_start(const party_setup *from, party **made) {
+    static const char suite[] = "_25519_ChaChaPoly_SHA256";
+    const size_t len = strlen(from->protocol), own = sizeof suite - 1;
+    if (strcmp(from->what, "name") && (len < own || strcmp(from->protocol + len - own, suite)))
+        return PARTY_NOT_SUPPORTED;
     party *p = calloc(1, sizeof *p);
+    const char *pattern = strcmp(from->what, "name") ? from->pattern : from->protocol;
     noise_setup setup = {.responder = (uint8_t)from->responder, .psk_count = (uint8_t)from->psk_count};
-    if (!p) return NULL;
+    if (!p) abort();
     if (from->keys.has_e) p->own[0] = key_of(from->keys.e, &setup.e);
     if (from->keys.has_s) p->own[1] = key_of(from->keys.s, &setup.s);
     known(&setup.remote_e, from->keys.has_re, from->keys.re);
     known(&setup.remote_s, from->keys.has_rs, from->keys.rs);
     memcpy(setup.psks, from->psks, sizeof setup.psks);
-    uint32_t code = noise_start(&p->handshake, (const uint8_t *)from->pattern, strlen(from->pattern), from->prologue,
+    uint32_t code = noise_start(&p->handshake, (const uint8_t *)pattern, strlen(pattern), from->prologue,
         from->prologue_len, &setup);
-    if (code == NOISE_OK) return p;
-    party_end(p);
-    return NULL;
+    if (code == NOISE_OK) *made = p;
+    else party_end(p);
+    return code == NOISE_OK ? PARTY_OK : PARTY_REFUSED;
 }
 
 void party_end(party *p) {
@@ -67,6 +74,7 @@ static void passed(party *p) {
     noise_stage_result stage;
     if (noise_stage(&p->handshake, &stage) != NOISE_OK || stage.passed != stage.messages) return;
     noise_hash(&p->handshake, p->hash);
+    noise_remote_static(&p->handshake, &p->remote);
     p->is_open = noise_finish_ciphers(&p->handshake, &p->ciphers[0], &p->ciphers[1]) == NOISE_OK;
 }
 
@@ -117,6 +125,11 @@ int party_set_nonce(party *p, int receive, uint64_t nonce) {
 
 int party_hash(party *p, uint8_t hash[32]) {
     memcpy(hash, p->hash, 32);
+    return PARTY_OK;
+}
+
+int party_remote_static(party *p, uint8_t key[32]) {
+    memcpy(key, p->remote.bytes, 32);
     return PARTY_OK;
 }
 

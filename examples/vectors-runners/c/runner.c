@@ -1,11 +1,262 @@
-// Runs the suite of test vectors with an implementation in C: runner SUITE.json [JUNIT.xml]. party.h says
-// what it asks of the Noise.
-#include "json.h"
-#include "party.h"
-#include "report.h"
+// Runs the suite of test vectors with an implementation in C: runner SUITE.json [JUNIT.xml]. Compile it beside a file
+// of yours that has the functions below whose names begin with party_; that includes this file, after a line
+// #define PARTY_ONLY, for their declarations. party_yulimosar.c is the library of this repository: copy it.
+#include <stddef.h>
+#include <stdint.h>
+
+// What this asks of a Noise: write these functions for yours, as party_yulimosar.c does for the library of this
+// repository.
+
+enum { PARTY_OK = 0, PARTY_REFUSED = 1, PARTY_NOT_SUPPORTED = 2, PARTY_ROOM = 66000 };
+
+typedef struct {
+    int has_e, has_s, has_re, has_rs;
+    uint8_t e[32], s[32];        // the party's private keys
+    uint8_t re[32], rs[32];      // the other party's public keys that are known beforehand
+} party_keys;
+
+typedef struct {
+    const char *protocol;        // the protocol name
+    const char *what;            // "name" if that is tested: read it, and not the pattern
+    const char *pattern;         // the pattern text: "NAME:\n  -> e\n  <- e, ee\n"
+    const uint8_t *prologue;
+    size_t prologue_len;
+    int psk_count;
+    uint8_t psks[9][32];
+    int responder;
+    party_keys keys;
+} party_setup;
+
+typedef struct party party;
+
+// Starts a party: one of the codes above. A set-up that is wrong is refused.
+int party_start(const party_setup *setup, party **made);
+void party_end(party *p);
+
+// These return one of the codes above. After the handshake they write and read transport messages.
+// out has PARTY_ROOM bytes.
+int party_write(party *p, const uint8_t *payload, size_t len, uint8_t *out, size_t *out_len);
+int party_read(party *p, const uint8_t *message, size_t len, uint8_t *out, size_t *out_len);
+int party_rekey(party *p, int receive);
+int party_set_nonce(party *p, int receive, uint64_t nonce);
+int party_hash(party *p, uint8_t hash[32]);
+// The other party's static key, after the handshake.
+int party_remote_static(party *p, uint8_t key[32]);
+
+// The token at which the last message was refused, from 0; -1 if the Noise doesn't say so.
+int party_token(const party *p);
+
+// Frames, a length in 2 big-endian bytes before a message: makes one; and finds the message of one, whose length is -1
+// if the frame isn't whole.
+int party_frame(const uint8_t *message, size_t len, uint8_t *out, size_t *out_len);
+int party_unframe(const uint8_t *bytes, size_t len, size_t *from, long *message_len);
+
+// SHA-256, of whatever library.
+void party_sha256(const uint8_t *data, size_t len, uint8_t digest[32]);
+
+#ifndef PARTY_ONLY
+#include <ctype.h>
 #include <stdio.h>
 #include <stdlib.h>
 #include <string.h>
+
+// A small reader of JSON: enough for the suite. A value is a tree in memory that is never freed.
+typedef struct json {
+    char type;           // { [ " 0 (a number), t f n
+    const char *key;     // in an object
+    const char *text;    // of a string, with a zero at its end
+    long number;
+    struct json *first;  // of an object or an array
+    struct json *next;   // beside it
+    size_t count;        // of an array
+} json;
+
+static json *value(char **at);
+
+static void space(char **at) {
+    while (isspace((unsigned char)**at)) ++*at;
+}
+
+// A string, whose escapes are only those of single characters: the suite has no others.
+static char *string(char **at) {
+    char *from = *at + 1, *to = from, *start = from;
+    while (*from && *from != '"') {
+        if (*from == '\\') ++from;
+        *to++ = *from++;
+    }
+    if (!*from) return NULL;
+    *at = from + 1;
+    *to = 0;
+    return start;
+}
+
+static json *members(char **at, json *whole) {
+    const char end = whole->type == '{' ? '}' : ']';
+    json **last = &whole->first;
+    ++*at;
+    for (space(at); **at != end; space(at)) {
+        char *key = NULL;
+        if (end == '}') {
+            if (**at != '"' || !(key = string(at))) return NULL;
+            space(at);
+            if (*(*at)++ != ':') return NULL;
+        }
+        if (!(*last = value(at))) return NULL;
+        (*last)->key = key;
+        last = &(*last)->next;
+        whole->count++;
+        space(at);
+        if (**at == ',') ++*at;
+        else if (**at != end) return NULL;
+    }
+    ++*at;
+    return whole;
+}
+
+static json *value(char **at) {
+    json *made = calloc(1, sizeof *made);
+    space(at);
+    if (!made || !**at) return NULL;
+    made->type = **at;
+    if (**at == '{' || **at == '[') return members(at, made);
+    if (**at == '"') return (made->text = string(at)) ? made : NULL;
+    if (isalpha((unsigned char)**at)) {
+        while (isalpha((unsigned char)**at)) ++*at;
+        return made;
+    }
+    char *end;
+    made->type = '0';
+    made->number = strtol(*at, &end, 10);
+    if (end == *at) return NULL;
+    *at = end;
+    return made;
+}
+
+// Reads a text, which it changes; NULL if that is no JSON.
+static json *json_read(char *text) { return value(&text); }
+
+// The member of an object; NULL if there is none.
+static const json *json_get(const json *object, const char *key) {
+    for (const json *it = object ? object->first : NULL; it; it = it->next)
+        if (it->key && !strcmp(it->key, key)) return it;
+    return NULL;
+}
+
+// The text of a member; NULL if there is none.
+static const char *json_text(const json *object, const char *key) {
+    const json *it = json_get(object, key);
+    return it ? it->text : NULL;
+}
+
+static int is_text(const json *object, const char *key, const char *text) {
+    const char *found = json_text(object, key);
+    return found && !strcmp(found, text);
+}
+
+enum { PASSED, FAILED, NOT_RUN };
+
+typedef struct {
+    const json *group, *test;
+    int outcome;
+    char why[200];
+} row;
+
+typedef struct {
+    const char *name;
+    int counts[3];
+} tally;
+
+static row *rows;
+static size_t row_count;
+static tally flags[200], reasons[50];
+
+static tally *tally_of(tally *all, const char *name) {
+    while (all->name && strcmp(all->name, name)) ++all;
+    all->name = name;
+    return all;
+}
+
+// The pattern of a row, with its psk indices: its length, and where it starts.
+static int pattern_of(const row *it, const char **at) {
+    const char *protocol = json_text(it->group, "protocol");
+    *at = protocol ? strchr(protocol, '_') + 1 : is_text(it->group, "type", "NoiseStart") ? "start" : "frame";
+    return (int)strcspn(*at, "_");
+}
+
+// Notes what came of a test of a group; `why` is copied.
+static void report_add(const json *group, const json *test, int outcome, const char *why) {
+    if (!(row_count & (row_count - 1))) rows = realloc(rows, 2 * (row_count + 1) * sizeof *rows);
+    if (!rows) abort();
+    row *it = &rows[row_count++];
+    *it = (row){.group = group, .test = test, .outcome = outcome};
+    snprintf(it->why, sizeof it->why, "%s", why);
+}
+
+// Prints a line for each flag, with its kind by the notes of the suite, and the tests that failed; how many those are.
+static int report_print(const json *notes) {
+    int total[3] = {0};
+    for (size_t i = 0; i < row_count; i++) {
+        total[rows[i].outcome]++;
+        for (const json *flag = json_get(rows[i].test, "flags")->first; flag; flag = flag->next)
+            tally_of(flags, flag->text)->counts[rows[i].outcome]++;
+        if (rows[i].outcome == NOT_RUN) tally_of(reasons, rows[i].why)->counts[NOT_RUN]++;
+    }
+    printf("%-28s %-7s %7s %7s %7s\n", "flag", "kind", "passed", "failed", "not run");
+    for (const tally *it = flags; it->name; it++) {
+        const char *kind = json_text(json_get(notes, it->name), "kind");
+        printf("%-28s %-7s %7d %7d %7d\n", it->name, kind ? kind : "", it->counts[PASSED], it->counts[FAILED],
+            it->counts[NOT_RUN]);
+    }
+    for (size_t i = 0; i < row_count; i++) {
+        if (rows[i].outcome != FAILED) continue;
+        const json *test = rows[i].test;
+        const char *pattern;
+        int len = pattern_of(&rows[i], &pattern);
+        printf("failed %ld %.*s", json_get(test, "tcId")->number, len, pattern);
+        const json *flag = json_get(test, "flags")->first;
+        for (char mark = ' '; flag; flag = flag->next, mark = ',') printf("%c%s", mark, flag->text);
+        printf(": %s: %s\n", json_text(test, "comment"), rows[i].why);
+    }
+    for (const tally *it = reasons; it->name; it++) printf("not run %d: %s\n", it->counts[NOT_RUN], it->name);
+    printf("%d passed, %d failed, %d not run\n", total[PASSED], total[FAILED], total[NOT_RUN]);
+    return total[FAILED];
+}
+
+static void quoted(FILE *to, const char *text) {
+    for (; *text; text++) {
+        if (strchr("&<>\"", *text)) fprintf(to, "&#%d;", *text);
+        else fputc(*text, to);
+    }
+}
+
+// Writes the XML; 0 if that fails.
+static int report_junit(const char *path, const char *name) {
+    FILE *to = fopen(path, "w");
+    int total[3] = {0};
+    if (!to) return 0;
+    for (size_t i = 0; i < row_count; i++) total[rows[i].outcome]++;
+    fprintf(to,
+        "<?xml version=\"1.0\" encoding=\"UTF-8\"?>\n<testsuite name=\"%s\" tests=\"%zu\" failures=\"%d\" "
+        "skipped=\"%d\">\n",
+        name, row_count, total[FAILED], total[NOT_RUN]);
+    for (size_t i = 0; i < row_count; i++) {
+        const json *test = rows[i].test;
+        const char *pattern;
+        int len = pattern_of(&rows[i], &pattern);
+        fprintf(to, "  <testcase classname=\"%s\" name=\"%ld %.*s: ", json_get(test, "flags")->first->text,
+            json_get(test, "tcId")->number, len, pattern);
+        quoted(to, json_text(test, "comment"));
+        fputs("\">", to);
+        if (rows[i].outcome != PASSED) {
+            fprintf(to, "<%s message=\"", rows[i].outcome == FAILED ? "failure" : "skipped");
+            quoted(to, rows[i].why);
+            fputs("\"/>", to);
+        }
+        fputs("</testcase>\n", to);
+    }
+    fputs("</testsuite>\n", to);
+    return fclose(to) == 0;
+}
 
 enum { MOST_MESSAGES = 64 };
 
@@ -16,7 +267,7 @@ typedef struct {
 
 // A test that is being run.
 typedef struct {
-    const json *group, *test;
+    const json *group, *test, *setup;
     party *parties[2];
     bytes written[MOST_MESSAGES];
     char why[200];
@@ -52,11 +303,6 @@ static bytes of_value(const json *value) {
     return made;
 }
 
-static int is_text(const json *object, const char *key, const char *text) {
-    const char *found = json_text(object, key);
-    return found && !strcmp(found, text);
-}
-
 static const json *item(const json *array, long number) {
     const json *it = array->first;
     while (number--) it = it->next;
@@ -80,17 +326,19 @@ static void pattern_text(const json *group, char text[600]) {
         len += (size_t)snprintf(text + len, 600 - len, "  %s\n", it->text);
 }
 
-static party *start(const json *group, int responder) {
+static int start(const json *group, int responder, party **made) {
     char pattern[600];
     const json *own = json_get(group, responder ? "responder" : "initiator");
     bytes prologue = of_value(json_get(group, "prologue"));
     party_setup setup = {
         .protocol = json_text(group, "protocol"),
+        .what = json_text(group, "what") ? json_text(group, "what") : "",
         .pattern = pattern,
         .prologue = prologue.data,
         .prologue_len = prologue.len,
         .responder = responder,
     };
+    if (!strcmp(setup.what, "lengths")) return PARTY_NOT_SUPPORTED; // keys are arrays of 32 bytes
     pattern_text(group, pattern);
     for (const json *it = json_get(group, "psks")->first; it; it = it->next) {
         bytes psk = of_hex(it->text);
@@ -101,19 +349,18 @@ static party *start(const json *group, int responder) {
     setup.keys.has_s = key_of(own, "s", setup.keys.s);
     setup.keys.has_re = key_of(own, "re", setup.keys.re);
     setup.keys.has_rs = key_of(own, "rs", setup.keys.rs);
-    party *made = party_start(&setup);
+    int code = party_start(&setup, made);
     free(prologue.data);
-    return made;
+    return code;
 }
 
 // The bytes that a step reads, with the step's change.
 static bytes received(const run *r, const json *step, const json *message) {
     const json *given = json_get(step, "bytes"), *cut = json_get(step, "cut"), *change = json_get(step, "xor");
-    if (given) return of_value(given);
-    const json *whole = json_get(message, "message");
+    const json *whole = given ? given : json_get(message, "message");
     bytes made;
-    if (whole->type == '"') {
-        made = of_hex(whole->text);
+    if (given || whole->type == '"') {
+        made = of_value(whole);
     } else {
         made = r->written[json_get(step, "message")->number];
         uint8_t *copy = must(malloc(made.len + 1));
@@ -172,9 +419,12 @@ static int call(run *r, party *p, const json *step, const json **wanted, size_t 
         code = party_rekey(p, receive);
     } else if (is_text(step, "do", "nonce")) {
         code = party_set_nonce(p, receive, strtoull(json_text(step, "nonce"), NULL, 10));
+    } else if (is_text(step, "do", "start")) {
+        code = PARTY_OK;
     } else {
-        code = party_hash(p, got);
-        *wanted = json_get(r->group, "hash");
+        const int is_hash = is_text(step, "do", "hash");
+        code = is_hash ? party_hash(p, got) : party_remote_static(p, got);
+        *wanted = is_hash ? json_get(r->group, "hash") : is;
         *len = 32;
     }
     return code;
@@ -185,20 +435,23 @@ static int take(run *r, const json *step) {
     const json *wanted = NULL, *token = json_get(step, "token");
     const char *refused = json_text(step, "refused"), *what = json_text(step, "do"), *role = json_text(step, "role");
     size_t len = 0;
-    int responder = !strcmp(role ? role : json_text(r->test, "role"), "responder");
-    if (!r->parties[responder] && !(r->parties[responder] = start(r->group, responder))) {
-        snprintf(r->why, sizeof r->why, "a party can't be started");
-        return NOT_RUN;
+    int responder = !strcmp(role ? role : json_text(r->test, "role"), "responder"), code = PARTY_OK;
+    if (!r->parties[responder]) code = start(r->setup, responder, &r->parties[responder]);
+    if (code != PARTY_OK) {
+        const int may = json_get(json_get(r->test, "steps")->first, "optional") != NULL;
+        const int is_refused = code == PARTY_REFUSED;
+        snprintf(r->why, sizeof r->why, "%s", is_refused ? "the start was refused" : "the set-up isn't supported");
+        return !is_refused ? NOT_RUN : may ? -1 : FAILED;
     }
     party *p = r->parties[responder];
-    int code = call(r, p, step, &wanted, &len);
+    code = call(r, p, step, &wanted, &len);
     if (code == PARTY_NOT_SUPPORTED) {
         snprintf(r->why, sizeof r->why, "%s isn't supported", what);
         return NOT_RUN;
     }
     if (code == PARTY_REFUSED && !refused) {
         snprintf(r->why, sizeof r->why, "%s was refused", what);
-        return is_text(r->test, "result", "acceptable") ? -1 : FAILED;
+        return json_get(step, "optional") ? -1 : FAILED;
     }
     if (code == PARTY_REFUSED) {
         if (party_token(p) < 0 || (token && token->number == party_token(p))) return PASSED;
@@ -215,13 +468,22 @@ static int take(run *r, const json *step) {
 }
 
 static void run_test(const json *group, const json *test) {
-    run r = {.group = group, .test = test};
+    // A test of a set-up has that itself: if it is wrong, the start or a later step has to be refused.
+    const int is_start = is_text(group, "type", "NoiseStart"), is_wrong = is_text(test, "result", "invalid");
+    run r = {.group = is_start ? test : group, .test = test, .setup = is_start ? test : group};
     int outcome = PASSED, number = 0;
     for (const json *step = json_get(test, "steps")->first; step && outcome == PASSED; step = step->next, number++)
         outcome = take(&r, step);
-    char why[240];
-    if (outcome == FAILED) snprintf(why, sizeof why, "step %d: %s", number - 1, r.why);
-    else snprintf(why, sizeof why, "%s", r.why);
+    char why[400];
+    if (is_start && is_wrong && (outcome == PASSED || outcome == FAILED)) {
+        const char *place = json_text(test, "place");
+        outcome = FAILED;
+        snprintf(why, sizeof why, "the set-up was taken, and has to be refused: %s", place ? place : "");
+    } else if (outcome == FAILED) {
+        snprintf(why, sizeof why, "step %d: %s", number - 1, r.why);
+    } else {
+        snprintf(why, sizeof why, "%s", r.why);
+    }
     report_add(group, test, outcome < 0 ? PASSED : outcome, why);
     for (int i = 0; i < 2; i++)
         if (r.parties[i]) party_end(r.parties[i]);
@@ -273,3 +535,4 @@ int main(int count, char **words) {
     if (count > 2 && !report_junit(words[2], words[0])) return 2;
     return failed > 0;
 }
+#endif

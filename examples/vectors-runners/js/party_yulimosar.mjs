@@ -10,9 +10,14 @@ export class Party {
     await load();
     const own = setup[role];
     const pair = async (digits) => (digits === undefined ? undefined : KeyPair.fromSecret(bytes(digits)));
+    if (setup.what !== 'name' && !setup.protocol.endsWith('_25519_ChaChaPoly_SHA256')) {
+      throw new setup.NotSupported('another suite');
+    }
     const party = new Party();
+    const heading = setup.protocol.replace(/^Noise_/, '').split('_')[0];
+    const text = `${heading}:\n${setup.pattern.map((line) => `  ${line}\n`).join('')}`;
     party.handshake = new Handshake({
-      pattern: `${setup.protocol.split('_')[1]}:\n${setup.pattern.map((line) => `  ${line}\n`).join('')}`,
+      pattern: setup.what === 'name' ? setup.protocol : text,
       responder: role === 'responder',
       prologue: setup.prologue,
       psks: setup.psks.map(bytes),
@@ -26,7 +31,8 @@ export class Party {
 
   /** Whether an error is a refusal of your implementation; anything else is reported as a crash. */
   static isRefusal(error) {
-    return error instanceof NoiseError;
+    const isLength = error instanceof TypeError && error.message.endsWith('has to have 32 bytes');
+    return isLength || error instanceof NoiseError;
   }
 
   passed() {
@@ -57,6 +63,10 @@ export class Party {
 
   hash() {
     return this.ciphers.hash;
+  }
+
+  remoteStatic() {
+    return this.ciphers.remoteStatic;
   }
 
   /** The number of the token at which a message was refused, if your implementation says so. */

@@ -30,9 +30,12 @@ class Run {
 
   /** The bytes that a step reads, with the step's change. */
   received(step) {
-    if (step.bytes !== undefined) return dataOf(step.bytes);
-    const { message } = this.group.messages[step.message];
-    const whole = typeof message === 'string' ? dataOf(message) : this.written[step.message];
+    let whole;
+    if (step.bytes !== undefined) whole = dataOf(step.bytes);
+    else {
+      const { message } = this.group.messages[step.message];
+      whole = typeof message === 'string' ? dataOf(message) : this.written[step.message];
+    }
     const data = Buffer.concat([whole.subarray(0, step.cut ?? whole.length), dataOf(step.append ?? '')]);
     if (step.xor) data[step.xor[0]] ^= step.xor[1];
     return data;
@@ -40,6 +43,8 @@ class Run {
 
   async call(party, step) {
     switch (step.do) {
+      case 'start':
+        return undefined;
       case 'write':
         return party.write(dataOf(step.payload ?? this.group.messages[step.message].payload));
       case 'read':
@@ -48,6 +53,8 @@ class Run {
         return party.rekey(step.direction);
       case 'nonce':
         return party.setNonce(step.direction, BigInt(step.nonce));
+      case 'remote':
+        return party.remoteStatic();
       default:
         return party.hash();
     }
@@ -55,10 +62,10 @@ class Run {
 
   /** Compares what a step gave with what the suite says. */
   compare(step, got) {
-    const message = this.group.messages[step.message];
-    let wanted = '';
+    const message = step.message === undefined ? {} : this.group.messages[step.message];
+    let wanted = step.is ?? '';
     if (step.do === 'write') {
-      this.written[step.message] = got;
+      this.written[step.message ?? 0] = got;
       wanted = step.is ?? message.message;
       if (wanted.sha256) [wanted, got] = [wanted.sha256, createHash('sha256').update(got).digest()];
     } else if (step.do === 'read') wanted = hex(dataOf(step.payload ?? message.payload));
@@ -76,7 +83,7 @@ class Run {
       party = await this.party(step.role ?? this.test.role);
     } catch (error) {
       if (!this.Party.isRefusal(error)) throw error;
-      if (this.test.result === 'acceptable') return false;
+      if (this.test.steps[0].optional) return false;
       throw new Failed(`the start was refused: ${error}`);
     }
     try {
@@ -84,7 +91,7 @@ class Run {
     } catch (error) {
       if (!this.Party.isRefusal(error)) throw error;
       if (step.refused === undefined) {
-        if (this.test.result === 'acceptable') return false;
+        if (step.optional) return false;
         throw new Failed(`${step.do} was refused: ${error}`);
       }
       const token = party.token(error);
@@ -100,23 +107,40 @@ class Run {
     return true;
   }
 
+  /** Takes all steps; whether none was refused that may be. */
   async run() {
     for (const [number, step] of this.test.steps.entries()) {
       try {
-        if (!(await this.step(step))) return;
+        if (!(await this.step(step))) return false;
       } catch (error) {
         if (error instanceof Failed) error.message = `step ${number}: ${error.message}`;
         throw error;
       }
     }
+    return true;
+  }
+}
+
+/** A test of a set-up, which is that of the test: if it is wrong, the start or a later step has to be refused. */
+async function runStart(test, Party) {
+  let isThrough;
+  try {
+    isThrough = await new Run(test, test, Party).run();
+  } catch (error) {
+    if (!(error instanceof Failed) || test.result !== 'invalid') throw error;
+    isThrough = true;
+  }
+  if (isThrough && test.result === 'invalid') {
+    throw new Failed(`the set-up was taken, and has to be refused: ${test.place}`);
   }
 }
 
 /** What comes of a test, `passed`, `failed` or `not run`, and why. */
 async function outcome(group, test, Party) {
   try {
-    if (group.type !== 'NoiseHandshake') throw new NotSupported("frames are the caller's");
-    await new Run(group, test, Party).run();
+    if (group.type === 'NoiseStart') await runStart(test, Party);
+    else if (group.type === 'NoiseHandshake') await new Run(group, test, Party).run();
+    else throw new NotSupported("frames are the caller's");
   } catch (error) {
     if (error instanceof NotSupported) return ['not run', error.message];
     return ['failed', error instanceof Failed ? error.message : `crashed: ${error}`];
@@ -124,7 +148,7 @@ async function outcome(group, test, Party) {
   return ['passed', ''];
 }
 
-const patternName = (group) => group.protocol?.split('_')[1] ?? 'frame';
+const patternName = (group) => group.protocol?.split('_')[1] ?? group.type.slice(5).toLowerCase();
 
 function textReport(rows, notes) {
   const counts = new Map();

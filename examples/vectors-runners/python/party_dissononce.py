@@ -5,13 +5,16 @@ from __future__ import annotations
 import logging
 from typing import Any
 
+from dissononce.cipher.aesgcm import AESGCMCipher
 from dissononce.cipher.chachapoly import ChaChaPolyCipher
 from dissononce.dh.x25519.private import PrivateKey
 from dissononce.dh.x25519.public import PublicKey
 from dissononce.dh.x25519.x25519 import X25519DH
 from dissononce.exceptions.decrypt import DecryptFailedException
 from dissononce.extras.dh.dangerous.dh_nogen import NoGenDH
+from dissononce.extras.meta.protocol.factory import NoiseProtocolFactory
 from dissononce.extras.processing.handshakestate_guarded import GuardedHandshakeState
+from dissononce.hash.blake2s import Blake2sHash
 from dissononce.hash.sha256 import SHA256Hash
 from dissononce.processing.handshakepatterns.handshakepattern import HandshakePattern
 from dissononce.processing.impl.cipherstate import CipherState
@@ -34,6 +37,20 @@ def pattern_of(setup: dict[str, Any]) -> HandshakePattern:
     return HandshakePattern(setup["protocol"].split("_")[1], messages, before.get("->"), before.get("<-"))
 
 
+def suite_of(protocol: str) -> tuple[Any, Any]:
+    """The cipher and the hash of a protocol name."""
+    parts = protocol.split("_")
+    cipher = {"ChaChaPoly": ChaChaPolyCipher, "AESGCM": AESGCMCipher}.get(parts[-2], ChaChaPolyCipher)
+    digest = {"SHA256": SHA256Hash, "BLAKE2s": Blake2sHash}.get(parts[-1], SHA256Hash)
+    return cipher(), digest()
+
+
+def named(protocol: str) -> HandshakePattern:
+    """The pattern of a protocol name, as dissononce reads it."""
+    found = NoiseProtocolFactory().get_noise_protocol(protocol)
+    return found.pattern
+
+
 class Party:
     """One party. What dissononce raises where it refuses: its own exception of a tag, and Python's of values and of the
     order of calls."""
@@ -42,9 +59,12 @@ class Party:
 
     def __init__(self, setup: dict[str, Any], role: str) -> None:
         own, self.is_initiator = setup[role], role == "initiator"
-        pattern = pattern_of(setup)
+        if setup.get("what") == "pattern":
+            raise NotSupported("patterns aren't checked")
+        pattern = named(setup["protocol"]) if setup.get("what") == "name" else pattern_of(setup)
         dh = NoGenDH(X25519DH(), PrivateKey(bytes.fromhex(own["e"]))) if "e" in own else X25519DH()
-        self.inner = HandshakeState(SymmetricState(CipherState(ChaChaPolyCipher()), SHA256Hash()), dh)
+        cipher, digest = suite_of(setup["protocol"])
+        self.inner = HandshakeState(SymmetricState(CipherState(cipher), digest), dh)
         self.handshake = GuardedHandshakeState(self.inner)
         mine = pattern.initiator_pre_message_pattern if self.is_initiator else pattern.responder_pre_message_pattern
         self.handshake.initialize(
@@ -91,6 +111,9 @@ class Party:
 
     def hash(self) -> bytes:
         return self.inner.symmetricstate.get_handshake_hash()
+
+    def remote_static(self) -> bytes | None:
+        return self.inner.rs and self.inner.rs.data
 
     @staticmethod
     def place(_: Exception) -> str | None:

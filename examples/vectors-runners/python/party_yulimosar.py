@@ -12,15 +12,19 @@ class Party:
     """One party. `setup` is a group of the suite; its own keys are private ones, `rs` and `re` those of the other
     party's pre-message."""
 
-    REFUSALS = (NoiseError,)  # what your implementation raises where it refuses; anything else is reported as a crash
+    # What your implementation raises where it refuses; anything else is reported as a crash.
+    REFUSALS = (NoiseError, ValueError)
 
     def __init__(self, setup: dict[str, Any], role: str) -> None:
-        own, name = setup[role], setup["protocol"].split("_")[1]
+        if setup.get("what") != "name" and not setup["protocol"].endswith("_25519_ChaChaPoly_SHA256"):
+            raise NotSupported("another suite")
+        own, name = setup[role], setup["protocol"].removeprefix("Noise_").split("_")[0]
         keys = {letter: KeyPair.from_secret(bytes.fromhex(own[letter])) for letter in "es" if letter in own}
         if any("e" in line[3:].split(", ") for line in before(setup["pattern"])):
             raise NotSupported("ephemeral keys in pre-messages")
+        text = f"{name}:\n" + "".join(f"  {line}\n" for line in setup["pattern"])
         config = Config(
-            pattern=f"{name}:\n" + "".join(f"  {line}\n" for line in setup["pattern"]),
+            pattern=setup["protocol"] if setup.get("what") == "name" else text,
             prologue=setup["prologue"],
             psks=[bytes.fromhex(it) for it in setup["psks"]],
             key=keys.get("s"),
@@ -61,6 +65,9 @@ class Party:
 
     def hash(self) -> bytes:
         return self.handshake.hash
+
+    def remote_static(self) -> bytes | None:
+        return self.handshake.peer_key
 
     @staticmethod
     def place(refusal: Exception) -> str | None:

@@ -47,9 +47,10 @@ class Run:
     def received(self, step: dict) -> bytes:
         """The bytes that a step reads, with the step's change."""
         if "bytes" in step:
-            return data_of(step["bytes"])
-        message = self.group["messages"][step["message"]]["message"]
-        data = self.written[step["message"]] if isinstance(message, dict) else bytes.fromhex(message)
+            data = data_of(step["bytes"])
+        else:
+            message = self.group["messages"][step["message"]]["message"]
+            data = self.written[step["message"]] if isinstance(message, dict) else bytes.fromhex(message)
         data = data[: step.get("cut", len(data))] + bytes.fromhex(step.get("append", ""))
         if "xor" in step:
             at, mask = step["xor"]
@@ -57,6 +58,8 @@ class Run:
         return data
 
     def call(self, party: Any, step: dict) -> bytes | None:
+        if step["do"] == "start":
+            return None
         if step["do"] == "write":
             return party.write(
                 data_of(step["payload"] if "payload" in step else self.group["messages"][step["message"]]["payload"])
@@ -67,14 +70,14 @@ class Run:
             return party.rekey(step["direction"])
         if step["do"] == "nonce":
             return party.set_nonce(step["direction"], int(step["nonce"]))
-        return party.hash()
+        return party.hash() if step["do"] == "hash" else party.remote_static()
 
     def compare(self, step: dict, got: bytes | None) -> None:
         """Compares what a step gave with what the suite says."""
         message = self.group["messages"][step["message"]] if "message" in step else {}
         if step["do"] == "write":
-            wanted = step.get("is", message["message"])
-            self.written[step["message"]] = got
+            wanted = step["is"] if "is" in step else message["message"]
+            self.written[step.get("message", -1)] = got
             if isinstance(wanted, dict):
                 wanted, got = bytes.fromhex(wanted["sha256"]), hashlib.sha256(got).digest()
             else:
@@ -82,23 +85,24 @@ class Run:
         elif step["do"] == "read":
             wanted = data_of(step["payload"] if "payload" in step else message["payload"])
         else:
-            wanted = bytes.fromhex(self.group["hash"]) if step["do"] == "hash" else None
+            known = self.group["hash"] if step["do"] == "hash" else step.get("is")
+            wanted = bytes.fromhex(known) if known else None
         if got != wanted:
-            raise Failed(f"{step['do']}: {got.hex()[:400]} in place of {wanted.hex()[:400]}")
+            raise Failed(f"{step['do']}: {(got or b'').hex()[:400]} in place of {(wanted or b'').hex()[:400]}")
 
     def step(self, step: dict) -> bool:
         """Takes a step; whether the test goes on after it."""
         try:
             party = self.party(step.get("role", self.test["role"]))
         except self.kind.REFUSALS as refusal:
-            if self.test["result"] == "acceptable":
+            if "optional" in self.test["steps"][0]:
                 return False
             raise Failed(f"the start was refused: {refusal!r}") from refusal
         try:
             got = self.call(party, step)
         except self.kind.REFUSALS as refusal:
             if "refused" not in step:
-                if self.test["result"] == "acceptable":
+                if "optional" in step:
                     return False
                 raise Failed(f"{step['do']} was refused: {refusal!r}") from refusal
             at = party.place(refusal)
@@ -113,13 +117,28 @@ class Run:
         self.compare(step, got)
         return True
 
-    def run(self) -> None:
+    def run(self) -> bool:
+        """Takes all steps; whether none was refused that may be."""
         for number, step in enumerate(self.test["steps"]):
             try:
                 if not self.step(step):
-                    return
+                    return False
             except Failed as why:
                 raise Failed(f"step {number}: {why}") from why
+        return True
+
+
+def run_start(test: dict, kind: Any) -> None:
+    """A test of a set-up, which is that of the test: if it is wrong, the start or a later step has to be refused."""
+    run = Run(test, test, kind)
+    try:
+        is_through = run.run()
+    except Failed:
+        if test["result"] != "invalid":
+            raise
+        is_through = True
+    if is_through and test["result"] == "invalid":
+        raise Failed(f"the set-up was taken, and has to be refused: {test['place']}")
 
 
 def run_frame(test: dict, kind: Any) -> None:
@@ -139,6 +158,8 @@ def outcome(group: dict, test: dict, kind: Any) -> tuple[str, str]:
     try:
         if group["type"] == "NoiseFrame":
             run_frame(test, kind)
+        elif group["type"] == "NoiseStart":
+            run_start(test, kind)
         else:
             Run(group, test, kind).run()
     except NotSupported as why:
@@ -151,7 +172,7 @@ def outcome(group: dict, test: dict, kind: Any) -> tuple[str, str]:
 
 
 def pattern_name(group: dict) -> str:
-    return group["protocol"].split("_")[1] if "protocol" in group else "frame"
+    return group["protocol"].split("_")[1] if "protocol" in group else group["type"][5:].lower()
 
 
 def text_report(rows: list[tuple[dict, str, str]], notes: dict[str, dict]) -> str:
@@ -197,12 +218,9 @@ def junit_report(name: str, rows: list[tuple[dict, str, str]]) -> str:
     return "\n".join(['<?xml version="1.0" encoding="UTF-8"?>', head, *lines, "</testsuite>"]) + "\n"
 
 
-def main(words: list[str]) -> int:
-    if len(words) not in (2, 3):
-        print(__doc__, file=sys.stderr)
-        return 2
-    kind = importlib.import_module(words[0]).Party
-    with open(words[1], encoding="ascii") as file:
+def report(kind: Any, name: str, path: str, junit: str = "") -> int:
+    """Runs the suite of a file, and reports: the status is 0 if no test failed."""
+    with open(path, encoding="ascii") as file:
         suite = json.load(file)
     rows = [
         (test | {"pattern": pattern_name(group)}, *outcome(group, test, kind))
@@ -210,10 +228,17 @@ def main(words: list[str]) -> int:
         for test in group["tests"]
     ]
     sys.stdout.write(text_report(rows, suite["notes"]))
-    if len(words) == 3:
-        with open(words[2], "w", encoding="utf-8") as file:
-            file.write(junit_report(words[0], rows))
+    if junit:
+        with open(junit, "w", encoding="utf-8") as file:
+            file.write(junit_report(name, rows))
     return int(any(what == "failed" for _, what, _ in rows))
+
+
+def main(words: list[str]) -> int:
+    if len(words) not in (2, 3):
+        print(__doc__, file=sys.stderr)
+        return 2
+    return report(importlib.import_module(words[0]).Party, *words)
 
 
 if __name__ == "__main__":

@@ -13,8 +13,12 @@ import (
 )
 
 var (
-	cipherSuite = noise.NewCipherSuite(noise.DH25519, noise.CipherChaChaPoly, noise.HashSHA256)
-	tokens      = map[string]noise.MessagePattern{
+	ciphers = map[string]noise.CipherFunc{"ChaChaPoly": noise.CipherChaChaPoly, "AESGCM": noise.CipherAESGCM}
+	hashes  = map[string]noise.HashFunc{
+		"SHA256": noise.HashSHA256, "SHA512": noise.HashSHA512,
+		"BLAKE2s": noise.HashBLAKE2s, "BLAKE2b": noise.HashBLAKE2b,
+	}
+	tokens = map[string]noise.MessagePattern{
 		"s":  noise.MessagePatternS,
 		"e":  noise.MessagePatternE,
 		"ee": noise.MessagePatternDHEE,
@@ -32,13 +36,20 @@ type party struct {
 	send, receive *noise.CipherState
 }
 
-func start(g *suite.Group, role string) (suite.Party, error) {
+func start(g *suite.Setup, role string) (suite.Party, error) {
+	if g.What == "name" || g.What == "pattern" {
+		return nil, fmt.Errorf("%w: names aren't read, and patterns aren't checked", suite.ErrNotSupported)
+	}
 	keys, found := g.Keys(role), name.FindStringSubmatch(g.Protocol)
-	if found[4] != "" {
+	if found[4] != "" || len(g.PSKs) > 1 {
 		return nil, fmt.Errorf("%w: more than one psk", suite.ErrNotSupported)
 	}
+	cipher, hash := ciphers[g.Algorithm(1)], hashes[g.Algorithm(2)]
+	if cipher == nil || hash == nil || g.Algorithm(0) != "25519" {
+		return nil, fmt.Errorf("%w: another suite", suite.ErrNotSupported)
+	}
 	config := noise.Config{
-		CipherSuite:   cipherSuite,
+		CipherSuite:   noise.NewCipherSuite(noise.DH25519, cipher, hash),
 		Random:        bytes.NewReader(keys.E.Data),
 		Pattern:       patternOf(g, found[1]),
 		Initiator:     role == "initiator",
@@ -50,8 +61,15 @@ func start(g *suite.Group, role string) (suite.Party, error) {
 		config.PresharedKey = g.PSKs[0].Data
 		config.PresharedKeyPlacement, _ = strconv.Atoi(found[3])
 	}
+	if g.What == "lengths" && role == "responder" {
+		return nil, fmt.Errorf("%w: a key pair is made of 32 bytes", suite.ErrNotSupported)
+	}
 	if len(keys.S.Data) > 0 {
-		config.StaticKeypair, _ = noise.DH25519.GenerateKeypair(bytes.NewReader(keys.S.Data))
+		pair, err := noise.DH25519.GenerateKeypair(bytes.NewReader(keys.S.Data))
+		if err != nil {
+			return nil, err
+		}
+		config.StaticKeypair = pair
 	}
 	if strings.Contains(g.Before(role), "e") {
 		config.EphemeralKeypair, _ = noise.DH25519.GenerateKeypair(bytes.NewReader(keys.E.Data))
@@ -69,7 +87,7 @@ func list(joined string) (made []noise.MessagePattern) {
 	return made
 }
 
-func patternOf(g *suite.Group, base string) noise.HandshakePattern {
+func patternOf(g *suite.Setup, base string) noise.HandshakePattern {
 	made := noise.HandshakePattern{
 		Name:                 base,
 		InitiatorPreMessages: list(g.Before("initiator")),
@@ -132,6 +150,8 @@ func (p *party) SetNonce(string, uint64) error {
 }
 
 func (p *party) Hash() []byte { return p.handshake.ChannelBinding() }
+
+func (p *party) RemoteStatic() ([]byte, error) { return p.handshake.PeerStatic(), nil }
 
 func (p *party) Place(error) string { return "" }
 

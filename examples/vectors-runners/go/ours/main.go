@@ -14,7 +14,7 @@ import (
 
 type party struct {
 	handshake     *noise.HandshakeState
-	hash          []byte
+	hash, remote  []byte
 	send, receive *noise.CipherState
 }
 
@@ -42,15 +42,23 @@ func pairOf[T ~[32]byte](pair func(T) (*noise.KeyPair, error), b suite.Bytes) (*
 	return pair(keyOf[T](b))
 }
 
-func start(g *suite.Group, role string) (suite.Party, error) {
-	keys, name := g.Keys(role), strings.Split(g.Protocol, "_")[1]
+func start(g *suite.Setup, role string) (suite.Party, error) {
+	keys, name := g.Keys(role), strings.Split(strings.TrimPrefix(g.Protocol, "Noise_"), "_")[0]
 	if strings.HasPrefix(g.Before("initiator"), "e") || strings.HasPrefix(g.Before("responder"), "e") {
 		return nil, fmt.Errorf("%w: ephemeral keys in pre-messages", suite.ErrNotSupported)
+	}
+	if g.What != "name" && !strings.HasSuffix(g.Protocol, "_25519_ChaChaPoly_SHA256") {
+		return nil, fmt.Errorf("%w: another suite", suite.ErrNotSupported)
 	}
 	config := &noise.Config{
 		Pattern:              name + ":\n  " + strings.Join(g.Pattern, "\n  ") + "\n",
 		Prologue:             g.Prologue.Data,
 		InsecureAcceptAnyKey: true,
+	}
+	if g.What == "name" {
+		config.Pattern = g.Protocol
+	} else if g.What == "lengths" {
+		return nil, fmt.Errorf("%w: keys are arrays of 32 bytes", suite.ErrNotSupported)
 	}
 	setPSKs(&config.PSKs, g.PSKs)
 	setKey(&config.PeerStatic, keys.RS)
@@ -75,6 +83,9 @@ func (p *party) passed(err error) error {
 	if err == nil && p.handshake.Done() {
 		hash := p.handshake.HandshakeHash()
 		p.hash = hash[:]
+		if key, is := p.handshake.PeerStatic(); is {
+			p.remote = key[:]
+		}
 		p.send, p.receive, err = p.handshake.CipherStates()
 	}
 	return err
@@ -110,6 +121,11 @@ func (p *party) SetNonce(direction string, nonce uint64) error {
 }
 
 func (p *party) Hash() []byte { return p.hash }
+
+// RemoteStatic returns nothing of a party that has none.
+func (p *party) RemoteStatic() ([]byte, error) {
+	return p.remote, nil
+}
 
 // Place returns the token that the error names.
 func (p *party) Place(err error) string {

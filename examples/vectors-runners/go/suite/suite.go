@@ -3,10 +3,12 @@
 package suite
 
 import (
+	"bufio"
 	"bytes"
 	"crypto/sha256"
 	"encoding/hex"
 	"encoding/json"
+	"encoding/xml"
 	"errors"
 	"fmt"
 	"os"
@@ -56,28 +58,42 @@ func (b *Bytes) is(data []byte) bool {
 // Keys are a party's private keys, and the public ones of the other party's pre-message.
 type Keys struct{ E, S, RE, RS Bytes }
 
-// Group is a set-up, the right conversation, and the tests.
-type Group struct {
-	Type, Protocol       string
+// Setup is what a party starts from. What is "name" if the protocol name is tested: read it, and not the pattern.
+type Setup struct {
+	Protocol, What       string
 	Pattern              []string
 	Prologue             Bytes
 	PSKs                 []Bytes
 	Initiator, Responder Keys
-	Hash                 Bytes
-	Messages             []struct{ Payload, Message Bytes }
-	Tests                []*Test
+}
+
+// Group is a set-up, the right conversation, and the tests.
+type Group struct {
+	Setup
+	Type     string
+	Hash     Bytes
+	Messages []struct{ Payload, Message Bytes }
+	Tests    []*Test
 }
 
 // Keys returns those of a role.
-func (g *Group) Keys(role string) *Keys {
+func (g *Setup) Keys(role string) *Keys {
 	if role == "initiator" {
 		return &g.Initiator
 	}
 	return &g.Responder
 }
 
+// Algorithm returns the DH function, the cipher or the hash of the protocol name: number 0, 1 or 2.
+func (g *Setup) Algorithm(number int) string {
+	if parts := strings.Split(g.Protocol, "_"); len(parts) == 5 {
+		return parts[2+number]
+	}
+	return ""
+}
+
 // Before returns the tokens of a role's pre-message, joined by commas.
-func (g *Group) Before(role string) string {
+func (g *Setup) Before(role string) string {
 	arrow := map[string]string{"initiator": "-> ", "responder": "<- "}[role]
 	for i, line := range g.Pattern {
 		if line == "..." {
@@ -96,11 +112,11 @@ func (g *Group) name() string {
 	if parts := strings.Split(g.Protocol, "_"); len(parts) > 1 {
 		return parts[1]
 	}
-	return "frame"
+	return strings.ToLower(strings.TrimPrefix(g.Type, "Noise"))
 }
 
 // Tokens returns the tokens of each message of the handshake.
-func (g *Group) Tokens() (messages [][]string) {
+func (g *Setup) Tokens() (messages [][]string) {
 	for _, line := range g.Pattern {
 		if line == "..." {
 			messages = nil
@@ -111,8 +127,10 @@ func (g *Group) Tokens() (messages [][]string) {
 	return messages
 }
 
-// Test is a test, and what came of it.
+// Test is a test, and what came of it. A test of a set-up has that itself.
 type Test struct {
+	Setup
+	Place                 string
 	ID                    int `json:"tcId"`
 	Comment, Result, Role string
 	Flags                 []string
@@ -129,6 +147,7 @@ type note struct{ Kind string }
 type Step struct {
 	Do, Role, Direction, Nonce, Refused, At string
 	Message, Cut                            *int
+	Optional                                bool
 	XOR                                     []int
 	Append                                  Bytes
 	Bytes, Is, Payload                      *Bytes
@@ -142,16 +161,19 @@ type Party interface {
 	Rekey(direction string) error
 	SetNonce(direction string, nonce uint64) error
 	Hash() []byte
+	// RemoteStatic returns the other party's static key, after the handshake.
+	RemoteStatic() ([]byte, error)
 	// Place returns the token at which a message was refused; nothing if the Noise doesn't say so.
 	Place(err error) string
 }
 
-// Start starts a party of a group.
-type Start func(group *Group, role string) (Party, error)
+// Start starts a party of a set-up.
+type Start func(setup *Setup, role string) (Party, error)
 
 // run is a test that is being run.
 type run struct {
 	group   *Group
+	setup   *Setup
 	test    *Test
 	start   Start
 	parties map[string]Party
@@ -162,19 +184,20 @@ func (r *run) party(role string) (Party, error) {
 	if p := r.parties[role]; p != nil {
 		return p, nil
 	}
-	p, err := r.start(r.group, role)
+	p, err := r.start(r.setup, role)
 	r.parties[role] = p
 	return p, err
 }
 
 // received returns the bytes that a step reads, with the step's change.
 func (r *run) received(s *Step) []byte {
+	var data []byte
 	if s.Bytes != nil {
-		return append([]byte{}, s.Bytes.Data...)
-	}
-	data := r.group.Messages[*s.Message].Message.Data
-	if r.group.Messages[*s.Message].Message.SHA256 != "" {
+		data = s.Bytes.Data
+	} else if message := &r.group.Messages[*s.Message].Message; message.SHA256 != "" {
 		data = r.written[*s.Message]
+	} else {
+		data = message.Data
 	}
 	if s.Cut != nil {
 		data = data[:*s.Cut]
@@ -214,6 +237,11 @@ func (r *run) call(p Party, s *Step) (got []byte, wanted *Bytes, err error) {
 		wanted, err = &Bytes{}, p.SetNonce(s.Direction, nonce)
 	case "hash":
 		got, wanted = p.Hash(), &r.group.Hash
+	case "remote":
+		wanted = s.Is
+		got, err = p.RemoteStatic()
+	case "start":
+		wanted = &Bytes{}
 	}
 	return got, wanted, err
 }
@@ -228,7 +256,7 @@ func (r *run) step(s *Step) (on bool, fault error) {
 	switch {
 	case errors.Is(err, ErrNotSupported):
 		return false, err
-	case err != nil && r.test.Result == "acceptable":
+	case err != nil && r.test.Steps[0].Optional:
 		return false, nil
 	case err != nil:
 		return false, fmt.Errorf("the start was refused: %v", err)
@@ -237,7 +265,7 @@ func (r *run) step(s *Step) (on bool, fault error) {
 	switch {
 	case errors.Is(err, ErrNotSupported):
 		return false, err
-	case err != nil && s.Refused == "" && r.test.Result == "acceptable":
+	case err != nil && s.Refused == "" && s.Optional:
 		return false, nil
 	case err != nil && s.Refused == "":
 		return false, fmt.Errorf("%s was refused: %v", s.Do, err)
@@ -254,6 +282,32 @@ func (r *run) step(s *Step) (on bool, fault error) {
 	return true, nil
 }
 
+// run takes the steps: whether none was refused that may be, and what is wrong.
+func (r *run) run() (through bool, fault error) {
+	for i := range r.test.Steps {
+		on, err := r.step(&r.test.Steps[i])
+		if err != nil && !errors.Is(err, ErrNotSupported) {
+			err = fmt.Errorf("step %d: %v", i, err)
+		}
+		if !on {
+			return false, err
+		}
+	}
+	return true, nil
+}
+
+// runStart runs a test of a set-up: if it is wrong, the start or a later step has to be refused.
+func (r *run) runStart() error {
+	through, err := r.run()
+	if r.test.Result != "invalid" || errors.Is(err, ErrNotSupported) {
+		return err
+	}
+	if through || err != nil {
+		return fmt.Errorf("the set-up was taken, and has to be refused: %s", r.test.Place)
+	}
+	return nil
+}
+
 // pass runs a test.
 func (t *Test) pass(g *Group, start Start) {
 	defer func() {
@@ -261,31 +315,35 @@ func (t *Test) pass(g *Group, start Start) {
 			t.outcome, t.why = "failed", fmt.Sprint("crashed: ", r)
 		}
 	}()
-	t.outcome = "passed"
-	if g.Type != "NoiseHandshake" {
-		t.outcome, t.why = "not run", "frames are the caller's"
-		return
+	var err error
+	r := &run{g, &g.Setup, t, start, map[string]Party{}, map[int][]byte{}}
+	switch g.Type {
+	case "NoiseHandshake":
+		_, err = r.run()
+	case "NoiseStart":
+		r.setup = &t.Setup
+		err = r.runStart()
+	default:
+		err = fmt.Errorf("%w: frames are the caller's", ErrNotSupported)
 	}
-	r := &run{g, t, start, map[string]Party{}, map[int][]byte{}}
-	for i := range t.Steps {
-		on, err := r.step(&t.Steps[i])
-		if errors.Is(err, ErrNotSupported) {
-			t.outcome, t.why = "not run", err.Error()
-		} else if err != nil {
-			t.outcome, t.why = "failed", fmt.Sprintf("step %d: %v", i, err)
-		}
-		if !on {
-			return
-		}
+	t.outcome = "passed"
+	if errors.Is(err, ErrNotSupported) {
+		t.outcome, t.why = "not run", err.Error()
+	} else if err != nil {
+		t.outcome, t.why = "failed", err.Error()
 	}
 }
 
 // Main runs the suite of the file os.Args[1], and reports; os.Args[2] is a file for JUnit's XML. The
-// status is 0 if no test failed.
+// status is 0 if no test failed. If os.Args[1] is --lines, it speaks the line protocol instead.
 func Main(name string, start Start) {
 	if len(os.Args) < 2 {
-		fmt.Fprintf(os.Stderr, "usage: %s SUITE.json [JUNIT.xml]\n", name)
+		fmt.Fprintf(os.Stderr, "usage: %s SUITE.json [JUNIT.xml]\n       %[1]s --lines\n", name)
 		os.Exit(2)
+	}
+	if os.Args[1] == "--lines" {
+		speak(start)
+		return
 	}
 	text, err := os.ReadFile(os.Args[1])
 	var suite struct {
@@ -317,4 +375,151 @@ func Main(name string, start Start) {
 	if failed {
 		os.Exit(1)
 	}
+}
+
+// wordOf returns the bytes of a word of the line protocol.
+func wordOf(word string) Bytes {
+	data, _ := hex.DecodeString(word) // "-" and "empty" are none
+	return Bytes{Data: data}
+}
+
+// setupOf returns the set-up of a line that starts a party.
+func setupOf(words []string) *Setup {
+	keys := Keys{E: wordOf(words[5]), S: wordOf(words[6]), RE: wordOf(words[7]), RS: wordOf(words[8])}
+	g := &Setup{What: words[1], Prologue: wordOf(words[3]), Protocol: words[9], Initiator: keys, Responder: keys}
+	for _, line := range strings.Split(words[2], "/") {
+		line = strings.ReplaceAll(line, ",", ", ")
+		if len(line) > 2 && line != "..." {
+			line = line[:2] + " " + line[2:]
+		}
+		g.Pattern = append(g.Pattern, line)
+	}
+	for _, it := range strings.Split(words[4], ",") {
+		if it != "-" {
+			g.PSKs = append(g.PSKs, wordOf(it))
+		}
+	}
+	return g
+}
+
+// answer answers a line of the line protocol.
+func answer(p *Party, start Start, words []string) (data []byte, err error) {
+	switch words[0] {
+	case "start":
+		*p, err = start(setupOf(words[1:]), words[1])
+	case "write":
+		data, err = (*p).Write(wordOf(words[1]).Data)
+	case "read":
+		data, err = (*p).Read(wordOf(words[1]).Data)
+	case "rekey":
+		err = (*p).Rekey(words[1])
+	case "nonce":
+		nonce, _ := strconv.ParseUint(words[2], 10, 64)
+		err = (*p).SetNonce(words[1], nonce)
+	case "hash":
+		data = (*p).Hash()
+	case "remote":
+		data, err = (*p).RemoteStatic()
+	}
+	return data, err
+}
+
+// speak speaks the line protocol.
+func speak(start Start) {
+	var p Party
+	lines := bufio.NewScanner(os.Stdin)
+	lines.Buffer(nil, 1<<20)
+	for lines.Scan() {
+		data, err := answer(&p, start, strings.SplitN(lines.Text(), " ", 11))
+		switch {
+		case errors.Is(err, ErrNotSupported):
+			fmt.Println("unsupported", err)
+		case err != nil && p != nil:
+			fmt.Println("refused", p.Place(err))
+		case err != nil:
+			fmt.Println("refused")
+		default:
+			fmt.Printf("ok %x\n", data)
+		}
+	}
+}
+
+// printReport prints a line for each flag, the tests that failed, and why some weren't run.
+func printReport(tests []*Test, notes map[string]note) (failed bool) {
+	counts, total, reasons := map[string]map[string]int{}, map[string]int{}, map[string]int{}
+	var flags, why []string
+	for _, t := range tests {
+		total[t.outcome]++
+		for _, flag := range t.Flags {
+			if counts[flag] == nil {
+				counts[flag] = map[string]int{}
+				flags = append(flags, flag)
+			}
+			counts[flag][t.outcome]++
+		}
+		if t.outcome == "not run" {
+			if reasons[t.why] == 0 {
+				why = append(why, t.why)
+			}
+			reasons[t.why]++
+		}
+	}
+	fmt.Printf("%-28s %-7s %7s %7s %7s\n", "flag", "kind", "passed", "failed", "not run")
+	for _, flag := range flags {
+		count := counts[flag]
+		fmt.Printf("%-28s %-7s %7d %7d %7d\n", flag, notes[flag].Kind,
+			count["passed"], count["failed"], count["not run"])
+	}
+	for _, t := range tests {
+		if t.outcome == "failed" {
+			fmt.Printf("failed %d %s %s: %s: %s\n", t.ID, t.pattern, strings.Join(t.Flags, ","), t.Comment, t.why)
+		}
+	}
+	for _, it := range why {
+		fmt.Printf("not run %d: %s\n", reasons[it], it)
+	}
+	fmt.Printf("%d passed, %d failed, %d not run\n", total["passed"], total["failed"], total["not run"])
+	return total["failed"] > 0
+}
+
+type junitMessage struct {
+	Message string `xml:"message,attr"`
+}
+
+type junitCase struct {
+	Class   string        `xml:"classname,attr"`
+	Name    string        `xml:"name,attr"`
+	Failure *junitMessage `xml:"failure"`
+	Skipped *junitMessage `xml:"skipped"`
+}
+
+type junitSuite struct {
+	XMLName  xml.Name    `xml:"testsuite"`
+	Name     string      `xml:"name,attr"`
+	Tests    int         `xml:"tests,attr"`
+	Failures int         `xml:"failures,attr"`
+	Skipped  int         `xml:"skipped,attr"`
+	Cases    []junitCase `xml:"testcase"`
+}
+
+// writeJUnit writes JUnit's XML: a test case for each test, whose class is its first flag.
+func writeJUnit(path, name string, tests []*Test) error {
+	made := junitSuite{Name: name, Tests: len(tests)}
+	for _, t := range tests {
+		it := junitCase{Class: t.Flags[0], Name: fmt.Sprintf("%d %s: %s", t.ID, t.pattern, t.Comment)}
+		switch t.outcome {
+		case "failed":
+			it.Failure = &junitMessage{t.why}
+			made.Failures++
+		case "not run":
+			it.Skipped = &junitMessage{t.why}
+			made.Skipped++
+		}
+		made.Cases = append(made.Cases, it)
+	}
+	text, err := xml.MarshalIndent(made, "", " ")
+	if err != nil {
+		return err
+	}
+	return os.WriteFile(path, append([]byte(xml.Header), text...), 0o666)
 }

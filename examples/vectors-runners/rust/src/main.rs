@@ -25,10 +25,11 @@ impl Ephemeral for Fixed {
     }
 }
 
-struct Ours {
-    handshake: Option<Handshake<KeyPair, Fixed>>,
+struct Ours<S: Dh> {
+    handshake: Option<Handshake<S, Fixed>>,
     ciphers: Option<(SendCipherState, ReceiveCipherState)>,
     hash: [u8; 32],
+    remote: Option<[u8; 32]>,
 }
 
 fn refused(error: Error) -> Fault {
@@ -44,10 +45,20 @@ fn start(setup: &Setup) -> Result<Box<dyn Party>, Fault> {
     if setup.pattern.iter().position(|it| *it == "...").map_or(false, |at| setup.pattern[..at].iter().any(is_early)) {
         return Err(Fault::NotSupported("ephemeral keys in pre-messages".into()));
     }
-    let name = setup.protocol.split('_').nth(1).unwrap();
-    let pattern = format!("{}:\n{}", name, setup.pattern.iter().map(|it| format!("  {}\n", it)).collect::<String>());
-    let key = KeyPair::from_secret(&setup.s.unwrap_or([1; 32])).map_err(refused)?;
-    let mut builder = Builder::new(&pattern).prologue(&setup.prologue).static_key(key);
+    if !setup.by_name && !setup.protocol.ends_with("_25519_ChaChaPoly_SHA256") {
+        return Err(Fault::NotSupported("another suite".into()));
+    }
+    let name = setup.protocol.trim_start_matches("Noise_").split('_').next().unwrap();
+    let text = format!("{}:\n{}", name, setup.pattern.iter().map(|it| format!("  {}\n", it)).collect::<String>());
+    let pattern = if setup.by_name { setup.protocol } else { &text };
+    let builder = Builder::new(pattern).prologue(&setup.prologue);
+    match &setup.s {
+        Some(key) => begin(setup, builder.static_key(KeyPair::from_secret(key).map_err(refused)?)),
+        None => begin(setup, builder),
+    }
+}
+
+fn begin<'a, S: Dh + 'static>(setup: &'a Setup, mut builder: Builder<'a, S>) -> Result<Box<dyn Party>, Fault> {
     if let Some(key) = &setup.rs {
         builder = builder.remote_static(key);
     }
@@ -57,15 +68,16 @@ fn start(setup: &Setup) -> Result<Box<dyn Party>, Fault> {
     SECRET.with(|it| it.set(setup.e.unwrap_or([1; 32])));
     let handshake =
         if setup.responder { builder.responder_with() } else { builder.initiator_with() }.map_err(refused)?;
-    Ok(Box::new(Ours { handshake: Some(handshake), ciphers: None, hash: [0; 32] }))
+    Ok(Box::new(Ours { handshake: Some(handshake), ciphers: None, hash: [0; 32], remote: None }))
 }
 
-impl Ours {
+impl<S: Dh> Ours<S> {
     /// After the last message: the hash and the cipher states.
     fn passed(&mut self) -> Result<(), Error> {
         if let Some(handshake) = self.handshake.take() {
             if handshake.is_done() {
                 self.hash = handshake.hash();
+                self.remote = handshake.remote_static();
                 self.ciphers = Some(handshake.finish_ciphers()?);
             } else {
                 self.handshake = Some(handshake);
@@ -75,7 +87,7 @@ impl Ours {
     }
 }
 
-impl Party for Ours {
+impl<S: Dh> Party for Ours<S> {
     fn write(&mut self, payload: &[u8]) -> Result<Vec<u8>, Fault> {
         let mut out = vec![0; payload.len().max(65535) + 16];
         let len = match (&mut self.ciphers, &mut self.handshake) {
@@ -114,6 +126,10 @@ impl Party for Ours {
 
     fn hash(&self) -> Vec<u8> {
         self.hash.to_vec()
+    }
+
+    fn remote_static(&self) -> Result<Vec<u8>, Fault> {
+        Ok(self.remote.map_or(Vec::new(), |it| it.to_vec()))
     }
 }
 

@@ -18,7 +18,9 @@ fn start(setup: &Setup) -> Result<Box<dyn Party>, Fault> {
     if setup.re.is_some() {
         return Err(Fault::NotSupported("ephemeral keys in pre-messages".into()));
     }
-    let params = setup.protocol.parse().map_err(|_| Fault::NotSupported("patterns of one's own".into()))?;
+    let params = setup.protocol.parse().map_err(|error: Error| {
+        if setup.by_name { refused(error) } else { Fault::NotSupported("patterns of one's own".into()) }
+    })?;
     let mut builder = Builder::new(params).prologue(&setup.prologue);
     if let Some(key) = &setup.s {
         builder = builder.local_private_key(key);
@@ -99,6 +101,10 @@ impl Party for Snow {
 
     fn hash(&self) -> Vec<u8> {
         self.hash.clone()
+    }
+
+    fn remote_static(&self) -> Result<Vec<u8>, Fault> {
+        Ok(self.transport.as_ref().and_then(TransportState::get_remote_static).unwrap_or(&[]).to_vec())
     }
 }
 

@@ -1,7 +1,10 @@
-"""Compares what a peer fails with the list of its known deviations: these tests, and no others.
+#!/usr/bin/env python3
+"""Compares what an implementation fails with the list of its known failures: these tests, and no others.
 
-    known.py JUNIT.xml LIST            compares; each line of LIST has a flag and the numbers of tests, as 3-5,8
-    known.py --write JUNIT.xml LIST    writes the list anew
+    known.py SUITE.json JUNIT.xml LIST            compares; the status is 1 if they differ
+    known.py --write SUITE.json JUNIT.xml LIST    writes the list anew
+
+A line of a list has a flag and the numbers of tests, as 3-5,8. examples/vectors-runners/known has lists.
 """
 
 from __future__ import annotations
@@ -11,16 +14,15 @@ import sys
 import xml.etree.ElementTree as ElementTree
 from pathlib import Path
 
-SUITE = Path(__file__).resolve().parent.parent.parent / "vectors" / "25519_ChaChaPoly_SHA256.json"
-# The flags by which deviations are told apart: a test counts for the first that it has.
+# The flags by which failures are told apart: a test counts for the first that it has, or for its own first one.
 CAUSES = (
-    "EphemeralInPreMessageWithPsk", "Rekey", "ReservedNonceUsed", "LongMessageTaken", "RightAfterRefused",
-    "WriteOutOfTurn", "ReadOutOfTurn",
+    "EphemeralInPreMessageWithPsk", "Rekey", "RekeyAtZeroOmitted", "ReservedNonceUsed", "ReservedNonceRead",
+    "NonceWraps", "LongMessageTaken", "RightAfterRefused", "WriteOutOfTurn", "ReadOutOfTurn",
 )
 
 
-def flags_of_tests() -> dict[int, list[str]]:
-    groups = json.loads(SUITE.read_text("ascii"))["testGroups"]
+def flags_of_tests(path: str) -> dict[int, list[str]]:
+    groups = json.loads(Path(path).read_text("ascii"))["testGroups"]
     return {test["tcId"]: test["flags"] for group in groups for test in group["tests"]}
 
 
@@ -46,9 +48,15 @@ def of_ranges(text: str) -> set[int]:
     return {number for pair in pairs for number in range(int(pair[0]), int(pair[-1]) + 1)}
 
 
-def listed(failed: set[int]) -> str:
-    """The list of these tests, by what they deviate in."""
-    flags, by_cause = flags_of_tests(), dict[str, list[int]]()
+def read_list(path: Path) -> dict[str, set[int]]:
+    """The tests of a list, by what they fail for."""
+    rows = [line.split(" ") for line in path.read_text("ascii").splitlines()]
+    return {flag: of_ranges(numbers) for flag, numbers in rows}
+
+
+def listed(failed: set[int], suite: str) -> str:
+    """The list of these tests, by what they fail for."""
+    flags, by_cause = flags_of_tests(suite), dict[str, list[int]]()
     for number in failed:
         cause = next((it for it in CAUSES if it in flags[number]), flags[number][0])
         by_cause.setdefault(cause, []).append(number)
@@ -56,11 +64,16 @@ def listed(failed: set[int]) -> str:
 
 
 def main(words: list[str]) -> int:
-    if words[0] == "--write":
-        Path(words[2]).write_text(listed(cases(words[1])[1]), encoding="ascii")
+    is_write, words = "--write" in words, [it for it in words if it != "--write"]
+    if len(words) != 3:
+        print(__doc__, file=sys.stderr)
+        return 2
+    suite, junit, path = words
+    run, failed = cases(junit)
+    if is_write:
+        Path(path).write_text(listed(failed, suite), encoding="ascii")
         return 0
-    run, failed = cases(words[0])
-    known = set().union(*(of_ranges(line.split(" ")[1]) for line in Path(words[1]).read_text("ascii").splitlines()))
+    known = set[int]().union(*read_list(Path(path)).values())
     more, fewer = failed - known, known & run - failed
     for what, numbers in (("fails, and isn't listed", more), ("is listed, and doesn't fail", fewer)):
         if numbers:
