@@ -49,7 +49,7 @@ BY_CGO = {"linux_riscv64": "linux_riscv64"}
 if not os.path.exists(f"{HERE}/noise_c_go_arm64.s"):
     BY_CGO.update({"linux_arm64": "linux_aarch64", "darwin_arm64": "macos_arm64"})
 COPIES = {
-    f"bindings/go/internal/library/noise_{theirs}.S": (f"dist/noise_c_{ours}.s", b"//go:build !noise_installed\n\n")
+    f"bindings/go/internal/library/noise_{theirs}.S": (f"dist/noise_c_{ours}.s", b"//go:build !purego && !noise_installed\n\n")
     for theirs, ours in BY_CGO.items()
 }
 COPIES.update(
@@ -79,7 +79,7 @@ def manifest():
         return {}
     with open(MANIFEST, encoding="utf-8") as it:
         lines = [line.rstrip("\n") for line in it if not line.startswith("#")]
-    parts = (re.match(r"(version|kit|(?:sources|commit|file|object|flags) \S+) (.*)", line) for line in lines)
+    parts = (re.match(r"(version|kit|(?:sources|commit|file|object|flags|translated) \S+) (.*)", line) for line in lines)
     return {part[1]: part[2] for part in parts if part}
 
 
@@ -129,6 +129,7 @@ def manifest_of(products, made):
         lines.update({f"object {file}{level}": it for level, it in objects.items()})
     lines.update({f"flags {it}": made[it][1] if it in made else said.get(f"flags {it}", "none") for it in every})
     lines.update({f"flags @{level}": " ".join(words) for level, words in levels.LEVELS.items()})
+    lines.update({key: it for key, it in said.items() if key.startswith("translated ")})  # tools/purego/make sets them
     head = "# Made by dist/make, and compared by dist/make --check. README.md explains the lines.\n"
     return head + "".join(f"{key} {words}\n" for key, words in lines.items())
 
