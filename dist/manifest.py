@@ -48,8 +48,9 @@ ASSEMBLED = ["linux_x86_64", "linux_aarch64", "linux_riscv64", "windows_x86_64",
 BY_CGO = {"linux_riscv64": "linux_riscv64"}
 if not os.path.exists(f"{HERE}/noise_c_go_arm64.s"):
     BY_CGO.update({"linux_arm64": "linux_aarch64", "darwin_arm64": "macos_arm64"})
+BEFORE_GO = b"//go:build !purego && !noise_installed\n\n"
 COPIES = {
-    f"bindings/go/internal/library/noise_{theirs}.S": (f"dist/noise_c_{ours}.s", b"//go:build !purego && !noise_installed\n\n")
+    f"bindings/go/internal/library/noise_{theirs}.S": (f"dist/noise_c_{ours}.s", BEFORE_GO)
     for theirs, ours in BY_CGO.items()
 }
 COPIES.update(
@@ -79,7 +80,8 @@ def manifest():
         return {}
     with open(MANIFEST, encoding="utf-8") as it:
         lines = [line.rstrip("\n") for line in it if not line.startswith("#")]
-    parts = (re.match(r"(version|kit|(?:sources|commit|file|object|flags|translated) \S+) (.*)", line) for line in lines)
+    form = r"(version|kit|(?:sources|commit|file|object|flags|translated) \S+) (.*)"
+    parts = (re.match(form, line) for line in lines)
     return {part[1]: part[2] for part in parts if part}
 
 

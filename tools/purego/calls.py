@@ -2,8 +2,8 @@
 the calls over those, on pointers.
 
 A call takes a spare memory, copies into it what its arguments lead to, calls, copies back what the call may have
-changed, and overwrites all that it used. Of a buffer that a call fills (`out`) only the bytes that the result counts are
-copied back.
+changed, and overwrites all that it used. Of a buffer that a call fills (`out`) it copies back only the bytes that the
+result counts.
 """
 from header import buffers, calls
 from layout import lay_out
@@ -100,7 +100,7 @@ def text_of_call(call, number, depth, address):
         else:
             made.arguments.append(f"{NUMBERS[it.kind]}({it.name})")
     # (the result is read first, since it has the length of what was written)
-    after = sorted(made.after, key=lambda it: not it.startswith("m.getResult") and not it.startswith("m.getStreamResult"))
+    after = sorted(made.after, key=lambda it: not it.startswith(("m.getResult", "m.getStreamResult")))
     params = ", ".join(f"{name} {kind}" for name, kind in parameters(call))
     return "\n\t".join([
         f"// {call.name} is {call.c_name}.\nfunc {call.name}({params}) {call.result} {{",
@@ -139,5 +139,6 @@ def library_text(constraint):
             f"// {call.name} is {call.c_name}.", f"func {call.name}({params}) {call.result} {{",
             f"\treturn pure.{call.name}({', '.join(passed)})", "}", "",
         ]  # fmt: skip
-    lines += ["// OnStack is whether a call runs on the stack of the goroutine that makes it.", "const OnStack = true", ""]
-    return "\n".join(lines)
+    return "\n".join([
+        *lines, "// OnStack is whether a call runs on the stack of the goroutine that makes it.", "const OnStack = true", "",
+    ])  # fmt: skip

@@ -49,7 +49,8 @@ class Translator:
     def code(self):
         """The texts of the functions, and of the helpers that they need."""
         made = [translated(self, it) for it in self.needed()]
-        return [it.text for it in made], [lay_out(it) for it in texts_of(frozenset().union(*(it.helpers for it in made)))]
+        helpers = frozenset().union(*(it.helpers for it in made))
+        return [it.text for it in made], [lay_out(it) for it in texts_of(helpers)]
 
     def first_memory(self):
         """The file of what the memory has at first, and where."""
@@ -88,9 +89,10 @@ def quoted(data):
 
 
 def code_file(texts):
-    imports = [it for it in ("encoding/binary", "math/bits") if any(f"{it.rpartition('/')[2]}." in text for text in texts)]
+    whole = "\n".join(texts)
+    imports = [it for it in ("encoding/binary", "math/bits") if f"{it.rpartition('/')[2]}." in whole]
     head = "import (\n" + "".join(f'\t"{it}"\n' for it in imports) + ")\n\n" if imports else ""
-    return f"{NOTICE}\n\npackage pure\n\n{head}" + "\n".join(texts)
+    return f"{NOTICE}\n\npackage pure\n\n{head}{whole}"
 
 
 def code_files(texts):

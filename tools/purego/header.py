@@ -8,8 +8,8 @@ from failure import Failure
 ROOT = os.path.dirname(os.path.dirname(os.path.dirname(os.path.realpath(__file__))))
 HEADER, DECLARED = "include/noise.h", "bindings/go/internal/library/calls.go"
 
-# A call: its name in C and in Go, its parameters, its result in Go. A parameter has its name and type in Go, and whether
-# the call only reads what it leads to.
+# A call: its name in C and in Go, its parameters, its result in Go. A parameter has its name and type in Go, and
+# whether the call only reads what it leads to.
 Call = namedtuple("Call", "c_name name params result")
 Param = namedtuple("Param", "name kind is_const")
 

@@ -1,8 +1,8 @@
 """The instructions of WebAssembly that this tool reads: the name of each by its number, and what follows the number.
 
-FOLLOWS has for each name: nothing where it isn't there; `block`, a block's type; `labels`, those of a table and the
-default; `index`, one number; `memory`, an alignment and an offset; `memory lane`, a lane after these; `lane`; `shuffle`,
-16 lanes; `i32`, `i64` and `v128`, a constant; `zero` and `zeros`, the numbers of memories.
+After a name comes, as `follows` says: nothing; `block`, a block's type; `labels`, those of a table and the default;
+`index`, one number; `memory`, an alignment and an offset; `memory lane`, a lane after these; `lane`; `shuffle`, 16
+lanes; `i32`, `i64` and `v128`, a constant; `zero` and `zeros`, the numbers of one memory and of two.
 """
 
 

@@ -8,6 +8,13 @@ COMPARISONS = {"eq": "==", "ne": "!=", "lt": "<", "gt": ">", "le": "<=", "ge": "
 SHIFTS = {"shl": "<<", "shr": ">>"}
 
 
+def signed_text(item, bits):
+    """A number as a signed operand."""
+    if isinstance(item, Const):
+        return str(int(item) - (int(item) >> bits - 1 << bits))
+    return f"int{bits}({plain_text(item)})"
+
+
 class Scalars(Body):
     """The instructions for integers, and `select`."""
 
@@ -65,13 +72,8 @@ class Scalars(Body):
 
     def comparison(self, kind, what, left, right):
         bits, (operator, _, sign) = int(kind[1:]), what.partition("_")
-        if sign == "s":
-            texts = [
-                str(int(it) - (int(it) >> bits - 1 << bits)) if isinstance(it, Const) else f"int{bits}({plain_text(it)})"
-                for it in (left, right)
-            ]
-        else:
-            texts = [plain_text(it) for it in (left, right)]
+        text = (lambda it: signed_text(it, bits)) if sign == "s" else plain_text
+        texts = [text(it) for it in (left, right)]
         self.push_pure(f"{texts[0]} {COMPARISONS[operator]} {texts[1]}", "bool", left, right)
 
     def select(self):

@@ -84,7 +84,8 @@ class Reader:
 
 
 class Module:
-    """What a module has: `exports` are functions by their names, `globals` types and values, `data` places and bytes."""
+    """What a module has. `exports` are functions by their names, `globals` types and values, `data` places and
+    bytes."""
 
     def __init__(self, content):
         if content[:8] != b"\0asm\1\0\0\0":
@@ -168,7 +169,7 @@ def instructions(body):
         if number in PREFIXES:
             table, number = PREFIXES[number], body.unsigned()
         if number not in table:
-            raise Failure(f"an instruction that isn't translated: number {number}, after {body.content[:body.at].hex()[-16:]}")
+            raise Failure(f"an instruction that isn't translated ends the bytes {body.content[: body.at].hex()[-16:]}")
         name = table[number]
         yield Instruction(name, tuple(operands(body, follows(name))))
 
