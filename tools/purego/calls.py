@@ -140,5 +140,6 @@ def library_text(constraint):
             f"\treturn pure.{call.name}({', '.join(passed)})", "}", "",
         ]  # fmt: skip
     return "\n".join([
-        *lines, "// OnStack is whether a call runs on the stack of the goroutine that makes it.", "const OnStack = true", "",
+        *lines, "// OnStack is whether a call runs on the stack of the goroutine that makes it.",
+        "const OnStack = true", "",
     ])  # fmt: skip

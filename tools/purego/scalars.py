@@ -1,7 +1,7 @@
 """Translates the instructions for integers: one of Go's operators each."""
 from body import Body
 from failure import Failure
-from values import TYPES, Const, Expr, Vector, condition, number, plain_text, typed_text
+from values import TYPES, Const, Vector, condition, number, plain_text, typed_text
 
 OPERATORS = {"add": "+", "sub": "-", "mul": "*", "and": "&", "or": "|", "xor": "^", "div_u": "/", "rem_u": "%"}
 COMPARISONS = {"eq": "==", "ne": "!=", "lt": "<", "gt": ">", "le": "<=", "ge": ">="}
