@@ -141,5 +141,5 @@ def library_text(constraint):
         ]  # fmt: skip
     return "\n".join([
         *lines, "// OnStack is whether a call runs on the stack of the goroutine that makes it.",
-        "const OnStack = true", "",
+        "const OnStack = true", "", "// InGo is whether the calls are written in Go.", "const InGo = true", "",
     ])  # fmt: skip

@@ -13,6 +13,7 @@ from wasm import Module
 CONSTRAINT = "purego || (!noise_installed && (plan9 || !(amd64 || arm64)) && !(cgo && linux && riscv64))"
 PURE, LIBRARY = "bindings/go/internal/pure", "bindings/go/internal/library"
 LINES = 6000  # of a file, but for a function that is longer
+FOR_STATICCHECK = "//lint:file-ignore SA4006,SA4009 The module sets locals that nothing reads before it sets them again."
 
 
 class Translator:
@@ -105,7 +106,8 @@ def code_files(texts):
             count = 0
         rows[-1].append(text)
         count += lines
-    return {f"code_{i + 1}.go": code_file(row) for i, row in enumerate(rows)}
+    notice = f"{NOTICE}\n\n{FOR_STATICCHECK}"
+    return {f"code_{i + 1}.go": code_file(row).replace(NOTICE, notice, 1) for i, row in enumerate(rows)}
 
 
 def files_of(content):

@@ -8,17 +8,20 @@ OF_LANES = {
     "shr_s": "uint{n}((uint32(x) | -(uint32(x)>>{sign})<<{n}) >> by)",
 }  # fmt: skip
 COMPARED = {"lt": "<", "gt": ">", "le": "<=", "ge": ">="}
+CHOSEN = {"min": "<", "max": ">"}
 
 
 def by_lanes(shape, what):
-    """The text of a function for a shape of 8, 16 or 32 bits and what it does."""
+    """The text of a function for a shape and what it does."""
     bits = int(shape[1:].partition("x")[0])
     operator, _, sign = what.partition("_")
+    x, y = (f"int{bits}({it})" for it in "xy") if sign == "s" else "xy"
     if what in ("eq", "ne"):
-        text = f"uint{bits}(-b2i(x {'==' if what == 'eq' else '!='} y))"
+        text = f"-uint{bits}(b2i(x {'==' if what == 'eq' else '!='} y))"
     elif operator in COMPARED:
-        cast = f"int{bits}" if sign == "s" else ""
-        text = f"uint{bits}(-b2i({cast}(x) {COMPARED[operator]} {cast}(y)))"
+        text = f"-uint{bits}(b2i({x} {COMPARED[operator]} {y}))"
+    elif operator in CHOSEN:
+        text = f"y ^ (x^y)&-uint{bits}(b2i({x} {CHOSEN[operator]} {y}))"
     else:
         text = OF_LANES[what].replace("{n}", str(bits)).replace("{sign}", str(bits - 1))
     is_shift = what.startswith("sh")
@@ -113,8 +116,9 @@ NOT = """func v128_not(a, b uint64) (uint64, uint64) {
 def all_helpers():
     """Each helper's text, by its name."""
     made = {}
+    made.update({f"i64x2_{it}": by_lanes("i64x2", it) for it in ("eq", "ne", *(f"{it}_s" for it in COMPARED))})
     for shape, bits in (("i8x16", 8), ("i16x8", 16), ("i32x4", 32)):
-        names = ["eq", "ne", *(f"{it}_{sign}" for it in COMPARED for sign in "su")]
+        names = ["eq", "ne", *(f"{it}_{sign}" for it in (*COMPARED, *CHOSEN) for sign in "su")]
         if bits < 32:
             names += [it for it in OF_LANES if (shape, it) != ("i8x16", "mul")]
         made.update({f"{shape}_{it}": by_lanes(shape, it) for it in names})

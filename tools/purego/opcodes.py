@@ -48,7 +48,7 @@ VECTORS = {
     **numbered(84, each("v128", "load8_lane load16_lane load32_lane load64_lane")),
     **numbered(88, each("v128", "store8_lane store16_lane store32_lane store64_lane load32_zero load64_zero")),
     **numbered(102, "i8x16.narrow_i16x8_u"),
-    **numbered(107, each("i8x16", "shl shr_s shr_u add - - sub - - - min_s min_u max_s max_u")),
+    **numbered(107, each("i8x16", "shl shr_s shr_u add - - sub - - - - min_s min_u max_s max_u")),
     **numbered(134, "i16x8.narrow_i32x4_u"),
     **numbered(135, each("i16x8", "extend_low_i8x16_s extend_high_i8x16_s extend_low_i8x16_u extend_high_i8x16_u")),
     **numbered(139, each("i16x8", "shl shr_s shr_u add - - sub - - - mul min_s min_u max_s max_u")),

@@ -247,3 +247,6 @@ func CipherSetNonce(c *Cipher, nonce uint64) uint32 {
 
 // OnStack is whether a call runs on the stack of the goroutine that makes it.
 const OnStack = false
+
+// InGo is whether the calls are written in Go.
+const InGo = false

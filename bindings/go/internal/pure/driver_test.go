@@ -371,7 +371,7 @@ func (d *driver) ciphers(i, n, m int) {
 
 // nonces asks for nonces and sets them, and rekeys.
 func (d *driver) nonces(i int) {
-	nonce := uint64(d.Intn(3)) - uint64(d.Intn(3))
+	nonce := uint64(d.Intn(5) - 2)
 	d.do("CipherNonce", func(w *world) []any { return []any{&w.c1[i], &w.nonce} })
 	if d.Intn(4) == 0 {
 		d.do("CipherSetNonce", func(w *world) []any { return []any{&w.c1[i], nonce} })
