@@ -13,7 +13,7 @@ from wasm import Module
 CONSTRAINT = "purego || (!noise_installed && (plan9 || !(amd64 || arm64)) && !(cgo && linux && riscv64))"
 PURE, LIBRARY = "bindings/go/internal/pure", "bindings/go/internal/library"
 LINES = 6000  # of a file, but for a function that is longer
-FOR_STATICCHECK = "//lint:file-ignore SA4006,SA4009 The module sets locals that nothing reads before it sets them again."
+FOR_STATICCHECK = "//lint:file-ignore SA4006,SA4009 The module sets locals that nothing reads."
 
 
 class Translator:

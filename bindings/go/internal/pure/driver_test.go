@@ -73,8 +73,8 @@ var (
 		"Z:\n  -> e, psk\n", "L:\n  <- e, s\n  ...\n  -> psk, e, ee, es, s, se, ss, psk\n  <- e, ee, se\n",
 	}
 	lengths = []int{
-		0, 0, 1, 2, 15, 16, 17, 18, 31, 32, 47, 48, 63, 64, 65, 100, 255, 256, 257, 1000, 1024, 4096, 16384, 65503, 65519,
-		65520, 65535, 65536, 65537, 65543, 65544, 70000,
+		0, 0, 1, 2, 15, 16, 17, 18, 31, 32, 47, 48, 63, 64, 65, 100, 255, 256, 257, 1000, 1024, 4096, 16384, 65503,
+		65519, 65520, 65535, 65536, 65537, 65543, 65544, 70000,
 	}
 )
 
@@ -231,7 +231,9 @@ func (d *driver) asked(i int, name string, args func(w *world) []any) (code uint
 		switch code = d.do(name, args); code {
 		case 20:
 			d.change(func(w *world) { w.answer = [32]byte{9, 9, 25} })
-			d.do("Answer", func(w *world) []any { return []any{&w.h[i], w.result.OfStatic, &w.result.Remote, &w.answer} })
+			d.do("Answer", func(w *world) []any {
+				return []any{&w.h[i], w.result.OfStatic, &w.result.Remote, &w.answer}
+			})
 		case 40:
 			d.do("SetPsk", func(w *world) []any { return []any{&w.h[i], &w.setup.PSKs[0]} })
 		default:

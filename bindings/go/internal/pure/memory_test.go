@@ -24,7 +24,7 @@ func TestNothingIsLeft(t *testing.T) {
 	defer runtime.UnlockOSThread()
 	calls := 20000
 	if testing.Short() {
-		calls = 2000
+		calls = 8000
 	}
 	w, seen, successes := new(world), 0, map[string]bool{}
 	d := driver{Rand: rand.New(rand.NewSource(1)), worlds: []*world{w}}

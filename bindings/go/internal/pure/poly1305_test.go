@@ -194,7 +194,7 @@ func aim(text []byte, r, inverse, target *big.Int, at int) bool {
 	return found
 }
 
-// sealed compares what CipherEncrypt makes with what the formulas make, where the text is what it has to be encrypted to.
+// sealed compares what CipherEncrypt makes with what the formulas make. The text is the encrypted one.
 func sealed(t *testing.T, c structs.Cipher, key *[32]byte, text []byte, r, s *big.Int) {
 	t.Helper()
 	buffer, h := make([]byte, len(text)+16), new(big.Int)
