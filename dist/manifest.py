@@ -49,8 +49,9 @@ ASSEMBLED = ["linux_x86_64", "linux_aarch64", "linux_riscv64", "windows_x86_64",
 BY_CGO = {"linux_riscv64": "linux_riscv64"}
 if not os.path.exists(f"{HERE}/noise_c_go_arm64.s"):
     BY_CGO.update({"linux_arm64": "linux_aarch64", "darwin_arm64": "macos_arm64"})
+BEFORE_GO = b"//go:build !purego && !noise_installed\n\n"
 COPIES = {
-    f"bindings/go/internal/library/noise_{theirs}.S": (f"dist/noise_c_{ours}.s", b"//go:build !noise_installed\n\n")
+    f"bindings/go/internal/library/noise_{theirs}.S": (f"dist/noise_c_{ours}.s", BEFORE_GO)
     for theirs, ours in BY_CGO.items()
 }
 COPIES.update(
@@ -84,7 +85,7 @@ def manifest():
         return {}
     with open(MANIFEST, encoding="utf-8") as it:
         lines = [line.rstrip("\n") for line in it if not line.startswith("#")]
-    key = r"(version|kit|clang|(?:sources|commit|file|made|object|flags) \S+) (.*)"
+    key = r"(version|kit|clang|(?:sources|commit|file|made|object|flags|translated) \S+) (.*)"
     parts = (re.match(key, line) for line in lines)
     return {part[1]: part[2] for part in parts if part}
 
@@ -143,6 +144,7 @@ def manifest_of(products, made):
         lines.update({f"object {file}{level}": it for level, it in objects.items()})
     lines.update({f"flags {it}": made[it][1] if it in made else said.get(f"flags {it}", "none") for it in every})
     lines.update({f"flags @{level}": " ".join(words) for level, words in levels.LEVELS.items()})
+    lines.update({key: it for key, it in said.items() if key.startswith("translated ")})  # tools/purego/make sets them
     head = "# Made by dist/make, and compared by dist/make --check. README.md explains the lines.\n"
     return head + "".join(f"{key} {words}\n" for key, words in lines.items())
 

@@ -18,7 +18,8 @@
 //
 // # Building
 //
-// On amd64 and arm64 the library is in the package in Go's assembler: cgo isn't needed. On riscv64 it is assembly
-// text, which gcc or clang turns into code. With the build tag noise_installed the package is linked with the library
-// noise_c that pkg-config finds.
+// Cgo isn't needed. On amd64 and arm64 the library is in the package in Go's assembler. Elsewhere, and with the build
+// tag purego, it is plain Go, translated from the proved code. On riscv64 with cgo it is assembly text, which gcc or
+// clang turns into code. With the build tag noise_installed the package is linked with the library noise_c that
+// pkg-config finds.
 package noise

@@ -9,6 +9,8 @@ import (
 	"testing"
 )
 
+const isRace = true
+
 // TestRaceIsSeen runs itself with two goroutines of which one changes a payload while the other seals it: the
 // race detector has to say so.
 func TestRaceIsSeen(t *testing.T) {

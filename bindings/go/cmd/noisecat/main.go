@@ -26,8 +26,6 @@ import (
 	"fmt"
 	"io"
 	"os"
-	"os/signal"
-	"syscall"
 	"time"
 
 	"example.org/yulimosar/noise"
@@ -56,7 +54,7 @@ type options struct {
 type wrong struct{ error }
 
 func main() {
-	signal.Ignore(syscall.SIGPIPE) // a closed output is an error of its Write
+	ignoreClosedOutput()
 	err := run(os.Args[1:])
 	var words wrong
 	switch {
@@ -192,7 +190,7 @@ func sentence(err error) string {
 		return err.Error()
 	case errors.Is(err, noise.ErrCut):
 		return "the connection was cut before the other party had sent all"
-	case errors.Is(err, syscall.ECONNRESET) || errors.Is(err, syscall.EPIPE):
+	case isReset(err):
 		return "the connection was cut: " + err.Error()
 	}
 	return withoutName(err)

@@ -1,4 +1,4 @@
-//go:build cgo && noise_installed
+//go:build !purego && cgo && noise_installed
 
 package library
 

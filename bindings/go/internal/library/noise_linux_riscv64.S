@@ -1,4 +1,4 @@
-//go:build !noise_installed
+//go:build !purego && !noise_installed
 
 	.file	"rattle"
 	.section	".text.noise_state::cipher::CipherState::decrypt","ax",@progbits
