@@ -25,6 +25,8 @@ type HandshakeState struct {
 	below     net.Conn   // the connection below, if there is one
 	isTrying  bool       // a message is tried: a fault leaves the handshake as it was
 	isOfConn  bool       // of a Conn, of which there may be many
+	isWanted  bool       // a *WantedPSKError was returned for the message that is due
+	pskCount  int        // how many psks SetPSK has passed since
 	at        library.StageResult
 }
 
@@ -279,6 +281,7 @@ func (h *HandshakeState) called(ctx context.Context, keys *remoteKeys, call func
 			err = h.supply(ctx, h.wanted(keys), PublicKey(result.Remote))
 		case uint32(ErrWantedPSK):
 			if h.config.PSKFor == nil {
+				h.isWanted = true
 				return 0, h.wantedPSK()
 			}
 			err = h.choose(ctx)
@@ -320,8 +323,8 @@ func (h *HandshakeState) choose(ctx context.Context) error {
 }
 
 // SetPSK passes the psk of the first psk token that has none: after a *WantedPSKError, or before. It is for a Config
-// with neither PSKs nor PSKFor. ErrPSKCount: no token that is still to come lacks its psk. A psk that was passed can't
-// be replaced: if it is wrong, ReadMessage returns ErrTag.
+// with neither PSKs nor PSKFor. ErrPSKCount: no token that is still to come lacks its psk. To replace a psk call
+// UnsetPSK first.
 func (h *HandshakeState) SetPSK(psk PSK) error {
 	if h.ended != nil {
 		return h.ended
@@ -329,7 +332,36 @@ func (h *HandshakeState) SetPSK(psk PSK) error {
 	defer wipe(psk[:])
 	var code uint32
 	h.deep(func() { code = library.SetPsk(&h.memory.opaque, &psk[0]) })
+	if code == 0 && h.isWanted && !h.isTrying {
+		h.pskCount++
+	}
 	return asError(code)
+}
+
+// UnsetPSK takes back the last psk that no message has used yet, if there is one.
+func (h *HandshakeState) UnsetPSK() error {
+	if h.ended != nil {
+		return h.ended
+	}
+	var code uint32
+	h.deep(func() { code = library.UnsetPsk(&h.memory.opaque) })
+	if h.pskCount > 0 {
+		h.pskCount--
+	}
+	return asError(code)
+}
+
+// messagePassed notes that the message that was due has passed, with its psks.
+func (h *HandshakeState) messagePassed() {
+	h.next++
+	h.isWanted, h.pskCount = false, 0
+}
+
+// takeBack takes back the psks that were passed for a message that is refused.
+func (h *HandshakeState) takeBack() {
+	for h.pskCount > 0 && h.UnsetPSK() == nil {
+	}
+	h.isWanted = false
 }
 
 // WriteMessage appends the next message, with this payload, to dst. ErrNotYourTurn, ErrDone, ErrTooLong and a
@@ -370,7 +402,7 @@ func (h *HandshakeState) WriteMessageContext(ctx context.Context, dst, payload [
 	case made != 0:
 		return dst, made
 	}
-	h.next++
+	h.messagePassed()
 	return whole[:len(dst)+int(m.result.Len)], nil
 }
 
@@ -397,6 +429,7 @@ func (h *HandshakeState) TryReadMessage(ctx context.Context, dst, message []byte
 	defer func() {
 		if h.memory != nil && h.ended != nil {
 			*h.memory, *h = before, was
+			h.takeBack()
 		}
 		h.isTrying = false
 		before.wipe()
@@ -455,7 +488,7 @@ func (h *HandshakeState) read(ctx context.Context, received []byte, read readCal
 		return nil, h.end("", code)
 	}
 	h.remote = keys
-	h.next++
+	h.messagePassed()
 	return work[m.result.From : m.result.From+m.result.Len], nil
 }
 
