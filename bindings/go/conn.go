@@ -74,6 +74,8 @@ type ConnectionState struct {
 	Payloads [][]byte
 }
 
+var errZeroConn = errors.New("noise: neither Client nor Server nor Dial nor Accept has made this Conn")
+
 // Client returns the initiator's side of a channel over conn, and writes nothing yet. A *ConfigError says what
 // is wrong with the Config.
 func Client(conn net.Conn, config *Config) (*Conn, error) {
@@ -394,13 +396,26 @@ func (c *Conn) sendEnd() error {
 }
 
 // LocalAddr returns that of the connection below.
-func (c *Conn) LocalAddr() net.Addr { return c.conn.LocalAddr() }
+func (c *Conn) LocalAddr() net.Addr {
+	if c.conn == nil {
+		return nil
+	}
+	return c.conn.LocalAddr()
+}
 
 // RemoteAddr returns that of the connection below.
-func (c *Conn) RemoteAddr() net.Addr { return c.conn.RemoteAddr() }
+func (c *Conn) RemoteAddr() net.Addr {
+	if c.conn == nil {
+		return nil
+	}
+	return c.conn.RemoteAddr()
+}
 
 // SetDeadline sets both deadlines.
 func (c *Conn) SetDeadline(t time.Time) error {
+	if c.conn == nil {
+		return errZeroConn
+	}
 	err := c.conn.SetDeadline(t)
 	c.isStuck.Store(false)
 	c.keepWriteDeadline(t)
@@ -410,6 +425,9 @@ func (c *Conn) SetDeadline(t time.Time) error {
 // SetReadDeadline sets the deadline of Read, also for messages of the handshake that a Read or a Write waits for. After
 // one that has passed the channel is still usable, also if it has passed in the handshake.
 func (c *Conn) SetReadDeadline(t time.Time) error {
+	if c.conn == nil {
+		return errZeroConn
+	}
 	err := c.conn.SetReadDeadline(t)
 	c.isStuck.Store(false)
 	return err
@@ -419,6 +437,9 @@ func (c *Conn) SetReadDeadline(t time.Time) error {
 // doesn't limit how long a Write waits for the other party's messages of the handshake, as SetReadDeadline and
 // Config.HandshakeTimeout do. After one that has passed the channel is still usable.
 func (c *Conn) SetWriteDeadline(t time.Time) error {
+	if c.conn == nil {
+		return errZeroConn
+	}
 	err := c.conn.SetWriteDeadline(t)
 	c.keepWriteDeadline(t)
 	return err

@@ -25,6 +25,9 @@ var longAgo = time.Unix(1, 0)
 // connection that is closed before them, and what was written last is lost then. It also resets one over which more
 // comes later: where the other party may still be writing, read to io.EOF before Close.
 func (c *Conn) Close() error {
+	if c.conn == nil {
+		return errZeroConn
+	}
 	if c.closed.Swap(true) {
 		return net.ErrClosed
 	}
@@ -114,6 +117,9 @@ func (c *Conn) drain() {
 // Abort closes the connection below, and overwrites the keys. It sends no end, so the other
 // party's Read returns ErrCut.
 func (c *Conn) Abort() error {
+	if c.conn == nil {
+		return errZeroConn
+	}
 	if c.closed.Swap(true) {
 		return net.ErrClosed
 	}

@@ -147,7 +147,7 @@ func (h *HandshakeState) look() {
 // Done reports whether all messages have passed.
 func (h *HandshakeState) Done() bool {
 	passed, messages, _ := h.stage()
-	return h.ended == nil && passed == messages
+	return h.isOver() == nil && passed == messages
 }
 
 // WritesNext reports whether this party writes the next message.
@@ -160,6 +160,14 @@ func (h *HandshakeState) WritesNext() bool {
 func (h *HandshakeState) MessageIndex() int {
 	passed, _, _ := h.stage()
 	return passed
+}
+
+// isOver returns why the handshake is over; nil if it isn't.
+func (h *HandshakeState) isOver() error {
+	if h.ended == nil && h.memory == nil {
+		return errUnmade
+	}
+	return h.ended
 }
 
 // end ends the handshake at a token of the message that is due, and overwrites keys and X25519 results. A
@@ -247,7 +255,7 @@ func agreed(ctx context.Context, own DH, remote PublicKey) (result Secret, err e
 		return result, err
 	}
 	if result, err = own.Agree(ctx, remote); err == nil && result == (Secret{}) {
-		err = ErrLowOrder
+		err = zeroResult{}
 	}
 	return result, err
 }
@@ -323,13 +331,16 @@ func (h *HandshakeState) choose(ctx context.Context) error {
 }
 
 // SetPSK passes the psk of the first psk token that has none: after a *WantedPSKError, or before. It is for a Config
-// with neither PSKs nor PSKFor. ErrPSKCount: no token that is still to come lacks its psk. To replace a psk call
-// UnsetPSK first.
+// with neither PSKs nor PSKFor. ErrPSKCount: no token that is still to come lacks its psk; ErrZeroPSK. To replace a
+// psk call UnsetPSK first.
 func (h *HandshakeState) SetPSK(psk PSK) error {
-	if h.ended != nil {
-		return h.ended
+	if err := h.isOver(); err != nil {
+		return err
 	}
 	defer wipe(psk[:])
+	if psk == (PSK{}) && !h.config.AllowZeroPSK {
+		return ErrZeroPSK
+	}
 	var code uint32
 	h.deep(func() { code = library.SetPsk(&h.memory.opaque, &psk[0]) })
 	if code == 0 && h.isWanted && !h.isTrying {
@@ -340,8 +351,8 @@ func (h *HandshakeState) SetPSK(psk PSK) error {
 
 // UnsetPSK takes back the last psk that no message has used yet, if there is one.
 func (h *HandshakeState) UnsetPSK() error {
-	if h.ended != nil {
-		return h.ended
+	if err := h.isOver(); err != nil {
+		return err
 	}
 	var code uint32
 	h.deep(func() { code = library.UnsetPsk(&h.memory.opaque) })
@@ -372,8 +383,8 @@ func (h *HandshakeState) WriteMessage(dst, payload []byte) ([]byte, error) {
 
 // WriteMessageContext is WriteMessage with the context that VerifyPeer, PSKFor and Agree get.
 func (h *HandshakeState) WriteMessageContext(ctx context.Context, dst, payload []byte) ([]byte, error) {
-	if h.ended != nil {
-		return dst, h.ended
+	if err := h.isOver(); err != nil {
+		return dst, err
 	}
 	m, size, code := h.memory, uint(0), uint32(0)
 	h.deep(func() { code = library.MessageLen(&m.opaque, uint(len(payload)), &size) })
@@ -421,8 +432,8 @@ func (h *HandshakeState) ReadMessageContext(ctx context.Context, dst, message []
 // the handshake is as it was, and another message can be read in the place of the one that is refused. So a message
 // that was altered, repeated or invented doesn't end the handshake.
 func (h *HandshakeState) TryReadMessage(ctx context.Context, dst, message []byte) ([]byte, error) {
-	if h.ended != nil {
-		return dst, h.ended
+	if err := h.isOver(); err != nil {
+		return dst, err
 	}
 	was, before := *h, *h.memory
 	h.isTrying = true
@@ -441,8 +452,8 @@ func (h *HandshakeState) TryReadMessage(ctx context.Context, dst, message []byte
 type readCall func(h *library.Handshake, message *byte, messageLen uint, result *library.Result) uint32
 
 func (h *HandshakeState) readMessage(ctx context.Context, dst, message []byte, call readCall) ([]byte, error) {
-	if h.ended != nil {
-		return dst, h.ended
+	if err := h.isOver(); err != nil {
+		return dst, err
 	}
 	passed, messages, writes := h.stage()
 	switch {
@@ -542,8 +553,8 @@ func (h *HandshakeState) HandshakeHash() (hash [KeyLen]byte) {
 
 // Split returns the two directions of the transport, after all messages have passed. The handshake is used up.
 func (h *HandshakeState) Split() (*Sender, *Receiver, error) {
-	if h.ended != nil {
-		return nil, nil, h.ended
+	if err := h.isOver(); err != nil {
+		return nil, nil, err
 	}
 	s, r := new(Sender), new(Receiver)
 	var code uint32
@@ -559,8 +570,8 @@ func (h *HandshakeState) Split() (*Sender, *Receiver, error) {
 
 // splitStream makes the two directions of a stream, after all messages have passed. The handshake is used up.
 func (h *HandshakeState) splitStream(s *streamSenderMemory, r *streamReceiverMemory) error {
-	if h.ended != nil {
-		return h.ended
+	if err := h.isOver(); err != nil {
+		return err
 	}
 	var code uint32
 	h.deep(func() { code = library.FinishStream(&h.memory.opaque, uint64(h.config.Interval), &s.opaque, &r.opaque) })
@@ -574,8 +585,8 @@ func (h *HandshakeState) splitStream(s *streamSenderMemory, r *streamReceiverMem
 // Datagrams returns the two directions for datagrams, after all messages have passed. A datagram may arrive after
 // others whose nonces are less than window greater; window is 64, 256 or 1024. The handshake is used up.
 func (h *HandshakeState) Datagrams(window int) (*DatagramSender, *DatagramReceiver, error) {
-	if h.ended != nil {
-		return nil, nil, h.ended
+	if err := h.isOver(); err != nil {
+		return nil, nil, err
 	}
 	if window != 64 && window != 256 && window != 1024 {
 		return nil, nil, ErrWindow
@@ -595,8 +606,8 @@ func (h *HandshakeState) Datagrams(window int) (*DatagramSender, *DatagramReceiv
 // CipherStates returns the standard's CipherStates (the framework's 5.2), after all messages have passed: for a
 // protocol whose packets have associated data, name their nonces or have a form of their own. The handshake is used up.
 func (h *HandshakeState) CipherStates() (send, receive *CipherState, err error) {
-	if h.ended != nil {
-		return nil, nil, h.ended
+	if err := h.isOver(); err != nil {
+		return nil, nil, err
 	}
 	send, receive = new(CipherState), &CipherState{receives: true}
 	var code uint32
