@@ -111,8 +111,6 @@ func (c *Config) check(p *pattern, initiator, isLate bool) error {
 	known, learns := p.knows(initiator), p.learns(initiator)
 	hasKey := known || learns >= 0
 	switch {
-	case p.early:
-		return &ConfigError{"Pattern", errEarly}
 	case isNil(c.Static):
 		return &ConfigError{"Static", errNilKey}
 	case c.Static != nil && c.Static.Public() == PublicKey{}:

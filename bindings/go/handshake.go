@@ -28,6 +28,8 @@ type HandshakeState struct {
 	isWanted  bool       // a *WantedPSKError was returned for the message that is due
 	pskCount  int        // how many psks SetPSK has passed since
 	at        library.StageResult
+
+	isForVectors bool // a pre-message may have an ephemeral key
 }
 
 // remoteKeys are the public keys of the other party, as far as they are known.
@@ -83,6 +85,9 @@ func started(config *Config, h *HandshakeState, isLate bool) (*HandshakeState, e
 	if h.pattern.fault != nil {
 		return nil, &ConfigError{"Pattern", h.pattern.fault}
 	}
+	if h.pattern.early && !h.isForVectors {
+		return nil, &ConfigError{"Pattern", errEarly}
+	}
 	if err := h.config.check(h.pattern, h.initiator, isLate); err != nil {
 		return nil, err
 	}
@@ -106,6 +111,9 @@ func (h *HandshakeState) start() Code {
 	setup.E = keyFor(h.ephemeral.Public())
 	if h.config.Static != nil {
 		setup.S = keyFor(h.config.Static.Public())
+	}
+	if h.remote.hasE {
+		setup.RemoteE = keyFor(h.remote.e)
 	}
 	if h.pattern.knows(h.initiator) {
 		setup.RemoteS = keyFor(*h.config.PeerStatic)

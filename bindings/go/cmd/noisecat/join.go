@@ -69,8 +69,8 @@ func (o *options) reach(config *noise.Config) (*noise.Conn, *counted, error) {
 var errIdle = errors.New("nothing has come or gone for the time that -idle names")
 
 // carry joins a channel to a target, and moves what there is to send and what comes until both parties have sent all.
-// Where the other party is noisecat too, each says that it has written out all, and only that is no fault. After a fault
-// it resets the connection, so that the other party gets an error too.
+// Where the other party is noisecat too, each says that it has written out all, and only that is no fault. After a
+// fault it resets the connection, so that the other party gets an error too.
 func (o *options) carry(c *noise.Conn, below *counted, open func() (*local, error)) error {
 	if o.verbose {
 		s := c.ConnectionState()

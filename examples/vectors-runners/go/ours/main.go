@@ -2,10 +2,7 @@
 package main
 
 import (
-	"bytes"
-	"crypto/rand"
 	"errors"
-	"fmt"
 	"strings"
 
 	"example.org/vectors/suite"
@@ -44,13 +41,11 @@ func pairOf[T ~[32]byte](pair func(T) (*noise.KeyPair, error), b suite.Bytes) (*
 
 func start(g *suite.Group, role string) (suite.Party, error) {
 	keys, name := g.Keys(role), strings.Split(g.Protocol, "_")[1]
-	if strings.HasPrefix(g.Before("initiator"), "e") || strings.HasPrefix(g.Before("responder"), "e") {
-		return nil, fmt.Errorf("%w: ephemeral keys in pre-messages", suite.ErrNotSupported)
-	}
 	config := &noise.Config{
 		Pattern:              name + ":\n  " + strings.Join(g.Pattern, "\n  ") + "\n",
 		Prologue:             g.Prologue.Data,
 		InsecureAcceptAnyKey: true,
+		AllowZeroPSK:         true,
 	}
 	setPSKs(&config.PSKs, g.PSKs)
 	setKey(&config.PeerStatic, keys.RS)
@@ -61,12 +56,13 @@ func start(g *suite.Group, role string) (suite.Party, error) {
 		}
 		config.Static = pair
 	}
-	if len(keys.E.Data) > 0 { // the handshake draws its ephemeral key from here
-		rand.Reader = bytes.NewReader(keys.E.Data)
-	} else {
-		rand.Reader = bytes.NewReader(make([]byte, 32))
+	ephemeral, err := pairOf(noise.NewKeyPair, keys.E) // of zeros, if the party has none
+	if err != nil {
+		return nil, err
 	}
-	h, err := noise.NewHandshakeState(config, role == "initiator")
+	var peer *noise.PublicKey
+	setKey(&peer, keys.RE)
+	h, err := noise.NewHandshakeForVectors(config, role == "initiator", ephemeral, peer)
 	return &party{handshake: h}, err
 }
 
