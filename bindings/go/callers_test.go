@@ -372,7 +372,7 @@ func TestListenerGoesOn(t *testing.T) {
 		stranger, err := net.Dial("tcp", l.Addr().String())
 		must(t, err)
 		stranger.Write([]byte("GET / HTTP/1.0\r\n\r\n"))
-		expect(t, said, stranger, "message 1: the message would be too long, or is")
+		expect(t, said, stranger, "message 1: it has 18245 bytes, and Config allows 4")
 		quiet, err := net.Dial("tcp", l.Addr().String())
 		must(t, err)
 		expect(t, said, quiet, withoutName(ErrHandshakeTimeout))

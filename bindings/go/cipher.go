@@ -37,7 +37,7 @@ func (c *CipherState) EncryptNext(dst, plaintext []byte, ad func(nonce uint64) [
 	defer c.mutex.Unlock()
 	switch {
 	case c.closed:
-		return dst, ErrClosed
+		return dst, errClosed
 	case c.receives:
 		return dst, ErrDirection
 	}
@@ -51,7 +51,7 @@ func (c *CipherState) EncryptNext(dst, plaintext []byte, ad func(nonce uint64) [
 func (c *CipherState) encrypt(dst, ad, plaintext []byte) ([]byte, error) {
 	switch {
 	case c.closed:
-		return dst, ErrClosed
+		return dst, errClosed
 	case c.receives:
 		return dst, ErrDirection
 	case len(plaintext) > MaxMessage-TagLen:
@@ -107,7 +107,7 @@ func (c *CipherState) DecryptAt(nonce uint64, dst, ad, message []byte) ([]byte, 
 func (c *CipherState) decrypt(dst, ad, message []byte) ([]byte, error) {
 	switch {
 	case c.closed:
-		return dst, ErrClosed
+		return dst, errClosed
 	case !c.receives:
 		return dst, ErrDirection
 	case len(message) > MaxMessage:
@@ -153,7 +153,7 @@ func (c *CipherState) SetNonce(nonce uint64) error {
 	c.mutex.Lock()
 	defer c.mutex.Unlock()
 	if c.closed {
-		return ErrClosed
+		return errClosed
 	}
 	return asError(uint32(library.CipherSetNonce(&c.memory.opaque, uint64(nonce))))
 }
@@ -164,7 +164,7 @@ func (c *CipherState) Rekey() error {
 	c.mutex.Lock()
 	defer c.mutex.Unlock()
 	if c.closed {
-		return ErrClosed
+		return errClosed
 	}
 	return asError(uint32(library.CipherRekey(&c.memory.opaque)))
 }

@@ -5,6 +5,7 @@ import (
 	"errors"
 	"log"
 	"net"
+	"reflect"
 	"strings"
 	"time"
 )
@@ -34,6 +35,8 @@ type Config struct {
 	InsecureAcceptAnyKey bool
 	// PSKs has one pre-shared key for each psk token of the pattern, in their order.
 	PSKs []PSK
+	// AllowZeroPSK lets a psk be zeros, as in protocols whose psk is optional: it says nothing of the other party.
+	AllowZeroPSK bool
 	// PSKFor, in place of PSKs, returns those that this party shares with the owner of a static key. It is called at
 	// the first psk token, before which that key has to be known. The other party hasn't shown yet that it has the
 	// secret key: so choose the psks, and do nothing else. At XXpsk3, where the token is in the message that has the
@@ -93,6 +96,8 @@ func (c *Config) protocolName() string {
 
 var (
 	errNil        = errors.New("the Config is nil")
+	errZeroKey    = errors.New("the public key is zeros, as one that was never set")
+	errNilKey     = errors.New("a nil pointer")
 	errTwo        = errors.New("set either PSKs or PSKFor")
 	errTwoOf      = errors.New("set either Payloads or PayloadFor")
 	errNoKey      = errors.New("the other party has no static key in this pattern")
@@ -106,8 +111,12 @@ func (c *Config) check(p *pattern, initiator, isLate bool) error {
 	known, learns := p.knows(initiator), p.learns(initiator)
 	hasKey := known || learns >= 0
 	switch {
-	case p.early:
-		return &ConfigError{"Pattern", errEarly}
+	case isNil(c.Static):
+		return &ConfigError{"Static", errNilKey}
+	case c.Static != nil && c.Static.Public() == PublicKey{}:
+		return &ConfigError{"Static", errZeroKey}
+	case c.PeerStatic != nil && *c.PeerStatic == PublicKey{}:
+		return &ConfigError{"PeerStatic", errZeroKey}
 	case c.PeerStatic != nil && !hasKey:
 		return &ConfigError{"PeerStatic", ErrRemoteUnexpected}
 	case c.PeerStatic == nil && known:
@@ -129,10 +138,23 @@ func (c *Config) check(p *pattern, initiator, isLate bool) error {
 	case c.PSKFor == nil && len(c.PSKs) != p.psks && (c.PSKs != nil || !isLate):
 		return &ConfigError{"PSKs", ErrPSKCount}
 	}
-	if c.VerifyPeer == nil && c.PeerStatic == nil && p.psks == 0 && !c.InsecureAcceptAnyKey {
+	hasPSK := p.psks > 0 && !c.AllowZeroPSK
+	for _, psk := range c.PSKs {
+		if psk == (PSK{}) && !c.AllowZeroPSK {
+			return &ConfigError{"PSKs", ErrZeroPSK}
+		}
+		hasPSK = hasPSK || psk != PSK{}
+	}
+	if c.VerifyPeer == nil && c.PeerStatic == nil && !hasPSK && !c.InsecureAcceptAnyKey {
 		return &ConfigError{"VerifyPeer", ErrUnauthenticated}
 	}
 	return nil
+}
+
+// isNil reports whether a key is a nil pointer of some type.
+func isNil(key DH) bool {
+	value := reflect.ValueOf(key)
+	return value.Kind() == reflect.Pointer && value.IsNil()
 }
 
 // Check returns the *ConfigError that Client, for the initiator, or Server would return; nil if there is none. It

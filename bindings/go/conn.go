@@ -74,6 +74,8 @@ type ConnectionState struct {
 	Payloads [][]byte
 }
 
+var errZeroConn = errors.New("noise: neither Client nor Server nor Dial nor Accept has made this Conn")
+
 // Client returns the initiator's side of a channel over conn, and writes nothing yet. A *ConfigError says what
 // is wrong with the Config.
 func Client(conn net.Conn, config *Config) (*Conn, error) {
@@ -136,7 +138,9 @@ func (c *Conn) Read(b []byte) (int, error) {
 		return 0, err
 	}
 	n, err := c.read(b)
-	c.isStuck.Store(err != nil && err != io.EOF && !c.isMute)
+	if err != net.ErrClosed { // a Read that meets Close says nothing of those before
+		c.isStuck.Store(err != nil && err != io.EOF && !c.isMute)
+	}
 	return n, err
 }
 
@@ -233,6 +237,9 @@ func (c *Conn) Write(b []byte) (int, error) {
 	}
 	c.out.Lock()
 	defer c.out.Unlock()
+	if c.closed.Load() { // a Write after Close says nothing of those before
+		return 0, net.ErrClosed
+	}
 	c.isUnfinished = true
 	for written := 0; ; {
 		if err := c.mayWrite(); err != nil {
@@ -347,7 +354,7 @@ func (c *Conn) failed(err error) error {
 	} else if errors.Is(err, io.EOF) { // that of the other party's stream alone is io.EOF
 		err = &lostError{err}
 	}
-	if !isDeadline(err) {
+	if !isDeadline(c.belowErr) {
 		c.outErr = err
 	}
 	return err
@@ -388,112 +395,27 @@ func (c *Conn) sendEnd() error {
 	return err
 }
 
-// endTime is how long Close waits until the end is sent.
-const endTime = 5 * time.Second
-
-// Close sends the end of the stream, for which it waits at most 5 seconds, closes the connection below, and overwrites
-// the keys. It sends no end, and returns ErrNoEnd, if the last Write has failed or is running, if the last Read has
-// failed, or after what Conn says; the other party's Read returns ErrCut then. After a CloseWrite that has succeeded,
-// where there was no handshake, and where the other party has ended its stream and closed, it returns only what closing
-// the connection below returns. If the stream isn't whole for another reason, call Abort.
-func (c *Conn) Close() error {
-	if c.closed.Swap(true) {
-		return net.ErrClosed
-	}
-	err := c.end()
-	if closing := c.shut(); err == nil {
-		err = closing
-	}
-	return err
-}
-
-// end sends the end of the stream for Close.
-func (c *Conn) end() error {
-	if !c.handshakeDone.Load() {
-		return nil
-	}
-	if !c.out.TryLock() {
-		return ErrNoEnd
-	}
-	defer c.out.Unlock()
-	broken := c.broken.Load()
-	switch {
-	case c.isEnded || !c.isFirst && c.isOneWay:
-		return nil
-	case broken != nil:
-		return &noEndError{*broken}
-	case c.outErr != nil:
-		return &noEndError{c.outErr}
-	case c.isUnfinished || c.isStuck.Load():
-		return ErrNoEnd
-	}
-	c.conn.SetWriteDeadline(time.Now().Add(endTime))
-	err := c.flush()
-	if err == nil {
-		if err = c.sendEnd(); err == nil || c.hasEnd.Load() && !isDeadline(c.belowErr) {
-			return nil // or the other party has ended its stream and closed, so nobody is there to read this end
-		}
-	}
-	return &noEndError{err}
-}
-
-// Abort closes the connection below, and overwrites the keys. It sends no end, so the other
-// party's Read returns ErrCut.
-func (c *Conn) Abort() error {
-	if c.closed.Swap(true) {
-		return net.ErrClosed
-	}
-	return c.shut()
-}
-
-// shut is what Close and Abort have in common. It doesn't wait for a handshake that is running.
-func (c *Conn) shut() error {
-	close(c.closing)
-	c.stateMutex.Lock()
-	if c.cancel != nil {
-		c.cancel()
-	}
-	c.stateMutex.Unlock()
-	err := c.closeBelow() // ends each Read and Write that is running
-	c.wipe()
-	return err
-}
-
-// wipe overwrites the keys, unless a goroutine runs the handshake: at its end that goroutine does it.
-func (c *Conn) wipe() {
-	select {
-	case c.handshaking <- struct{}{}:
-		defer func() { <-c.handshaking }()
-	default:
-		return
-	}
-	if c.handshake != nil {
-		c.handshake.Close()
-		c.handshake = nil
-	}
-	if !c.handshakeDone.Load() && c.handshakeErr == nil {
-		c.handshakeErr = net.ErrClosed
-	}
-	c.out.Lock()
-	defer c.out.Unlock()
-	c.in.Lock()
-	defer c.in.Unlock()
-	c.sender.wipe()
-	c.receiver.wipe()
-	c.came.drop()
-	wipe(c.owed)
-	c.rest, c.inErr = nil, net.ErrClosed
-	c.pending, c.pendingRoom, c.owed, c.outErr = nil, nil, nil, net.ErrClosed
-}
-
 // LocalAddr returns that of the connection below.
-func (c *Conn) LocalAddr() net.Addr { return c.conn.LocalAddr() }
+func (c *Conn) LocalAddr() net.Addr {
+	if c.conn == nil {
+		return nil
+	}
+	return c.conn.LocalAddr()
+}
 
 // RemoteAddr returns that of the connection below.
-func (c *Conn) RemoteAddr() net.Addr { return c.conn.RemoteAddr() }
+func (c *Conn) RemoteAddr() net.Addr {
+	if c.conn == nil {
+		return nil
+	}
+	return c.conn.RemoteAddr()
+}
 
 // SetDeadline sets both deadlines.
 func (c *Conn) SetDeadline(t time.Time) error {
+	if c.conn == nil {
+		return errZeroConn
+	}
 	err := c.conn.SetDeadline(t)
 	c.isStuck.Store(false)
 	c.keepWriteDeadline(t)
@@ -503,6 +425,9 @@ func (c *Conn) SetDeadline(t time.Time) error {
 // SetReadDeadline sets the deadline of Read, also for messages of the handshake that a Read or a Write waits for. After
 // one that has passed the channel is still usable, also if it has passed in the handshake.
 func (c *Conn) SetReadDeadline(t time.Time) error {
+	if c.conn == nil {
+		return errZeroConn
+	}
 	err := c.conn.SetReadDeadline(t)
 	c.isStuck.Store(false)
 	return err
@@ -512,6 +437,9 @@ func (c *Conn) SetReadDeadline(t time.Time) error {
 // doesn't limit how long a Write waits for the other party's messages of the handshake, as SetReadDeadline and
 // Config.HandshakeTimeout do. After one that has passed the channel is still usable.
 func (c *Conn) SetWriteDeadline(t time.Time) error {
+	if c.conn == nil {
+		return errZeroConn
+	}
 	err := c.conn.SetWriteDeadline(t)
 	c.keepWriteDeadline(t)
 	return err

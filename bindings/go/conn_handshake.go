@@ -2,6 +2,7 @@ package noise
 
 import (
 	"context"
+	"errors"
 	"io"
 	"net"
 	"time"
@@ -18,8 +19,11 @@ func (c *Conn) Handshake() error { return c.HandshakeContext(context.Background(
 // A deadline of the connection that passes ends this call alone: a later one continues. After any other error the
 // connection below is closed, and each later call returns that error.
 func (c *Conn) HandshakeContext(ctx context.Context) error {
-	if c.handshakeDone.Load() {
+	switch {
+	case c.handshakeDone.Load():
 		return nil
+	case c.conn == nil:
+		return errZeroConn
 	}
 	if err := c.takeTurn(ctx); err != nil {
 		return err
@@ -99,7 +103,7 @@ func (c *Conn) runUnder(ctx context.Context) (err error, isFinal bool) {
 	switch {
 	case c.closed.Load():
 		return net.ErrClosed, true
-	case hasEnded:
+	case hasEnded || err != nil && ctx.Err() != nil && errors.Is(err, ctx.Err()): // perhaps from a function of Config
 		return ctx.Err(), true
 	case isSlow:
 		return ErrHandshakeTimeout, true
@@ -119,7 +123,11 @@ func (c *Conn) limited(ctx context.Context) (context.Context, func() bool) {
 	}
 	ctx, cancel := context.WithDeadline(ctx, c.mustEnd)
 	timer := time.AfterFunc(time.Until(c.mustEnd), func() { c.closeBelow() })
-	return ctx, func() bool { cancel(); return timer.Stop() }
+	return ctx, func() bool {
+		isLate := errors.Is(ctx.Err(), context.DeadlineExceeded)
+		cancel()
+		return timer.Stop() && !isLate
+	}
 }
 
 func (c *Conn) cancelAtClose(cancel context.CancelFunc) {
@@ -250,8 +258,12 @@ func (c *Conn) receiveMessage() (message []byte, used int, err error) {
 		if code == 0 && int(result.Len) <= most {
 			return left[result.From : result.From+result.Len], int(result.Used), nil
 		}
-		if code == 0 || len(left) >= 2 && len(left)+int(result.Wanted)-2 > most {
-			return nil, 0, &HandshakeError{Message: index + 1, Err: ErrTooLong}
+		count := int(result.Len)
+		if code != 0 {
+			count = len(left) + int(result.Wanted) - 2
+		}
+		if code == 0 || len(left) >= 2 && count > most {
+			return nil, 0, &HandshakeError{Message: index + 1, Err: &tooLong{count, most}}
 		}
 		err := c.came.from(c.conn, int(result.Wanted))
 		switch {

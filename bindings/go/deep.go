@@ -1,26 +1,12 @@
 package noise
 
-import (
-	"runtime"
-	"sync"
+import "example.org/yulimosar/noise/internal/library"
 
-	"example.org/yulimosar/noise/internal/library"
-)
+// The calls of a handshake take some 15 KB of stack. Where they run on a goroutine's stack, those of connections run on
+// goroutines of their own, which end with them, so that the stacks of the connections, of which there may be many, stay
+// small.
 
-// The calls of a handshake take some 15 KB of stack. Where they run on a goroutine's stack, as many
-// goroutines as there are processors make those of connections, so that the stacks of the connections, of
-// which there may be many, stay small.
-
-type deepCall struct {
-	call func()
-	done chan struct{}
-}
-
-var (
-	deepCalls  = make(chan deepCall)
-	deepOnce   sync.Once
-	noDeepCall = !library.OnStack
-)
+var noDeepCall = !library.OnStack
 
 // deep makes calls of the library that need much stack. They don't wait for anything.
 func deep(call func()) {
@@ -28,17 +14,10 @@ func deep(call func()) {
 		call()
 		return
 	}
-	deepOnce.Do(func() {
-		for i := 0; i < runtime.GOMAXPROCS(0); i++ {
-			go func() {
-				for it := range deepCalls {
-					it.call()
-					close(it.done)
-				}
-			}()
-		}
-	})
 	done := make(chan struct{})
-	deepCalls <- deepCall{call, done}
+	go func() {
+		defer close(done)
+		call()
+	}()
 	<-done
 }

@@ -4,6 +4,7 @@ import (
 	"errors"
 	"fmt"
 	"io"
+	"net"
 	"os"
 	"strings"
 )
@@ -22,7 +23,7 @@ var texts = map[Code]string{
 	ErrPSKCount:          "the number of psks isn't the number of psk tokens",
 	ErrWantedPSK:         "the message needs a psk",
 	ErrNotYourTurn:       "it is the other party's turn",
-	ErrTooLong:           "the message would be too long, or is",
+	ErrTooLong:           "more bytes than a message may have",
 	ErrDone:              "all messages of the handshake have passed",
 	ErrEnded:             "a refused message has ended the handshake",
 	codeAgreement:        "something else than the library has changed the state",
@@ -72,8 +73,8 @@ func asError(code uint32) error {
 }
 
 var (
-	// ErrClosed is returned by what was closed.
-	ErrClosed = errors.New("noise: closed")
+	// ErrClosed is net.ErrClosed, which errors.Is finds in what is returned by a thing that was closed.
+	ErrClosed = net.ErrClosed
 	// ErrCut is returned if the connection was lost before the end of the other party's stream, or in the handshake.
 	// It is an io.ErrUnexpectedEOF, and never an io.EOF. If the connection below had an error, as ECONNRESET,
 	// errors.Is finds that too.
@@ -93,10 +94,40 @@ var (
 	ErrDirection = errors.New("noise: the CipherState is for the other direction")
 	// ErrLowOrder is returned if X25519 of the other party's public key is zeros (the framework's 12.1).
 	ErrLowOrder = errors.New("noise: X25519 of the other party's public key is zeros")
+	// ErrZeroPSK is returned for a psk of zeros, as of one that was never set, unless Config.AllowZeroPSK is set.
+	ErrZeroPSK = errors.New("noise: a psk is zeros")
 	// ErrHandshakeTimeout is returned if a handshake took longer than Config.HandshakeTimeout. It is an
 	// os.ErrDeadlineExceeded, and a net.Error.
 	ErrHandshakeTimeout error = tooSlow{}
 )
+
+// closedError is an ErrClosed of something else than a network connection.
+type closedError struct{ text string }
+
+func (e *closedError) Error() string        { return e.text }
+func (e *closedError) Is(target error) bool { return target == ErrClosed }
+
+var (
+	errClosed = &closedError{"noise: closed"}
+	errWiped  = &closedError{"noise: the key pair was wiped"}
+)
+
+// tooLong says that a message of a handshake is longer than Config allows. It is an ErrTooLong.
+type tooLong struct{ count, most int }
+
+func (e *tooLong) Is(target error) bool { return target == ErrTooLong }
+func (e *tooLong) Error() string {
+	return fmt.Sprintf("it has %d bytes, and Config allows %d: perhaps the other party speaks another protocol",
+		e.count, e.most)
+}
+
+// zeroResult is an ErrLowOrder of a DH that isn't a KeyPair.
+type zeroResult struct{}
+
+func (zeroResult) Is(target error) bool { return target == ErrLowOrder }
+func (zeroResult) Error() string {
+	return "Agree has returned zeros: it has failed, or the other party's public key is of low order"
+}
 
 type tooSlow struct{}
 
@@ -151,6 +182,7 @@ func (e *overError) Is(target error) bool {
 
 var (
 	errHandshakeClosed = &overError{"noise: the handshake was closed", true}
+	errUnmade          = &overError{"noise: NewHandshakeState hasn't made this HandshakeState", false}
 	errUsedUp          = &overError{"noise: the handshake is used up: its keys were handed on", false}
 )
 

@@ -25,7 +25,11 @@ type HandshakeState struct {
 	below     net.Conn   // the connection below, if there is one
 	isTrying  bool       // a message is tried: a fault leaves the handshake as it was
 	isOfConn  bool       // of a Conn, of which there may be many
+	isWanted  bool       // a *WantedPSKError was returned for the message that is due
+	pskCount  int        // how many psks SetPSK has passed since
 	at        library.StageResult
+
+	isForVectors bool // a pre-message may have an ephemeral key
 }
 
 // remoteKeys are the public keys of the other party, as far as they are known.
@@ -81,6 +85,9 @@ func started(config *Config, h *HandshakeState, isLate bool) (*HandshakeState, e
 	if h.pattern.fault != nil {
 		return nil, &ConfigError{"Pattern", h.pattern.fault}
 	}
+	if h.pattern.early && !h.isForVectors {
+		return nil, &ConfigError{"Pattern", errEarly}
+	}
 	if err := h.config.check(h.pattern, h.initiator, isLate); err != nil {
 		return nil, err
 	}
@@ -104,6 +111,9 @@ func (h *HandshakeState) start() Code {
 	setup.E = keyFor(h.ephemeral.Public())
 	if h.config.Static != nil {
 		setup.S = keyFor(h.config.Static.Public())
+	}
+	if h.remote.hasE {
+		setup.RemoteE = keyFor(h.remote.e)
 	}
 	if h.pattern.knows(h.initiator) {
 		setup.RemoteS = keyFor(*h.config.PeerStatic)
@@ -145,7 +155,7 @@ func (h *HandshakeState) look() {
 // Done reports whether all messages have passed.
 func (h *HandshakeState) Done() bool {
 	passed, messages, _ := h.stage()
-	return h.ended == nil && passed == messages
+	return h.isOver() == nil && passed == messages
 }
 
 // WritesNext reports whether this party writes the next message.
@@ -158,6 +168,14 @@ func (h *HandshakeState) WritesNext() bool {
 func (h *HandshakeState) MessageIndex() int {
 	passed, _, _ := h.stage()
 	return passed
+}
+
+// isOver returns why the handshake is over; nil if it isn't.
+func (h *HandshakeState) isOver() error {
+	if h.ended == nil && h.memory == nil {
+		return errUnmade
+	}
+	return h.ended
 }
 
 // end ends the handshake at a token of the message that is due, and overwrites keys and X25519 results. A
@@ -245,7 +263,7 @@ func agreed(ctx context.Context, own DH, remote PublicKey) (result Secret, err e
 		return result, err
 	}
 	if result, err = own.Agree(ctx, remote); err == nil && result == (Secret{}) {
-		err = ErrLowOrder
+		err = zeroResult{}
 	}
 	return result, err
 }
@@ -279,6 +297,7 @@ func (h *HandshakeState) called(ctx context.Context, keys *remoteKeys, call func
 			err = h.supply(ctx, h.wanted(keys), PublicKey(result.Remote))
 		case uint32(ErrWantedPSK):
 			if h.config.PSKFor == nil {
+				h.isWanted = true
 				return 0, h.wantedPSK()
 			}
 			err = h.choose(ctx)
@@ -320,16 +339,48 @@ func (h *HandshakeState) choose(ctx context.Context) error {
 }
 
 // SetPSK passes the psk of the first psk token that has none: after a *WantedPSKError, or before. It is for a Config
-// with neither PSKs nor PSKFor. ErrPSKCount: no token that is still to come lacks its psk. A psk that was passed can't
-// be replaced: if it is wrong, ReadMessage returns ErrTag.
+// with neither PSKs nor PSKFor. ErrPSKCount: no token that is still to come lacks its psk; ErrZeroPSK. To replace a
+// psk call UnsetPSK first.
 func (h *HandshakeState) SetPSK(psk PSK) error {
-	if h.ended != nil {
-		return h.ended
+	if err := h.isOver(); err != nil {
+		return err
 	}
 	defer wipe(psk[:])
+	if psk == (PSK{}) && !h.config.AllowZeroPSK {
+		return ErrZeroPSK
+	}
 	var code uint32
 	h.deep(func() { code = library.SetPsk(&h.memory.opaque, &psk[0]) })
+	if code == 0 && h.isWanted && !h.isTrying {
+		h.pskCount++
+	}
 	return asError(code)
+}
+
+// UnsetPSK takes back the last psk that no message has used yet, if there is one.
+func (h *HandshakeState) UnsetPSK() error {
+	if err := h.isOver(); err != nil {
+		return err
+	}
+	var code uint32
+	h.deep(func() { code = library.UnsetPsk(&h.memory.opaque) })
+	if h.pskCount > 0 {
+		h.pskCount--
+	}
+	return asError(code)
+}
+
+// messagePassed notes that the message that was due has passed, with its psks.
+func (h *HandshakeState) messagePassed() {
+	h.next++
+	h.isWanted, h.pskCount = false, 0
+}
+
+// takeBack takes back the psks that were passed for a message that is refused.
+func (h *HandshakeState) takeBack() {
+	for h.pskCount > 0 && h.UnsetPSK() == nil {
+	}
+	h.isWanted = false
 }
 
 // WriteMessage appends the next message, with this payload, to dst. ErrNotYourTurn, ErrDone, ErrTooLong and a
@@ -340,8 +391,8 @@ func (h *HandshakeState) WriteMessage(dst, payload []byte) ([]byte, error) {
 
 // WriteMessageContext is WriteMessage with the context that VerifyPeer, PSKFor and Agree get.
 func (h *HandshakeState) WriteMessageContext(ctx context.Context, dst, payload []byte) ([]byte, error) {
-	if h.ended != nil {
-		return dst, h.ended
+	if err := h.isOver(); err != nil {
+		return dst, err
 	}
 	m, size, code := h.memory, uint(0), uint32(0)
 	h.deep(func() { code = library.MessageLen(&m.opaque, uint(len(payload)), &size) })
@@ -370,7 +421,7 @@ func (h *HandshakeState) WriteMessageContext(ctx context.Context, dst, payload [
 	case made != 0:
 		return dst, made
 	}
-	h.next++
+	h.messagePassed()
 	return whole[:len(dst)+int(m.result.Len)], nil
 }
 
@@ -389,14 +440,15 @@ func (h *HandshakeState) ReadMessageContext(ctx context.Context, dst, message []
 // the handshake is as it was, and another message can be read in the place of the one that is refused. So a message
 // that was altered, repeated or invented doesn't end the handshake.
 func (h *HandshakeState) TryReadMessage(ctx context.Context, dst, message []byte) ([]byte, error) {
-	if h.ended != nil {
-		return dst, h.ended
+	if err := h.isOver(); err != nil {
+		return dst, err
 	}
 	was, before := *h, *h.memory
 	h.isTrying = true
 	defer func() {
 		if h.memory != nil && h.ended != nil {
 			*h.memory, *h = before, was
+			h.takeBack()
 		}
 		h.isTrying = false
 		before.wipe()
@@ -408,8 +460,8 @@ func (h *HandshakeState) TryReadMessage(ctx context.Context, dst, message []byte
 type readCall func(h *library.Handshake, message *byte, messageLen uint, result *library.Result) uint32
 
 func (h *HandshakeState) readMessage(ctx context.Context, dst, message []byte, call readCall) ([]byte, error) {
-	if h.ended != nil {
-		return dst, h.ended
+	if err := h.isOver(); err != nil {
+		return dst, err
 	}
 	passed, messages, writes := h.stage()
 	switch {
@@ -455,7 +507,7 @@ func (h *HandshakeState) read(ctx context.Context, received []byte, read readCal
 		return nil, h.end("", code)
 	}
 	h.remote = keys
-	h.next++
+	h.messagePassed()
 	return work[m.result.From : m.result.From+m.result.Len], nil
 }
 
@@ -509,8 +561,8 @@ func (h *HandshakeState) HandshakeHash() (hash [KeyLen]byte) {
 
 // Split returns the two directions of the transport, after all messages have passed. The handshake is used up.
 func (h *HandshakeState) Split() (*Sender, *Receiver, error) {
-	if h.ended != nil {
-		return nil, nil, h.ended
+	if err := h.isOver(); err != nil {
+		return nil, nil, err
 	}
 	s, r := new(Sender), new(Receiver)
 	var code uint32
@@ -526,8 +578,8 @@ func (h *HandshakeState) Split() (*Sender, *Receiver, error) {
 
 // splitStream makes the two directions of a stream, after all messages have passed. The handshake is used up.
 func (h *HandshakeState) splitStream(s *streamSenderMemory, r *streamReceiverMemory) error {
-	if h.ended != nil {
-		return h.ended
+	if err := h.isOver(); err != nil {
+		return err
 	}
 	var code uint32
 	h.deep(func() { code = library.FinishStream(&h.memory.opaque, uint64(h.config.Interval), &s.opaque, &r.opaque) })
@@ -541,8 +593,8 @@ func (h *HandshakeState) splitStream(s *streamSenderMemory, r *streamReceiverMem
 // Datagrams returns the two directions for datagrams, after all messages have passed. A datagram may arrive after
 // others whose nonces are less than window greater; window is 64, 256 or 1024. The handshake is used up.
 func (h *HandshakeState) Datagrams(window int) (*DatagramSender, *DatagramReceiver, error) {
-	if h.ended != nil {
-		return nil, nil, h.ended
+	if err := h.isOver(); err != nil {
+		return nil, nil, err
 	}
 	if window != 64 && window != 256 && window != 1024 {
 		return nil, nil, ErrWindow
@@ -562,8 +614,8 @@ func (h *HandshakeState) Datagrams(window int) (*DatagramSender, *DatagramReceiv
 // CipherStates returns the standard's CipherStates (the framework's 5.2), after all messages have passed: for a
 // protocol whose packets have associated data, name their nonces or have a form of their own. The handshake is used up.
 func (h *HandshakeState) CipherStates() (send, receive *CipherState, err error) {
-	if h.ended != nil {
-		return nil, nil, h.ended
+	if err := h.isOver(); err != nil {
+		return nil, nil, err
 	}
 	send, receive = new(CipherState), &CipherState{receives: true}
 	var code uint32

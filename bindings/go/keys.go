@@ -14,10 +14,10 @@ import (
 // PublicKey is a public key of X25519. It prints, and encodes itself as text, as 64 hexadecimal digits.
 type PublicKey [KeyLen]byte
 
-// Secret is a secret key of X25519, or a result of it. It doesn't print its bytes: secret[:] has them.
+// Secret is a secret key of X25519, or a result of it. It doesn't print or encode its bytes: secret[:] has them.
 type Secret [KeyLen]byte
 
-// PSK is a pre-shared key. It doesn't print its bytes: psk[:] has them.
+// PSK is a pre-shared key. It doesn't print or encode its bytes: psk[:] has them.
 type PSK [KeyLen]byte
 
 // ParsePublicKey reads 64 hexadecimal digits, with or without white space around them.
@@ -70,17 +70,31 @@ func (k PublicKey) Format(to fmt.State, verb rune) {
 
 const hidden = "(secret)"
 
+var errSecret = errors.New("noise: a secret key or psk isn't encoded with what has it: key[:] has its bytes")
+
 // String returns no byte of the key.
 func (Secret) String() string { return hidden }
 
 // Format prints no byte of the key, for any verb of the package fmt.
 func (Secret) Format(to fmt.State, _ rune) { io.WriteString(to, hidden) }
 
+// MarshalText returns an error: encoding/json and the like don't encode what has a secret key.
+func (Secret) MarshalText() ([]byte, error) { return nil, errSecret }
+
+// MarshalBinary returns an error: encoding/gob and the like don't encode what has a secret key.
+func (Secret) MarshalBinary() ([]byte, error) { return nil, errSecret }
+
 // String returns no byte of the key.
 func (PSK) String() string { return hidden }
 
 // Format prints no byte of the key, for any verb of the package fmt.
 func (PSK) Format(to fmt.State, _ rune) { io.WriteString(to, hidden) }
+
+// MarshalText returns an error: encoding/json and the like don't encode what has a psk.
+func (PSK) MarshalText() ([]byte, error) { return nil, errSecret }
+
+// MarshalBinary returns an error: encoding/gob and the like don't encode what has a psk.
+func (PSK) MarshalBinary() ([]byte, error) { return nil, errSecret }
 
 // DH is the static key pair of a party. The secret key may be in a device: nothing but the results
 // of X25519 is asked of it.
@@ -154,6 +168,9 @@ func (k *KeyPair) Wipe() { k.secret.wipe() }
 
 // Format prints the public key alone, for any verb of the package fmt.
 func (k KeyPair) Format(to fmt.State, _ rune) { fmt.Fprintf(to, "key pair %v", k.public) }
+
+// MarshalText returns an error: encoding/json and the like don't encode what has a key pair.
+func (KeyPair) MarshalText() ([]byte, error) { return nil, errSecret }
 
 func wipe(b []byte) {
 	for i := range b {

@@ -7,6 +7,7 @@ import (
 	"io"
 	"math/rand"
 	"net"
+	"os"
 	"strings"
 	"sync"
 	"testing"
@@ -283,4 +284,5 @@ func (e *memoryEnd) Close() error {
 	return nil
 }
 
+func (e *memoryEnd) SetReadDeadline(time.Time) error  { return os.ErrNoDeadline }
 func (e *memoryEnd) SetWriteDeadline(time.Time) error { return nil }

@@ -103,7 +103,7 @@ func TestSecretOfEachPeer(t *testing.T) {
 			errs := run(key, secrets[key.Public()])
 			must(t, errs[0], errs[1])
 		}
-		errs := run(stranger, PSK{})
+		errs := run(stranger, pskOf(7))
 		wants(t, errs[1], errUnknown)
 		if it.pattern == "IKpsk2" {
 			wants(t, errs[0], ErrCut) // and no message 2
@@ -122,7 +122,10 @@ func TestFaultsOfPSKFor(t *testing.T) {
 	for _, it := range []struct {
 		secrets []PSK
 		want    error
-	}{{nil, ErrPSKCount}, {make([]PSK, 2), ErrPSKCount}, {make([]PSK, 1), ErrTag}, {[]PSK{pskOf(1)}, errUnknown}} {
+	}{
+		{nil, ErrPSKCount}, {make([]PSK, 2), ErrPSKCount}, {make([]PSK, 1), ErrZeroPSK}, {[]PSK{pskOf(7)}, ErrTag},
+		{[]PSK{pskOf(1)}, errUnknown},
+	} {
 		client, server := configs(t, "XXpsk3")
 		isAsked := false
 		server.PSKs, server.PSKFor = nil, func(context.Context, PublicKey) ([]PSK, error) {

@@ -34,7 +34,7 @@ func (s *Sender) Seal(dst, payload []byte) ([]byte, error) {
 
 func (s *Sender) seal(dst, payload []byte) ([]byte, error) {
 	if s.closed {
-		return dst, ErrClosed
+		return dst, errClosed
 	}
 	if len(payload) > MaxMessage-TagLen {
 		return dst, ErrTooLong
@@ -87,7 +87,7 @@ func (r *Receiver) Open(dst, message []byte) ([]byte, error) {
 
 func (r *Receiver) open(dst, message []byte) ([]byte, error) {
 	if r.closed {
-		return dst, ErrClosed
+		return dst, errClosed
 	}
 	if len(message) > MaxMessage {
 		return dst, ErrLength

@@ -27,7 +27,7 @@ func (s *secretKey) bytes() Secret { return s.key }
 // agree fails if the result is zeros.
 func (s *secretKey) agree(remote *PublicKey) (result Secret, err error) {
 	if !s.isSet {
-		return result, ErrClosed
+		return result, errWiped
 	}
 	made, err := curve.X25519(s.key[:], remote[:])
 	if err != nil {

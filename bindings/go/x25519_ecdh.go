@@ -29,7 +29,7 @@ func (s *secretKey) bytes() (secret Secret) {
 // agree fails if the result is zeros.
 func (s *secretKey) agree(remote *PublicKey) (result Secret, err error) {
 	if s.key == nil {
-		return result, ErrClosed
+		return result, errWiped
 	}
 	other, err := ecdh.X25519().NewPublicKey(remote[:])
 	if err != nil {

@@ -2,14 +2,14 @@ package main
 
 import (
 	"errors"
-	"fmt"
 	"io"
 	"math"
 	"net"
 	"os"
-	"os/exec"
 	"strings"
 	"time"
+
+	"example.org/yulimosar/noise"
 )
 
 // local is what a channel is joined to: what is read is sent, and what comes is written.
@@ -20,13 +20,13 @@ type local struct {
 	close func(isWhole bool) error
 }
 
-// open returns what the next channel is joined to.
-func (o *options) open() (*local, error) {
+// open returns what the channel with a peer is joined to.
+func (o *options) open(peer *noise.Conn) (*local, error) {
 	switch {
 	case o.forward != "":
 		return forwarded(o.forward, o.timeout)
 	case o.exec != "":
-		return executed(o.exec)
+		return executed(o.exec, peer)
 	}
 	done := os.Stdout.Close
 	if o.keep { // more connections come
@@ -41,60 +41,23 @@ func forwarded(address string, timeout time.Duration) (*local, error) {
 	if err != nil {
 		return nil, err
 	}
-	tcp := conn.(*net.TCPConn)
+	return ofTCP(conn.(*net.TCPConn)), nil
+}
+
+// ofTCP joins to a TCP connection.
+func ofTCP(tcp *net.TCPConn) *local {
 	return &local{tcp, tcp, tcp.CloseWrite, func(isWhole bool) error {
 		if !isWhole {
 			tcp.SetLinger(0)
 		}
 		return tcp.Close()
-	}}, nil
-}
-
-// executed joins to the standard input and output of a new process, which after a fault is killed. A status
-// other than 0 is a fault.
-func executed(command string) (*local, error) {
-	cmd := exec.Command("/bin/sh", "-c", command)
-	cmd.Stderr = os.Stderr
-	in, err := cmd.StdinPipe()
-	if err != nil {
-		return nil, err
-	}
-	out, err := cmd.StdoutPipe()
-	if err != nil {
-		return nil, err
-	}
-	if err := cmd.Start(); err != nil {
-		return nil, err
-	}
-	return &local{&untilEnd{out, cmd.Wait}, in, in.Close, func(isWhole bool) error {
-		if !isWhole {
-			cmd.Process.Kill()
-		}
-		in.Close()
-		return nil
-	}}, nil
-}
-
-// untilEnd asks at the end of what it reads whether that is all.
-type untilEnd struct {
-	io.Reader
-	ask func() error
-}
-
-func (u *untilEnd) Read(b []byte) (int, error) {
-	n, err := u.Reader.Read(b)
-	if n == 0 && err == io.EOF {
-		if ended := u.ask(); ended != nil {
-			return 0, fmt.Errorf("-exec: %w", ended)
-		}
-	}
-	return n, err
+	}}
 }
 
 // setInput sets what is read for a connection: with -keep all that is left of a file, for each anew,
 // or nothing of a terminal.
 func (o *options) setInput(in *os.File) error {
-	if o.forward != "" || o.exec != "" {
+	if o.forward != "" || o.exec != "" || o.local != "" {
 		return nil
 	}
 	info, err := in.Stat()

@@ -19,39 +19,59 @@ func join(o *options) error {
 	if err != nil {
 		return err
 	}
+	if o.progress != nil {
+		defer o.progress.show()()
+	}
 	if o.connect != "" {
 		o.warn()
-		tcp, err := net.DialTimeout("tcp", o.connect, o.timeout)
+		if o.local != "" {
+			return o.near(config)
+		}
+		c, below, err := o.reach(config)
 		if err != nil {
 			return err
 		}
-		below := &counted{TCPConn: tcp.(*net.TCPConn), isShown: o.verbose}
-		c, err := noise.Client(below, config)
-		if err == nil {
-			err = c.Handshake()
-		}
-		if err != nil {
-			return err
-		}
-		return o.carry(c, below)
+		return o.carry(c, below, func() (*local, error) { return o.open(c) })
 	}
 	l, err := net.Listen("tcp", o.listen)
 	if err != nil {
 		return err
 	}
-	if o.verbose || strings.HasSuffix(o.listen, ":0") {
-		fmt.Fprintln(os.Stderr, "listening on", l.Addr()) // the first line
-	}
+	o.tell(l, o.listen)
 	o.warn()
 	return o.serve(l, config)
 }
 
+// tell says where a listener is, if that isn't known.
+func (o *options) tell(l net.Listener, asked string) {
+	if o.verbose || strings.HasSuffix(asked, ":0") {
+		fmt.Fprintln(os.Stderr, "listening on", l.Addr()) // the first line
+	}
+}
+
+// reach connects, and runs the handshake.
+func (o *options) reach(config *noise.Config) (*noise.Conn, *counted, error) {
+	tcp, err := net.DialTimeout("tcp", o.connect, o.timeout)
+	if err != nil {
+		return nil, nil, err
+	}
+	below := &counted{TCPConn: tcp.(*net.TCPConn), isShown: o.verbose}
+	c, err := noise.Client(below, config)
+	if err == nil {
+		err = c.Handshake()
+	}
+	if err != nil {
+		below.Close()
+	}
+	return c, below, err
+}
+
 var errIdle = errors.New("nothing has come or gone for the time that -idle names")
 
-// carry moves what there is to send and what comes until both parties have sent all. Where the other party is noisecat
-// too, each says that it has written out all, and only that is no fault. After a fault it resets the connection, so
-// that the other party gets an error too.
-func (o *options) carry(c *noise.Conn, below *counted) error {
+// carry joins a channel to a target, and moves what there is to send and what comes until both parties have sent all.
+// Where the other party is noisecat too, each says that it has written out all, and only that is no fault. After a
+// fault it resets the connection, so that the other party gets an error too.
+func (o *options) carry(c *noise.Conn, below *counted, open func() (*local, error)) error {
 	if o.verbose {
 		s := c.ConnectionState()
 		fmt.Fprintf(os.Stderr, "%s\nhandshake hash: %x\n", s.ProtocolName, s.HandshakeHash)
@@ -59,8 +79,11 @@ func (o *options) carry(c *noise.Conn, below *counted) error {
 			fmt.Fprintf(os.Stderr, "peer's key: %v\n", *s.PeerStatic)
 		}
 	}
-	target, err := o.open()
+	target, err := open()
 	if err == nil {
+		if o.progress != nil {
+			target = o.progress.over(target)
+		}
 		err = o.move(c, below, target)
 		if closing := target.close(err == nil); err == nil {
 			err = closing

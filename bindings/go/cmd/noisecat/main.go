@@ -12,7 +12,13 @@
 // port, and prints the address on standard error.
 //
 // -forward HOST:PORT joins each channel to a TCP connection of its own, and -exec COMMAND to a process of its own; with
-// -keep all of them at once.
+// -keep all of them at once. The command has the other party's public key and address in NOISECAT_PEER_KEY, if there is
+// one, and NOISECAT_PEER_ADDRESS. What it doesn't read is dropped, and a status other than 0 is a fault. After a fault
+// it is killed, with what it has started in its process group.
+//
+//	noisecat -connect host:9000 -key client.key -peer KEY -local 127.0.0.1:8080
+//
+// accepts plain connections, as of a browser, and joins each to a channel of its own.
 //
 // The status is 0 if both parties have sent all and, where both are noisecat, each has said over the channel that it
 // has written out all; 1 after a fault, and 2 if the words of the command are wrong, each with a sentence on standard
@@ -42,11 +48,13 @@ const usage = `usage: noisecat -listen ADDRESS  [-key FILE] [-allow KEY,..] [-ps
 `
 
 type options struct {
-	listen, connect, key, allow, peer, pattern, psk, prologue, forward, exec string
+	listen, connect, local, key, allow, peer, pattern, psk, prologue, forward, exec string
 
 	interval                    uint64
 	timeout, idle               time.Duration
 	any, keep, verbose, version bool
+	isCounted                   bool
+	progress                    *progress        // nil: nothing is shown
 	input                       func() io.Reader // what is read for a connection
 }
 
@@ -87,6 +95,8 @@ func run(words []string) error {
 		return wrong{errors.New("name either -listen or -connect: noisecat -h shows all flags")}
 	case o.keep && o.listen == "":
 		return wrong{errors.New("-keep is for -listen")}
+	case o.local != "" && (o.connect == "" || o.forward != "" || o.exec != ""):
+		return wrong{errors.New("-local is for -connect, without -forward and -exec")}
 	case o.forward != "" && o.exec != "":
 		return wrong{errors.New("name either -forward or -exec")}
 	case o.idle < 0:
@@ -99,6 +109,9 @@ func run(words []string) error {
 	}
 	if err := o.setInput(os.Stdin); err != nil {
 		return err
+	}
+	if o.isCounted {
+		o.progress = new(progress)
 	}
 	return join(&o)
 }
@@ -127,9 +140,13 @@ func (o *options) flags() *flag.FlagSet {
 		"join each channel to a TCP connection to this `address`, in place of standard input and output")
 	flags.StringVar(&o.exec, "exec", "",
 		"join each channel to the standard input and output of this `command` of the shell")
+	flags.StringVar(&o.local, "local", "",
+		"with -connect: listen at this `address`, as 127.0.0.1:8080, and join each connection to a channel of its own")
 	flags.DurationVar(&o.idle, "idle", 0,
 		"end a channel over which nothing has come or gone for this `time`; "+
 			"0: never, and with -keep on standard output 1m0s")
+	flags.BoolVar(&o.isCounted, "progress", false,
+		"show each second how many bytes were sent and received, and the rate, on standard error")
 	flags.BoolVar(&o.verbose, "v", false,
 		"show how many bytes go over the connection, and the handshake hash, on standard error")
 	flags.BoolVar(&o.version, "version", false, "print the version")

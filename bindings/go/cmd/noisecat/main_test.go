@@ -246,7 +246,7 @@ func TestListenerGoesOn(t *testing.T) {
 	}
 	defer noisy.Close()
 	io.WriteString(noisy, "GET / HTTP/1.0\r\n\r\n")
-	l.says(t, noisy.LocalAddr().String()+": message 1: the message would be too long")
+	l.says(t, noisy.LocalAddr().String()+": message 1: it has 18245 bytes, and Config allows")
 	for _, it := range []struct{ key, peer, more, client, server string }{
 		{"other", server, "", "", "message 3, token s: the other party's key isn't allowed: " + other},
 		{
@@ -484,6 +484,8 @@ func TestOptions(t *testing.T) {
 		"2 name either -listen or -connect":                 "-key k",
 		"2 name either -listen or -connect: noisecat -h":    "-listen 127.0.0.1:0 -connect 127.0.0.1:1",
 		"2 -keep is for -listen":                            "-connect 127.0.0.1:1 -keep -insecure-any",
+		"2 -local is for -connect":                          "-listen 127.0.0.1:0 -local :0 -insecure-any",
+		"2 -local is for -connect, without -forward":        "-connect :1 -local :0 -exec cat -insecure-any",
 		"2 one word too many: now":                          "keygen now",
 		"2 one word too many:  now":                         "pubkey now",
 		"2 flag provided but not defined: -x":               "keygen -x",

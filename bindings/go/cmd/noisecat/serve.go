@@ -44,7 +44,7 @@ func (o *options) serve(l net.Listener, config *noise.Config) error {
 		if !o.keep {
 			stop()
 			l.Close()
-			return o.carry(next.c, next.below)
+			return o.carry(next.c, next.below, func() (*local, error) { return o.open(next.c) })
 		}
 		if o.forward != "" || o.exec != "" {
 			go o.carryOne(next)
@@ -56,7 +56,7 @@ func (o *options) serve(l net.Listener, config *noise.Config) error {
 
 // carryOne carries a connection of several, and says what went wrong.
 func (o *options) carryOne(next met) {
-	if err := o.carry(next.c, next.below); err != nil {
+	if err := o.carry(next.c, next.below, func() (*local, error) { return o.open(next.c) }); err != nil {
 		fmt.Fprintf(os.Stderr, "noisecat: %v: %s\n", next.below.RemoteAddr(), sentence(err))
 	}
 }
@@ -67,6 +67,16 @@ func (o *options) accept(ctx context.Context, l net.Listener, config *noise.Conf
 	var all []*coming // the oldest first
 	for {
 		below, err := l.Accept()
+		if err != nil && mayPass(err) { // too many files are open, as by strangers who say nothing
+			mutex.Lock()
+			if len(all) > 0 {
+				all = withoutOne(all)
+			}
+			mutex.Unlock()
+		}
+		if err != nil && acceptAgain(err) {
+			continue
+		}
 		if err != nil {
 			select {
 			case ready <- met{err: err}:

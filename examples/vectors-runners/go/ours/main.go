@@ -2,8 +2,6 @@
 package main
 
 import (
-	"bytes"
-	"crypto/rand"
 	"errors"
 	"fmt"
 	"strings"
@@ -44,9 +42,6 @@ func pairOf[T ~[32]byte](pair func(T) (*noise.KeyPair, error), b suite.Bytes) (*
 
 func start(g *suite.Setup, role string) (suite.Party, error) {
 	keys, name := g.Keys(role), strings.Split(strings.TrimPrefix(g.Protocol, "Noise_"), "_")[0]
-	if strings.HasPrefix(g.Before("initiator"), "e") || strings.HasPrefix(g.Before("responder"), "e") {
-		return nil, fmt.Errorf("%w: ephemeral keys in pre-messages", suite.ErrNotSupported)
-	}
 	if g.What != "name" && !strings.HasSuffix(g.Protocol, "_25519_ChaChaPoly_SHA256") {
 		return nil, fmt.Errorf("%w: another suite", suite.ErrNotSupported)
 	}
@@ -54,6 +49,7 @@ func start(g *suite.Setup, role string) (suite.Party, error) {
 		Pattern:              name + ":\n  " + strings.Join(g.Pattern, "\n  ") + "\n",
 		Prologue:             g.Prologue.Data,
 		InsecureAcceptAnyKey: true,
+		AllowZeroPSK:         true,
 	}
 	if g.What == "name" {
 		config.Pattern = g.Protocol
@@ -69,12 +65,13 @@ func start(g *suite.Setup, role string) (suite.Party, error) {
 		}
 		config.Static = pair
 	}
-	if len(keys.E.Data) > 0 { // the handshake draws its ephemeral key from here
-		rand.Reader = bytes.NewReader(keys.E.Data)
-	} else {
-		rand.Reader = bytes.NewReader(make([]byte, 32))
+	ephemeral, err := pairOf(noise.NewKeyPair, keys.E) // of zeros, if the party has none
+	if err != nil {
+		return nil, err
 	}
-	h, err := noise.NewHandshakeState(config, role == "initiator")
+	var peer *noise.PublicKey
+	setKey(&peer, keys.RE)
+	h, err := noise.NewHandshakeForVectors(config, role == "initiator", ephemeral, peer)
 	return &party{handshake: h}, err
 }
 
