@@ -44,7 +44,7 @@ export class Agreements {
    * undefined, is begun beside it.
    */
   of(pair, remote, next) {
-    if (!(pair instanceof KeyPair)) return pair.agree(remote);
+    if (!(pair instanceof KeyPair)) return pair.agree(remote.slice());    // the agent's own, to do with as it likes
     const result = this.#begin(pair, remote);
     if (next instanceof KeyPair) this.#begin(next, remote);
     return result;
@@ -56,7 +56,7 @@ export class Agreements {
  * @typedef {object} DH
  * @property {Uint8Array} publicKey 32 bytes.
  * @property {(remote: Uint8Array) => Uint8Array | Promise<Uint8Array>} agree Gives the result of X25519 for this
- * pair and a public key. One of all zeros is refused.
+ * pair and a public key, whose bytes are a copy. A result of all zeros is refused.
  */
 
 /** A key pair of WebCrypto's X25519, whose private key isn't extractable from it. */
