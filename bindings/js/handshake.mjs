@@ -27,6 +27,7 @@ async function asked(pair, ask) {
   try {
     return await ask();
   } catch (cause) {
+    if (cause instanceof NoiseError && cause.code === 'NOISE_UNSUPPORTED') throw cause;
     const isTold = !(pair instanceof KeyPair) && cause?.message;
     throw new NoiseError('NOISE_KEY', { cause, message: isTold ? `agree has failed: ${cause.message}` : undefined });
   }
