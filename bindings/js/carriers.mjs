@@ -11,6 +11,7 @@
 //                    other party has ended its stream, waits after `discard` until that has closed its half, at most so
 //                    many milliseconds: what is closed before may reset a connection of TCP, and what was sent may be
 //                    lost;
+//   stream           the stream of Node that it is over, if it is over one;
 //   destroy(reason)  ends it at once: what isn't sent yet is dropped, and no listener stays;
 // and a WebSocket calls `overflowed`, where one was set, with the error by which it has destroyed itself.
 import { NoiseError } from './codes.mjs';

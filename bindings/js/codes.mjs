@@ -57,6 +57,8 @@ const TEXTS = Object.freeze({
   BUSY: 'another call on this handshake is under way: await it first',
   DISPOSED: 'this object is used up',
   NOT_LOADED: 'await load() first',
+  UNSUPPORTED: "WebCrypto's X25519 isn't there: a page needs a browser that has it, and a secure context, "
+    + 'https or http://localhost',
   KEY: "X25519 fails for the other party's public key, or gives all zeros: close",
   REFUSED: "verify didn't return true for the other party's static key, and the connection was closed",
   UNAUTHENTICATED: 'nothing says who may be the other party: '

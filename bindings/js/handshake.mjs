@@ -8,6 +8,7 @@ import { OWN } from './own.mjs';
 import { intervalOf, setupOf, start } from './setup.mjs';
 import { Stream } from './stream.mjs';
 import { Datagrams, Transport } from './transport.mjs';
+import { Waiting } from './waiting.mjs';
 
 const PLACEHOLDER = new Uint8Array(32);
 
@@ -21,12 +22,24 @@ const PLACEHOLDER = new Uint8Array(32);
  * @property {boolean} done Whether all messages have passed.
  */
 
+/** The answer of a key pair, or NOISE_KEY where it fails, with what a pair of the program's says of that. */
+async function asked(pair, ask) {
+  try {
+    return await ask();
+  } catch (cause) {
+    if (cause instanceof NoiseError && cause.code === 'NOISE_UNSUPPORTED') throw cause;
+    const isTold = !(pair instanceof KeyPair) && cause?.message;
+    throw new NoiseError('NOISE_KEY', { cause, message: isTold ? `agree has failed: ${cause.message}` : undefined });
+  }
+}
+
 /** One party of a handshake, from its first message to its last. */
 export class Handshake {
   #place;
   #options;
-  #ephemeral;
+  #ephemeral;    // this and the next are a pair, and a copy of its public key
   #static;
+  #waiting = new Waiting();    // for answers, until it is disposed of
   #agreements = new Agreements();
   // the first 32 bytes of the first message that was read: the other party's ephemeral key, where it has one
   #opening;
@@ -77,9 +90,9 @@ export class Handshake {
     this.#busy = true;
     try {
       if (!this.#started) {
-        this.#ephemeral = await KeyPair.generate();
-        this.#here();
-        this.#start(this.#ephemeral.publicKey);
+        const pair = await this.#waiting.for(KeyPair.generate());
+        this.#ephemeral = { pair, publicKey: pair.publicKey };
+        this.#start(pair.publicKey);
         this.#started = true;
       }
       return await work();
@@ -115,7 +128,8 @@ export class Handshake {
 
   async #choose(remoteStatic) {
     const lib = library();
-    const psk = bytesOf(await this.#options.pskFor(remoteStatic), 'the psk of pskFor', 32);
+    const answer = await this.#waiting.for(this.#options.pskFor(remoteStatic));
+    const psk = bytesOf(answer, 'the psk of pskFor', 32);
     const taken = lib.x.noise_set_psk(this.#here(), lib.put('answer', psk)[0]);
     lib.wipe('answer');
     must(taken);
@@ -132,12 +146,8 @@ export class Handshake {
   async #agree(ofStatic, remote) {
     // With the other party's ephemeral key each static key of a pattern agrees, too, in this message or a later one.
     const next = !ofStatic && this.#opening && equal(this.#opening, remote) ? this.#static : undefined;
-    let answer;
-    try {
-      answer = await this.#agreements.of(ofStatic ? this.#static : this.#ephemeral, remote, next);
-    } catch (cause) {
-      throw new NoiseError('NOISE_KEY', { cause });
-    }
+    const { pair } = ofStatic ? this.#static : this.#ephemeral;
+    const answer = await this.#waiting.for(asked(pair, () => this.#agreements.of(pair, remote, next?.pair)));
     if (bytesOf(answer, 'the result of agree', 32).every((byte) => byte === 0)) throw new NoiseError('NOISE_KEY');
     return answer;
   }
@@ -289,12 +299,14 @@ export class Handshake {
   }
 
   /**
-   * Overwrites the struct and the secrets, and frees their memory. Later calls throw NOISE_DISPOSED.
+   * Overwrites the struct and the secrets, and frees their memory. Later calls throw NOISE_DISPOSED, and so does one
+   * that waits for an answer.
    * @returns {void}
    */
   dispose() {
     if (this.#place === undefined) return;
     letGo(this);
+    this.#waiting.end(new NoiseError('NOISE_DISPOSED'));
     library().free('handshake', this.#place);
     this.#place = undefined;
     for (const psk of this.#options.psks) psk.fill(0);

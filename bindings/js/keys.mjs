@@ -2,6 +2,7 @@
 // X25519 or a promise of it. Those that are made here are WebCrypto's: the private key stays inside the browser.
 
 import { bytesOf, equal } from './bytes.mjs';
+import { NoiseError } from './codes.mjs';
 import { OWN, mustBeOwn } from './own.mjs';
 
 const NAME = 'X25519';
@@ -10,9 +11,20 @@ const PKCS8 = Uint8Array.of(48, 46, 2, 1, 0, 48, 5, 6, 3, 43, 101, 110, 4, 34, 4
 /** X25519 of a secret key and this point is the public key (RFC 7748, 6.1). */
 const BASE_POINT = new Uint8Array(32).fill(9, 0, 1);
 
-const imported = (remote) => crypto.subtle.importKey('raw', remote, { name: NAME }, true, []);
+/** A call of WebCrypto. In a page that isn't a secure context there is none, and not each browser has X25519. */
+async function byCrypto(call, ...words) {
+  const { subtle } = globalThis.crypto ?? {};
+  if (!subtle) throw new NoiseError('NOISE_UNSUPPORTED');
+  try {
+    return await subtle[call](...words);
+  } catch (cause) {
+    throw cause?.name === 'NotSupportedError' ? new NoiseError('NOISE_UNSUPPORTED', { cause }) : cause;
+  }
+}
+
+const imported = (remote) => byCrypto('importKey', 'raw', remote, { name: NAME }, true, []);
 const agreed = async (secret, key) =>
-  new Uint8Array(await crypto.subtle.deriveBits({ name: NAME, public: key }, secret, 256));
+  new Uint8Array(await byCrypto('deriveBits', { name: NAME, public: key }, secret, 256));
 
 /**
  * What a handshake asks of its key pairs. Of those that are made here it imports each public key once, and has each
@@ -44,7 +56,7 @@ export class Agreements {
    * undefined, is begun beside it.
    */
   of(pair, remote, next) {
-    if (!(pair instanceof KeyPair)) return pair.agree(remote);
+    if (!(pair instanceof KeyPair)) return pair.agree(remote.slice());    // the agent's own, to do with as it likes
     const result = this.#begin(pair, remote);
     if (next instanceof KeyPair) this.#begin(next, remote);
     return result;
@@ -56,7 +68,7 @@ export class Agreements {
  * @typedef {object} DH
  * @property {Uint8Array} publicKey 32 bytes.
  * @property {(remote: Uint8Array) => Uint8Array | Promise<Uint8Array>} agree Gives the result of X25519 for this
- * pair and a public key. One of all zeros is refused.
+ * pair and a public key, whose bytes are a copy. A result of all zeros is refused.
  */
 
 /** A key pair of WebCrypto's X25519, whose private key isn't extractable from it. */
@@ -81,8 +93,8 @@ export class KeyPair {
    * @returns {Promise<KeyPair>}
    */
   static async generate() {
-    const pair = await crypto.subtle.generateKey({ name: NAME }, false, ['deriveBits']);
-    return new KeyPair(OWN, pair.privateKey, new Uint8Array(await crypto.subtle.exportKey('raw', pair.publicKey)));
+    const pair = await byCrypto('generateKey', { name: NAME }, false, ['deriveBits']);
+    return new KeyPair(OWN, pair.privateKey, new Uint8Array(await byCrypto('exportKey', 'raw', pair.publicKey)));
   }
 
   /**
@@ -115,7 +127,7 @@ export class KeyPair {
     encoded.set(PKCS8);
     encoded.set(bytes, 16);
     try {
-      const secret = await crypto.subtle.importKey('pkcs8', encoded, { name: NAME }, false, ['deriveBits']);
+      const secret = await byCrypto('importKey', 'pkcs8', encoded, { name: NAME }, false, ['deriveBits']);
       return new KeyPair(OWN, secret, await agreed(secret, await imported(BASE_POINT)));
     } finally {
       encoded.fill(0);
@@ -132,6 +144,6 @@ export class KeyPair {
    */
   static async from({ privateKey, publicKey }) {
     if (privateKey?.type !== 'private') throw new TypeError('privateKey has to be a private CryptoKey of X25519');
-    return new KeyPair(OWN, privateKey, new Uint8Array(await crypto.subtle.exportKey('raw', publicKey)));
+    return new KeyPair(OWN, privateKey, new Uint8Array(await byCrypto('exportKey', 'raw', publicKey)));
   }
 }

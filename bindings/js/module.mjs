@@ -16,6 +16,8 @@ const SCRATCH = {
   layout: 140,
 };
 const PAGE = 65536;
+/** The SHA-384 of noise_c.wasm, as `integrity` of a browser has it: `bindings/js/modules pin` writes it. */
+const INTEGRITY = 'sha384-0gkRg+W+/G66AYWhwO98sDm4xkK9XyPimPjjNsokhv0D8co5UGbsKFmzj3Ts4eAz';
 /** The major version of the library. */
 const VERSION = 1;
 
@@ -179,16 +181,38 @@ export function letGo(object) {
   forgotten.unregister(object);
 }
 
-/** The bytes of a file: of Node, without an import that a bundler for browsers would follow. */
-const ofFile = (url) => globalThis.process.getBuiltinModule('fs/promises').readFile(url);
+/** A module of Node, without an import that a bundler for browsers would follow. */
+const ofNode = (name) => globalThis.process.getBuiltinModule(name);
 
-async function instanceOf(source) {
+const changed = (url) => new Error(`${url} isn't the module that this package was made with: its SHA-384 is another`);
+
+/** The bytes of a file. Where a sum is passed, they have to have it. */
+async function read(url, integrity) {
+  const bytes = await ofNode('fs/promises').readFile(url);
+  const sum = () => `sha384-${ofNode('crypto').createHash('sha384').update(bytes).digest('base64')}`;
+  if (integrity && sum() !== integrity) throw changed(url);
+  return bytes;
+}
+
+/** The answer of a server. Where a sum is passed, the browser compares it, and doesn't say what has failed. */
+async function fetched(url, integrity) {
+  if (!integrity) return fetch(url);
+  try {
+    return await fetch(url, { integrity });
+  } catch (error) {
+    const answer = await fetch(url).catch(() => { throw error; });
+    if (answer.ok) throw changed(url);
+    return answer;
+  }
+}
+
+async function instanceOf(source, integrity) {
   if (source instanceof ArrayBuffer || ArrayBuffer.isView(source)) return WebAssembly.instantiate(source, {});
   const url = new URL(source, import.meta.url);
   if (url.protocol === 'file:' && globalThis.process?.getBuiltinModule) {
-    return WebAssembly.instantiate(await ofFile(url), {});
+    return WebAssembly.instantiate(await read(url, integrity), {});
   }
-  const answer = await fetch(url);
+  const answer = await fetched(url, integrity);
   if (!answer.ok) throw new Error(`${url}: ${answer.status} ${answer.statusText}`);
   // A server that doesn't know the type of .wasm takes part too.
   const isTyped = answer.headers.get('content-type') === 'application/wasm';
@@ -207,7 +231,9 @@ export function hasMemory64() {
 
 /** The library of a new instance, if it has the version that this package was written for. */
 async function libraryOf(source) {
-  const { instance } = await instanceOf(source);
+  const { instance } = source === undefined
+    ? await instanceOf(new URL('noise_c.wasm', import.meta.url), INTEGRITY)
+    : await instanceOf(source);
   if (instance.exports.noise_version?.() >>> 16 !== VERSION) {
     throw new Error(`the module isn't version ${VERSION} of the library`);
   }
@@ -216,12 +242,13 @@ async function libraryOf(source) {
 
 /**
  * Loads the module, once: later calls do nothing. Without an argument it is noise_c.wasm beside this file, which
- * has 32-bit memory. An address that is relative counts from here. It throws what `fetch`, reading a file and
+ * has 32-bit memory: one that was changed is refused. Of a source that is passed nothing is compared, and an address
+ * that is relative counts from here. It throws what `fetch`, reading a file and
  * WebAssembly throw, as a CompileError for a module with 64-bit memory where the engine has none.
  * @param {string | { readonly href: string } | ArrayBuffer | ArrayBufferView} [source]
  * @returns {Promise<void>}
  */
-export async function load(source = new URL('noise_c.wasm', import.meta.url)) {
+export async function load(source) {
   loading ??= libraryOf(source);
   try {
     loaded = await loading;

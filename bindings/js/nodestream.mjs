@@ -90,6 +90,7 @@ export function ofNode(stream) {
   const valueOf = ({ value, done }) => (done ? undefined : value);
   const read = () => chunks.next().then(valueOf, (error) => { throw broken(error); });
   return {
+    stream,
     ready: async () => {},
     ...writerOf(stream, broken),
     pull: read,

@@ -156,8 +156,15 @@ export async function opened(connection, options) {
     });
     carrier.overflowed = undefined;    // the next call of receive throws it
     bound.hasLast();
-    const isSilent = handshake.stage.messages === 1 && !setup.responder;
-    return { carrier, incoming: isSilent ? undefined : incoming, stream: handshake.finishStream({ interval }), kept };
+    // In a one-way pattern only the initiator sends.
+    const [isOneWay, isFirst] = [handshake.stage.messages === 1, !setup.responder];
+    return {
+      carrier,
+      incoming: isOneWay && isFirst ? undefined : incoming,
+      mayWrite: isFirst || !isOneWay,
+      stream: handshake.finishStream({ interval }),
+      kept,
+    };
   } catch (error) {
     waiting.end(error);
     carrier.destroy(error);

@@ -10,6 +10,33 @@ export interface PayloadReadable extends Of<'ReadableStream', AsyncIterable<Uint
 /** What is sent over a channel, as a WritableStream. */
 export interface PayloadWritable extends Of<'WritableStream', { readonly locked: boolean }> {}
 
+// @ts-ignore: without the types of Node it is any
+type Duplex = import('node:stream').Duplex;
+
+/** A channel as a stream of Node, with what a socket of TCP has beside one. */
+export type ChannelDuplex = Duplex & {
+  allowHalfOpen: boolean;
+  readonly connecting: false;
+  readonly pending: false;
+  readonly readyState: 'open' | 'readOnly' | 'writeOnly' | 'closed';
+  readonly timeout: number;
+  readonly bytesRead: number | undefined;
+  readonly bytesWritten: number | undefined;
+  readonly localAddress: string | undefined;
+  readonly localFamily: string | undefined;
+  readonly localPort: number | undefined;
+  readonly remoteAddress: string | undefined;
+  readonly remoteFamily: string | undefined;
+  readonly remotePort: number | undefined;
+  address(): { address?: string, family?: string, port?: number };
+  destroySoon(): void;
+  ref(): ChannelDuplex;
+  setKeepAlive(isOn?: boolean, delay?: number): ChannelDuplex;
+  setNoDelay(isOn?: boolean): ChannelDuplex;
+  setTimeout(milliseconds: number, listener?: () => void): ChannelDuplex;
+  unref(): ChannelDuplex;
+};
+
 /** A key of WebCrypto. */
 export interface WebCryptoKey extends Of<'CryptoKey', { readonly type: string }> {}
 

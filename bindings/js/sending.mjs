@@ -1,5 +1,7 @@
-// What a channel sends: frames in turn, after those that the handshake has kept back.
-import { Turns, Waiting, turn } from './waiting.mjs';
+// What a channel sends: frames in turn, after those that the handshake has kept back. Payloads that are sent in one
+// turn of the event loop share frames, which are written together.
+import { Batch } from './batch.mjs';
+import { Turns, Waiting, afterTurn, turn } from './waiting.mjs';
 
 /**
  * So many times in a row something is sent before timers and connections have their turn: what is always taken at
@@ -9,13 +11,18 @@ const IN_A_ROW = 32;
 
 export class Sending {
   #carrier;
+  #stream;
   #kept;
   #waiting = new Waiting();
   #turns = new Turns();
   #inARow = 0;
+  #batch;    // the last in the queue, as long as it takes payloads
+  /** Whether this party has ended its stream. */
+  hasEnded = false;
 
-  constructor(carrier, kept) {
+  constructor(carrier, stream, kept) {
     this.#carrier = carrier;
+    this.#stream = stream;
     this.#kept = kept;
   }
 
@@ -35,18 +42,87 @@ export class Sending {
   }
 
   /** Throws once something couldn't be sent, or was refused: what comes after it isn't sealed. */
-  mustGoOn() {
+  #mustGoOn() {
     if (this.#waiting.isOver) throw this.#waiting.reason;
   }
 
-  /** Work in its turn. */
+  /** Work in its turn, after all that was sent before. */
   take(work, signal) {
+    this.#batch = undefined;
     return this.#turns.take(work, signal);
   }
 
+  /** Sends a copy of a payload of at most SHARED bytes, with what else is sent in this turn of the event loop. */
+  add(payload) {
+    if (!this.#batch?.hasRoom(payload.length)) this.#begin();
+    this.#batch.add(payload);
+    return this.#batch.sent;
+  }
+
+  /** Ends the stream after what was sent before, and together with that where it still waits. */
+  addEnd() {
+    if (!this.#batch?.hasRoom(0)) this.#begin();
+    this.#batch.isLast = true;
+    return this.#batch.sent;
+  }
+
+  #begin() {
+    const batch = new Batch();
+    this.#batch = batch;
+    if (this.#turns.isIdle) {
+      this.#turns.hold();
+      afterTurn(() => this.#leave(batch));
+    } else {
+      this.#turns.take(() => this.#putBatch(batch)).then(batch.resolve, batch.reject);
+    }
+  }
+
+  /** Sends a batch that nothing is before, in the turn that is held for it. */
+  #leave(batch) {
+    const settle = (how) => (value) => { this.#turns.release(); how(value); };
+    try {
+      const written = this.#putBatch(batch);
+      if (written) written.then(settle(batch.resolve), settle(batch.reject));
+      else settle(batch.resolve)();
+    } catch (error) {
+      settle(batch.reject)(error);
+    }
+  }
+
+  /** Sends a batch: a promise, or nothing where the connection has taken it at once. */
+  #putBatch(batch) {
+    if (this.#batch === batch) this.#batch = undefined;
+    try {
+      this.#mustGoOn();
+      const frames = this.#stream.writeAll(batch.bytes, this.#carrier.room);
+      if (batch.isLast) frames.push(this.#end());
+      return frames.length > 0 ? this.put(frames) : undefined;
+    } finally {
+      batch.dispose();
+    }
+  }
+
+  #end() {
+    const frame = this.#stream.end();
+    this.hasEnded = true;
+    return frame;
+  }
+
+  /** Seals a payload of one frame at once: a promise, or nothing where the connection has taken it. */
+  putPayload(payload) {
+    this.#mustGoOn();
+    const frame = this.#stream.write(payload, this.#carrier.room);
+    return frame.length > 0 ? this.put([frame]) : undefined;
+  }
+
+  putEnd() {
+    this.#mustGoOn();
+    return this.put([this.#end()]);
+  }
+
   /** Sends frames, after what was kept back: a promise, or nothing where the connection has taken them at once. */
-  put(...frames) {
-    this.mustGoOn();
+  put(frames = []) {
+    this.#mustGoOn();
     const all = this.#kept.length > 0 ? [...this.#kept.splice(0), ...frames] : frames;
     if (all.length === 0) return undefined;
     const written = this.#carrier.write(all);

@@ -66,14 +66,13 @@ export function intervalOf(interval) {
   return interval;
 }
 
-/** A key pair, or undefined where there is none. */
+/** A key pair, with a copy of its public key, or undefined where there is none. */
 function keyPairOf(pair, what) {
   if (pair === undefined) return undefined;
   if (typeof pair?.agree !== 'function') {
     throw new TypeError(`${what} has to be a key pair, with publicKey and agree: a KeyPair, for example`);
   }
-  bytesOf(pair.publicKey, `publicKey of ${what}`, 32);
-  return pair;
+  return { pair, publicKey: copyOf(pair.publicKey, `publicKey of ${what}`, 32) };
 }
 
 /**

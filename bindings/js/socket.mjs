@@ -1,13 +1,17 @@
 // A channel over what moves bytes: a WebSocket, one message a frame, or a pair of WHATWG streams or a stream of
 // Node, each message after its length.
+import { SHARED } from './batch.mjs';
 import { NoiseError } from './codes.mjs';
 import { bytesOf, copyOf } from './bytes.mjs';
+import { duplexOf } from './duplex.mjs';
 import { opened } from './opening.mjs';
 import { OWN, mustBeOwn } from './own.mjs';
 import { Sending } from './sending.mjs';
 import { MOST } from './stream.mjs';
 import { Turns, Waiting, mustGoOn, unlessAborted, within } from './waiting.mjs';
 
+/** A payload of so many bytes leaves at once, where nothing waits to be sent: a copy would cost more than a write. */
+const ALONE = 1 << 14;
 /** How long a channel that is closed waits for the other party to close the connection, in milliseconds. */
 const LINGER = 5000;
 // how long one that is left does, once all is sent, and how many bytes it reads
@@ -26,22 +30,24 @@ export class NoiseSocket {
   #receiving = new Waiting();
   #sending;
   #receives = new Turns();
-  #hasEnded = false;    // this party
-  #isEnded;    // by the other, or it sends nothing
+  #isEnded;    // by the other party, or it sends nothing
   #closing;
   #isDestroyed = false;
   #readable;
   #writable;
+  #duplex;
+  #mayWrite;    // not the responder of a one-way pattern
   #look = (held, count) => this.#stream.read(held, count);
 
   /** @private */
   constructor(mark, parts) {
     mustBeOwn(mark);
-    const { carrier, incoming, stream, kept } = parts;
+    const { carrier, incoming, mayWrite, stream, kept } = parts;
+    this.#mayWrite = mayWrite;
     this.#carrier = carrier;
     this.#incoming = incoming;
     this.#stream = stream;
-    this.#sending = new Sending(carrier, kept);
+    this.#sending = new Sending(carrier, stream, kept);
     this.#isEnded = !incoming;
     /**
      * The handshake hash.
@@ -116,25 +122,22 @@ export class NoiseSocket {
     this.#mustBeOpen();
     mustGoOn(signal);
     bytesOf(payload, 'payload');
-    if (this.#sending.isIdle && !signal && payload.length <= MOST) {
-      const taken = this.#putPayload(payload);
-      if (taken) await this.#sending.take(() => taken);
-    } else {
-      await this.#sendCopy(copyOf(payload, 'payload'), signal);
-    }
+    if (signal || payload.length > SHARED) await this.#sendCopy(copyOf(payload, 'payload'), signal);
+    else if (payload.length >= ALONE && payload.length <= MOST && this.#sending.isIdle) await this.#sendAlone(payload);
+    else await this.#sending.add(payload);
+  }
+
+  async #sendAlone(payload) {
+    const taken = this.#sending.putPayload(payload);
+    if (taken) await this.#sending.take(() => taken);
   }
 
   async #sendCopy(payload, signal) {
     await this.#inTurn(signal, async () => {
-      for (let at = 0; at < payload.length; at += MOST) await this.#putPayload(payload.subarray(at, at + MOST));
+      for (let at = 0; at < payload.length; at += MOST) {
+        await this.#sending.putPayload(payload.subarray(at, at + MOST));
+      }
     });
-  }
-
-  /** Seals at once: the payload may change afterwards. */
-  #putPayload(payload) {
-    this.#sending.mustGoOn();
-    const frame = this.#stream.write(payload, this.#carrier.room);
-    return frame.length > 0 ? this.#sending.put(frame) : undefined;
   }
 
   /**
@@ -146,14 +149,7 @@ export class NoiseSocket {
   async end({ signal } = {}) {
     this.#mustBeOpen();
     mustGoOn(signal);
-    await this.#inTurn(signal, () => this.#putEnd());
-  }
-
-  async #putEnd() {
-    this.#sending.mustGoOn();
-    const frame = this.#stream.end();
-    this.#hasEnded = true;
-    await this.#sending.put(frame);
+    await (signal ? this.#inTurn(signal, () => this.#sending.putEnd()) : this.#sending.addEnd());
   }
 
   /**
@@ -233,19 +229,24 @@ export class NoiseSocket {
   }
 
   /**
-   * What comes, as a stream of WHATWG, for `pipeTo` and Node's `pipeline`. Who cancels it closes the connection, as
-   * Symbol.asyncDispose does.
+   * What comes, as a stream of WHATWG of bytes, for `pipeTo` and Node's `pipeline`, and for reads into a buffer of
+   * the reader's (`getReader({ mode: 'byob' })`). Who cancels it closes the connection, as Symbol.asyncDispose does.
    * @returns {import('./platform.js').PayloadReadable}
    */
   get readable() {
     this.#readable ??= new ReadableStream({
+      type: 'bytes',
       pull: async (controller) => {
         const payload = await this.receive();
-        if (payload === undefined) controller.close();
-        else controller.enqueue(payload);
+        if (payload !== undefined) {
+          controller.enqueue(payload);
+          return;
+        }
+        controller.close();
+        controller.byobRequest?.respond(0);    // a read into a buffer of the reader's ends, too
       },
       cancel: () => { this.leave(OWN); },
-    }, { highWaterMark: 0 });
+    });
     return this.#readable;
   }
 
@@ -260,6 +261,34 @@ export class NoiseSocket {
       abort: () => this.destroy(),
     });
     return this.#writable;
+  }
+
+  /**
+   * The channel as a Duplex of Node, for what takes a socket of TCP, as http.Agent: `end` is the end of this party's
+   * stream, and 'end' comes with the other's. Without `allowHalfOpen`, which can be set, this party's ends then.
+   * `destroy` is that of the channel, unless 'finish' came before. Elsewhere than in Node it throws.
+   * @returns {import('./platform.js').ChannelDuplex}
+   */
+  get duplex() {
+    this.#duplex ??= duplexOf(this, this.#carrier.stream, {
+      readable: this.#incoming !== undefined,
+      writable: this.#mayWrite,
+    });
+    return this.#duplex;
+  }
+
+  /**
+   * Sends payloads together.
+   * @private
+   */
+  async sendAll(mark, payloads) {
+    mustBeOwn(mark);
+    this.#mustBeOpen();
+    const sent = new Set();    // payloads of one batch have one promise
+    for (const payload of payloads) {
+      sent.add(payload.length <= SHARED ? this.#sending.add(payload) : this.#sendCopy(copyOf(payload, 'payload')));
+    }
+    await Promise.all(sent);
   }
 
   /**
@@ -291,9 +320,9 @@ export class NoiseSocket {
     if (this.#receiving.isOver) return;
     this.#receiving.end(new NoiseError('NOISE_DISPOSED'));
     this.#carrier.discard(most);
+    // It was ended before, or the responder of a one-way pattern has none.
+    if (isWhole) this.#sending.addEnd().catch(() => {});
     await within(timeout, this.#sending.take(async () => {
-      // the responder of a one-way pattern has none
-      if (isWhole && !this.#hasEnded) await this.#putEnd().catch(() => {});
       await this.#sending.put();
       await this.#carrier.close(patience, this.#isEnded);
     }));

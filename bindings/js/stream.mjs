@@ -66,6 +66,19 @@ export class Stream extends Sealed {
     return bytes;
   }
 
+  /**
+   * The frames of a payload of any length, one after another in memory that `room` has for them, or in their own.
+   */
+  writeAll(payload, room) {
+    if (payload.length <= MOST) {
+      const frame = this.write(payload, room);
+      return frame.length > 0 ? [frame] : [];
+    }
+    const frames = [];
+    for (let at = 0; at < payload.length; at += MOST) frames.push(this.write(payload.subarray(at, at + MOST)));
+    return frames;
+  }
+
   /** The frame of the end. */
   end() {
     const lib = library();

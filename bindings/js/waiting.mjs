@@ -33,6 +33,8 @@ export function unlessAborted(promise, signal) {
 export class Turns {
   #last = Promise.resolve();
   #count = 0;
+  #isHeld = false;
+  #release;    // calls what waits for the end of a turn that is held
 
   /** Whether nothing is under way, and nothing waits. */
   get isIdle() {
@@ -41,6 +43,19 @@ export class Turns {
 
   take(work, signal) {
     return this.isIdle && !signal?.aborted ? this.#begin(work) : this.#queue(work, signal);
+  }
+
+  /** Takes a turn, where nothing is under way, until it is released. */
+  hold() {
+    this.#count += 1;
+    this.#isHeld = true;
+  }
+
+  release() {
+    this.#count -= 1;
+    this.#isHeld = false;
+    this.#release?.();
+    this.#release = undefined;
   }
 
   async #begin(work) {
@@ -57,6 +72,7 @@ export class Turns {
 
   #queue(work, signal) {
     this.#count += 1;
+    if (this.#isHeld && !this.#release) this.#last = new Promise((resolve) => { this.#release = resolve; });
     return new Promise((resolve, reject) => {
       let isOver = false;
       const abort = () => { isOver = true; reject(signal.reason); };
@@ -106,7 +122,7 @@ export class Waiting {
 }
 
 /** The longest time of a timer: a longer one would run out at once. */
-const LONGEST = 2 ** 31 - 1;
+export const LONGEST = 2 ** 31 - 1;
 
 /** Waits until a promise settles, at most so many milliseconds. */
 export function within(milliseconds, promise) {
@@ -124,6 +140,17 @@ export const pause = (milliseconds) => new Promise((resolve) => { setTimeout(res
  * nothing at once.
  */
 export const turn = () => new Promise((resolve) => { (globalThis.setImmediate ?? queueMicrotask)(resolve); });
+
+const { nextTick } = globalThis.process ?? {};
+const settled = Promise.resolve();
+
+/**
+ * Calls something once all that runs in this turn of the event loop has run, and before its next: in Node after what
+ * promises that settle meanwhile call, and elsewhere after what waits for those that have settled.
+ */
+export function afterTurn(call) {
+  settled.then(nextTick ? () => { nextTick(call); } : call);
+}
 
 /** Drops what is read until the end. After `most` bytes it reads no more, and stays pending. */
 export async function drain(read, most = Infinity) {

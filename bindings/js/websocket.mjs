@@ -172,10 +172,12 @@ export function ofWebSocket(socket) {
     },
     write: async (frames) => {
       mustBeOpen();
-      for (const frame of frames) socket.send(messageOf(frame));
-      while (socket.bufferedAmount > UNSENT) {
-        await pause(10);
-        mustBeOpen();
+      for (const frame of frames) {
+        socket.send(messageOf(frame));
+        while (socket.bufferedAmount > UNSENT) {
+          await pause(10);
+          mustBeOpen();
+        }
       }
     },
     pull: async () => {

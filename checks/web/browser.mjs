@@ -9,8 +9,8 @@ export class Browser {
   #waiting = new Map();
   #said = [];
 
-  /** Starts Chromium with one empty page. */
-  static async start() {
+  /** Starts Chromium with one empty page, and with more words on its command line. */
+  static async start(...more) {
     const browser = new Browser();
     browser.profile = await mkdtemp(join(tmpdir(), 'noise-page-'));
     const words = [
@@ -19,6 +19,7 @@ export class Browser {
     ];
     words.push(`--user-data-dir=${browser.profile}`);
     if (process.getuid() === 0) words.push('--no-sandbox');
+    words.push(...more);
     browser.child = spawn('chromium', [...words, 'about:blank'], {
       stdio: ['ignore', 'ignore', 'ignore', 'pipe', 'pipe'],
     });

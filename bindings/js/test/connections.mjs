@@ -49,7 +49,8 @@ export function duplexes() {
     this.other.push(bytes);
     done();
   };
-  const [one, two] = [0, 1].map(() => new Duplex({ read: () => {}, write }));
+  const final = function final(done) { this.other.push(null); done(); };
+  const [one, two] = [0, 1].map(() => new Duplex({ read: () => {}, write, final }));
   Object.assign(one, { other: two });
   Object.assign(two, { other: one });
   return [one, two];

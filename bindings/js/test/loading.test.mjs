@@ -2,7 +2,10 @@
 import test from 'node:test';
 import assert from 'node:assert/strict';
 import { spawnSync } from 'node:child_process';
-import { readFile } from 'node:fs/promises';
+import { cp, mkdtemp, readFile, rm, writeFile } from 'node:fs/promises';
+import { tmpdir } from 'node:os';
+import { join } from 'node:path';
+import { pathToFileURL } from 'node:url';
 import { checkPattern, hasMemory64, load } from '../noise.mjs';
 import { refused } from './connections.mjs';
 
@@ -27,6 +30,43 @@ test('what is no module, or no file, is refused, and load can be tried again', a
   await assert.rejects(load('nothing.wasm'), { code: 'ENOENT' });
   await assert.rejects(load('http://127.0.0.1:1/noise_c.wasm'), TypeError);
   assert.throws(() => checkPattern('NN:\n'), refused('NOISE_NOT_LOADED'));
+});
+
+test('a module that was changed is refused, and one that is passed by its address isn’t compared', async () => {
+  const folder = await mkdtemp(join(tmpdir(), 'js-'));
+  try {
+    await cp(new URL('..', import.meta.url), folder, { recursive: true, filter: (it) => !/\/(out|test)$/u.test(it) });
+    const file = join(folder, 'noise_c.wasm');
+    const bytes = await readFile(file);
+    bytes[bytes.length - 1] ^= 1;    // of the data: it compiles
+    await writeFile(file, bytes);
+    const changed = await import(pathToFileURL(join(folder, 'noise.mjs')).href);
+    await assert.rejects(changed.load(), /noise_c\.wasm isn't the module that this package was made with/u);
+    await assert.rejects(changed.load(), /another/u);
+    await changed.load(pathToFileURL(file));
+  } finally {
+    await rm(folder, { recursive: true });
+  }
+});
+
+test('without WebCrypto, or without its X25519, each call says so', () => {
+  const unsupported = /^NOISE_UNSUPPORTED .*a secure context, https or http:\/\/localhost/u;
+  const calls = [
+    'noise.KeyPair.generate()', 'noise.KeyPair.fromSecret(new Uint8Array(32))',
+    'noise.load().then(() => new noise.Handshake({ pattern: "NN" }).write())',
+  ];
+  const without = [
+    'Object.defineProperty(globalThis, "crypto", { value: undefined });',
+    'Object.defineProperty(globalThis, "crypto", { value: { getRandomValues: () => {} } });',
+    `const refuse = async () => { throw new DOMException("Unrecognized name.", "NotSupportedError"); };
+     Object.defineProperty(globalThis, "crypto", { value: { subtle: { generateKey: refuse, importKey: refuse } } });`,
+  ];
+  for (const change of without) {
+    for (const call of calls) {
+      const said = printed(`${change} await ${call}.catch(({ code, message }) => console.log(code, message))`);
+      assert.match(said, unsupported, `${change} ${call}`);
+    }
+  }
 });
 
 test('Node loads the module without a flag, also by its address or its bytes', async () => {

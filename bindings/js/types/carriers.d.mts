@@ -6,6 +6,7 @@ export function carrierOf(it: any): {
     destroy: () => void;
     room: ((size: any) => Uint8Array | undefined) | undefined;
     write: (frames: any) => Promise<any> | undefined;
+    stream: any;
     ready: () => Promise<void>;
 } | {
     ready: () => any;

@@ -124,6 +124,7 @@ declare const TEXTS: Readonly<{
     BUSY: "another call on this handshake is under way: await it first";
     DISPOSED: "this object is used up";
     NOT_LOADED: "await load() first";
+    UNSUPPORTED: string;
     KEY: "X25519 fails for the other party's public key, or gives all zeros: close";
     REFUSED: "verify didn't return true for the other party's static key, and the connection was closed";
     UNAUTHENTICATED: string;

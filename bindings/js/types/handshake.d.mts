@@ -1,12 +1,3 @@
-/**
- * How far a handshake is.
- * @typedef {object} Stage
- * @property {number} messages How many messages the pattern has.
- * @property {number} passed How many of them were written or read.
- * @property {boolean} ended Whether a refused message has ended it.
- * @property {boolean} writesNext Whether this party writes the next message.
- * @property {boolean} done Whether all messages have passed.
- */
 /** One party of a handshake, from its first message to its last. */
 export class Handshake {
     /**
@@ -83,7 +74,8 @@ export class Handshake {
         window?: 256 | 64 | 1024 | undefined;
     } | undefined): Datagrams;
     /**
-     * Overwrites the struct and the secrets, and frees their memory. Later calls throw NOISE_DISPOSED.
+     * Overwrites the struct and the secrets, and frees their memory. Later calls throw NOISE_DISPOSED, and so does one
+     * that waits for an answer.
      * @returns {void}
      */
     dispose(): void;

@@ -15,7 +15,7 @@ export class Agreements {
  * @typedef {object} DH
  * @property {Uint8Array} publicKey 32 bytes.
  * @property {(remote: Uint8Array) => Uint8Array | Promise<Uint8Array>} agree Gives the result of X25519 for this
- * pair and a public key. One of all zeros is refused.
+ * pair and a public key, whose bytes are a copy. A result of all zeros is refused.
  */
 /** A key pair of WebCrypto's X25519, whose private key isn't extractable from it. */
 export class KeyPair {
@@ -74,7 +74,7 @@ export type DH = {
     publicKey: Uint8Array;
     /**
      * Gives the result of X25519 for this
-     * pair and a public key. One of all zeros is refused.
+     * pair and a public key, whose bytes are a copy. A result of all zeros is refused.
      */
     agree: (remote: Uint8Array) => Uint8Array | Promise<Uint8Array>;
 };

@@ -10,7 +10,8 @@ export function letGo(object: any): void;
 export function hasMemory64(): boolean;
 /**
  * Loads the module, once: later calls do nothing. Without an argument it is noise_c.wasm beside this file, which
- * has 32-bit memory. An address that is relative counts from here. It throws what `fetch`, reading a file and
+ * has 32-bit memory: one that was changed is refused. Of a source that is passed nothing is compared, and an address
+ * that is relative counts from here. It throws what `fetch`, reading a file and
  * WebAssembly throw, as a CompileError for a module with 64-bit memory where the engine has none.
  * @param {string | { readonly href: string } | ArrayBuffer | ArrayBufferView} [source]
  * @returns {Promise<void>}

@@ -8,6 +8,7 @@ export function ofNode(stream: any): {
     destroy: () => void;
     room: typeof takeSpare | undefined;
     write: (frames: any) => Promise<any> | undefined;
+    stream: any;
     ready: () => Promise<void>;
 };
 /**

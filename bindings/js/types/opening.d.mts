@@ -10,6 +10,7 @@ export function opened(connection: any, options: any): Promise<{
         destroy: () => void;
         room: ((size: any) => Uint8Array | undefined) | undefined;
         write: (frames: any) => Promise<any> | undefined;
+        stream: any;
         ready: () => Promise<void>;
     } | {
         ready: () => any;
@@ -27,6 +28,7 @@ export function opened(connection: any, options: any): Promise<{
         destroy: (reason: any) => void;
     };
     incoming: Incoming | undefined;
+    mayWrite: boolean;
     stream: any;
     kept: any[];
 }>;

@@ -19,8 +19,14 @@ export function setupOf(options: any): {
     responder: any;
     prologue: Uint8Array;
     pskFor: any;
-    staticKey: any;
-    ephemeralKey: any;
+    staticKey: {
+        pair: any;
+        publicKey: Uint8Array;
+    } | undefined;
+    ephemeralKey: {
+        pair: any;
+        publicKey: Uint8Array;
+    } | undefined;
     remoteStatic: Uint8Array | undefined;
     remoteEphemeral: Uint8Array | undefined;
     psks: Uint8Array[];

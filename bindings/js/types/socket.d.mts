@@ -67,8 +67,8 @@ export class NoiseSocket implements AsyncIterable<Uint8Array> {
         signal?: import("./waiting.mjs").Signal | undefined;
     } | undefined): Promise<Uint8Array | undefined>;
     /**
-     * What comes, as a stream of WHATWG, for `pipeTo` and Node's `pipeline`. Who cancels it closes the connection, as
-     * Symbol.asyncDispose does.
+     * What comes, as a stream of WHATWG of bytes, for `pipeTo` and Node's `pipeline`, and for reads into a buffer of
+     * the reader's (`getReader({ mode: 'byob' })`). Who cancels it closes the connection, as Symbol.asyncDispose does.
      * @returns {import('./platform.js').PayloadReadable}
      */
     get readable(): import("./platform.js").PayloadReadable;
@@ -77,6 +77,18 @@ export class NoiseSocket implements AsyncIterable<Uint8Array> {
      * @returns {import('./platform.js').PayloadWritable}
      */
     get writable(): import("./platform.js").PayloadWritable;
+    /**
+     * The channel as a Duplex of Node, for what takes a socket of TCP, as http.Agent: `end` is the end of this party's
+     * stream, and 'end' comes with the other's. Without `allowHalfOpen`, which can be set, this party's ends then.
+     * `destroy` is that of the channel, unless 'finish' came before. Elsewhere than in Node it throws.
+     * @returns {import('./platform.js').ChannelDuplex}
+     */
+    get duplex(): any;
+    /**
+     * Sends payloads together.
+     * @private
+     */
+    private sendAll;
     /**
      * Ends what this party sends, unless it is ended, and closes the connection once all is sent and the other party
      * has ended its stream or closed the connection, or after `timeout` milliseconds. It never rejects: `end` does

@@ -26,6 +26,10 @@ export class Stream extends Sealed {
      * there is none, and it is empty.
      */
     write(payload: any, room: any): any;
+    /**
+     * The frames of a payload of any length, one after another in memory that `room` has for them, or in their own.
+     */
+    writeAll(payload: any, room: any): any[];
     /** The frame of the end. */
     end(): any;
     /**

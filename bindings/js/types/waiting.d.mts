@@ -12,6 +12,11 @@ export function mustGoOn(signal: any): void;
 export function unlessAborted(promise: any, signal: any): any;
 /** Waits until a promise settles, at most so many milliseconds. */
 export function within(milliseconds: any, promise: any): Promise<any>;
+/**
+ * Calls something once all that runs in this turn of the event loop has run, and before its next: in Node after what
+ * promises that settle meanwhile call, and elsewhere after what waits for those that have settled.
+ */
+export function afterTurn(call: any): void;
 /** Drops what is read until the end. After `most` bytes it reads no more, and stays pending. */
 export function drain(read: any, most?: number): Promise<void>;
 /**
@@ -22,6 +27,9 @@ export class Turns {
     /** Whether nothing is under way, and nothing waits. */
     get isIdle(): boolean;
     take(work: any, signal: any): Promise<any>;
+    /** Takes a turn, where nothing is under way, until it is released. */
+    hold(): void;
+    release(): void;
     #private;
 }
 /**
@@ -35,6 +43,8 @@ export class Waiting {
     for(promise: any): Promise<any>;
     #private;
 }
+/** The longest time of a timer: a longer one would run out at once. */
+export const LONGEST: number;
 export function pause(milliseconds: any): Promise<any>;
 export function turn(): Promise<any>;
 /**
