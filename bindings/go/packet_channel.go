@@ -216,8 +216,8 @@ func (c *packetChannel) seal(payload []byte) ([]byte, error) {
 	return c.sender.Seal(made, payload)
 }
 
-// open opens a transport datagram, and reports whether it did; hasMoved is whether the session's address becomes that of
-// the datagram.
+// open opens a transport datagram, and reports whether it did; hasMoved is whether the session's address becomes that
+// of the datagram.
 func (c *packetChannel) open(datagram []byte) (payload []byte, isOpen, hasMoved bool) {
 	if !c.isDone || !bytes.Equal(datagram[1:1+indexLen], c.index[:]) {
 		return nil, false, false

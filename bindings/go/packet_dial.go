@@ -8,9 +8,9 @@ import (
 	"time"
 )
 
-// DialPacket makes a session with a responder over datagrams, on a network as "udp", as docs/UDP.md says. A *ConfigError
-// says what is wrong with the Config; ErrHandshakeTimeout, that no right answer has come in 10 seconds, or those of
-// Config.HandshakeTimeout.
+// DialPacket makes a session with a responder over datagrams, on a network as "udp", as docs/UDP.md says. A
+// *ConfigError says what is wrong with the Config; ErrHandshakeTimeout, that no right answer has come in 10 seconds, or
+// those of Config.HandshakeTimeout.
 func DialPacket(network, address string, config *Config) (*PacketSession, error) {
 	return PacketConfig{Config: config}.Dial(context.Background(), network, address)
 }

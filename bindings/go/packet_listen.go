@@ -53,8 +53,8 @@ type arrival struct {
 	came     int // the bytes that count for message 0
 }
 
-// ListenPacket listens for datagrams on a network as "udp", and accepts sessions as the responder, as docs/UDP.md says. A
-// *ConfigError says what is wrong with the Config.
+// ListenPacket listens for datagrams on a network as "udp", and accepts sessions as the responder, as docs/UDP.md says.
+// A *ConfigError says what is wrong with the Config.
 func ListenPacket(network, address string, config *Config) (*PacketListener, error) {
 	return PacketConfig{Config: config}.Listen(network, address)
 }
@@ -140,8 +140,8 @@ func (l *PacketListener) end(why error) bool {
 	return true
 }
 
-// readAll takes datagrams until the socket is closed. An error of one datagram, as of a port where nobody listens, isn't
-// one of the socket.
+// readAll takes datagrams until the socket is closed. An error of one datagram, as of a port where nobody listens,
+// isn't one of the socket.
 func (l *PacketListener) readAll() {
 	room := make([]byte, 65536)
 	for faults := 0; ; {
@@ -262,8 +262,8 @@ func (l *PacketListener) tell(from net.Addr, came, answer int) {
 	config := l.settings.Config
 	if !l.hasTold && config.ErrorLog != nil && !maySend(came, 0, answer, false) {
 		l.hasTold = true
-		config.ErrorLog.Printf("noise: handshake with %v: it needs a cookie, as others will, since the first message has "+
-			"%d bytes, and the answer may have more than %d times as many", from, came, mostTimes)
+		config.ErrorLog.Printf("noise: handshake with %v: it needs a cookie, as others will, since the first message "+
+			"has %d bytes, and the answer may have more than %d times as many", from, came, mostTimes)
 	}
 }
 
@@ -449,7 +449,8 @@ func (l *PacketListener) makeRoom(s *PacketSession) {
 // isSame reports whether two sessions are of one program, which has begun anew.
 func isSame(one, other *PacketSession) bool {
 	a, b := one.channel.state.PeerStatic, other.channel.state.PeerStatic
-	return one.RemoteAddr().String() == other.RemoteAddr().String() && (a == nil) == (b == nil) && (a == nil || *a == *b)
+	isSameKey := a == nil && b == nil || a != nil && b != nil && *a == *b
+	return isSameKey && one.RemoteAddr().String() == other.RemoteAddr().String()
 }
 
 func (l *PacketListener) forget(s *PacketSession) {
@@ -492,8 +493,8 @@ func watchEvery(idle time.Duration) time.Duration {
 	return resendAfter
 }
 
-// report writes a line of ErrorLog, at most one in a second, where VerifyPeer, PSKFor or the like has refused a message:
-// that a stranger's message isn't right needs none.
+// report writes a line of ErrorLog, at most one in a second, where VerifyPeer, PSKFor or the like has refused a
+// message: that a stranger's message isn't right needs none.
 func (l *PacketListener) report(from net.Addr, err error) {
 	var refused *HandshakeError
 	if err == nil || l.settings.Config.ErrorLog == nil || errors.As(err, &refused) && isCode(refused.Err) {
