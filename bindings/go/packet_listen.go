@@ -25,6 +25,8 @@ type PacketListener struct {
 	sessions map[packetIndex]*PacketSession
 	firsts   map[string]*PacketSession // by message 0
 	cookies  cookies
+	rate     hostRate
+	start    time.Time
 	told     time.Time // when ErrorLog got its last line of a refusal
 	hasTold  bool      // whether it has a line on answers that need a cookie
 	err      error     // why it is closed
@@ -82,7 +84,7 @@ func (p PacketConfig) Listener(conn net.PacketConn) (*PacketListener, error) {
 		accepted: make(chan *PacketSession, p.MaxSessions), begun: map[begunKey]*begunPackets{}, order: list.New(),
 		at: map[string]map[*begunPackets]bool{}, done: map[packetIndex]*begunPackets{},
 		sessions: map[packetIndex]*PacketSession{}, firsts: map[string]*PacketSession{},
-		cookies: cookies{draw: drawSecret},
+		cookies: cookies{draw: drawSecret}, start: time.Now(),
 	}
 	l.context, l.cancel = context.WithCancel(context.Background())
 	go l.readAll()
@@ -225,7 +227,9 @@ func (l *PacketListener) replyTo(message, cookie []byte, from net.Addr) []byte {
 	answer := l.answerLen()
 	switch decideFirst(len(l.begun), l.settings.CookiesFrom, isShown, came, answer) {
 	case answerMessage:
-		l.begin(key, message, from, came, isShown)
+		if !isShown || l.rate.allow(hostOf(from), now.Sub(l.start)) {
+			l.begin(key, message, from, came, isShown)
+		}
 	case answerCookie:
 		l.tell(from, came, answer)
 		if made := l.cookies.make(from, message, now); made != nil {

@@ -24,6 +24,7 @@ const (
 	cookieReplyLen = 1 + 2*cookieLen
 	mostTimes      = 3 // so many times the bytes that came go to an address that hasn't shown itself
 	cookiePeriod   = 120 * time.Second
+	mostASecond    = 32 // handshakes of a host that are begun by cookies
 )
 
 // packetKind is what a datagram is, by its first byte and length.
@@ -172,6 +173,24 @@ func cookieIn(reply, message []byte) []byte {
 		return nil
 	}
 	return reply[1+cookieLen:]
+}
+
+// hostRate counts how many handshakes of each host were begun by a cookie in this second.
+type hostRate struct {
+	second int64
+	counts map[string]int
+}
+
+// allow reports whether one more of a host may begin; if so, it is counted. now is since the listener began.
+func (r *hostRate) allow(host string, now time.Duration) bool {
+	if second := int64(now / time.Second); second != r.second || r.counts == nil {
+		r.second, r.counts = second, map[string]int{}
+	}
+	if r.counts[host] >= mostASecond {
+		return false
+	}
+	r.counts[host]++
+	return true
 }
 
 // packetIndex is the index of a session.

@@ -50,6 +50,11 @@ type ruleCases struct {
 		Came, Sent, Length int
 		Shown, May         bool
 	}
+	Rates []struct {
+		At           int
+		Host         string
+		Count, Begin int
+	}
 	GivesWay []struct {
 		Begun []struct {
 			Host string
@@ -183,6 +188,16 @@ func TestPacketRulesOfFirstMessages(t *testing.T) {
 	}
 	for _, it := range cases.Sends {
 		same(t, fmt.Sprintf("%+v", it), maySend(it.Came, it.Sent, it.Length, it.Shown), it.May)
+	}
+	rate := hostRate{}
+	for _, it := range cases.Rates {
+		begun := 0
+		for i := 0; i < it.Count; i++ {
+			if rate.allow(it.Host, time.Duration(it.At)*time.Millisecond) {
+				begun++
+			}
+		}
+		same(t, fmt.Sprintf("%+v", it), begun, it.Begin)
 	}
 	for _, it := range cases.GivesWay {
 		var begun []waiting

@@ -13,7 +13,6 @@ import shlex
 import shutil
 import subprocess
 import sys
-import time
 from collections.abc import Awaitable, Callable
 from contextlib import AsyncExitStack, asynccontextmanager
 from pathlib import Path
@@ -218,12 +217,10 @@ async def run(parties: dict[str, list[str]], only: str | None) -> tuple[int, lis
             for tried in TRIED:
                 if only not in (None, tried.__name__):
                     continue
-                begun = time.monotonic()
                 try:
                     async with AsyncExitStack() as stack:
                         await tried(Pair(first, second, stack))
                     passed += 1
-                    print(f"{server} {client} {tried.__name__} {time.monotonic() - begun:.1f}")
                 except (Failed, TimeoutError, EOFError) as error:
                     failed.append(f"{server}'s server, {client}'s client: {tried.__name__}: {error!r}")
                     print(f"udp: {failed[-1]}", file=sys.stderr, flush=True)
@@ -247,7 +244,7 @@ def main(words: list[str]) -> int:
     only = words.pop(words.index("--only") + 1) if "--only" in words else None
     parties = {name: shlex.split(command) for name, _, command in (it.partition("=") for it in words if "=" in it)}
     if not in_a_namespace():
-        print("udp: left out: floods, restarts and roaming over UDP: root, and a network namespace (unshare, ip)")
+        print("udp: left out: attacks over UDP: root, and a network namespace (unshare, ip)")
         return 0
     passed, failed = asyncio.run(run(parties, only))
     print(f"udp: {passed} attacks on {' and '.join(parties)}, {len(failed)} failed")

@@ -64,6 +64,12 @@ BEGUN = [
     ("abcdeffedcb", 1), ("aaaaB", 0), ("xyzzyx", 0), ("xyzzyxzy", 1),
 ]  # fmt: skip
 
+# Milliseconds, a host, how many of its handshakes come with a right cookie then, and how many of them begin.
+RATES = [
+    (5000, "a", 10, 10), (5100, "a", 22, 22), (5100, "a", 1, 0), (5999, "a", 5, 0), (5999, "b", 33, 32),
+    (6000, "a", 40, 32), (6500, "b", 1, 1), (9000, "b", 31, 31), (9001, "b", 2, 1), (9999, "a", 32, 32),
+]  # fmt: skip
+
 # IP addresses, and what they are counted by.
 HOSTS = [
     ("192.0.2.1", "c0000201"), ("192.0.2.255", "c00002ff"), ("0.0.0.0", "00000000"), ("127.0.0.1", "7f000001"),
@@ -170,6 +176,7 @@ def whole() -> dict[str, Any]:
         "secrets": secrets(),
         "firsts": words(("halfDone", "busy", "shown", "came", "answer", "does"), FIRSTS),
         "sends": words(("came", "sent", "length", "shown", "may"), SENDS),
+        "rates": words(("at", "host", "count", "begin"), RATES),
         "givesWay": words(("begun", "place"), begun),
         "moves": words(("nonce", "newest", "moves"), places),
         "indices": [

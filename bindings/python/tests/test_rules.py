@@ -71,6 +71,13 @@ def test_a_cookie_is_made_by_the_newest_secret():
     assert made[0] == made[1] and len(set(made)) == 3
 
 
+def test_rates():
+    rate = rules.Rate()
+    for step in CASES["rates"]:
+        got = [rate.allow(step["host"].encode(), step["at"] / 1000) for _ in range(step["count"])]
+        assert sum(got) == step["begin"], step
+
+
 @each("firsts")
 def test_firsts(case):
     *words, does = case.values()

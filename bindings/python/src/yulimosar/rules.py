@@ -18,6 +18,7 @@ HEADING = 1 + INDEX + 8                    # before the ciphertext of a transpor
 OVERHEAD = HEADING + 16                    # how much longer than its payload it is
 REPLY = 1 + 2 * COOKIE
 TIMES = 3           # so many times the bytes that came go to an address that hasn't shown itself
+MOST_A_SECOND = 32    # handshakes of a host that are begun by cookies
 PERIOD = 120.0      # in seconds: how long a secret makes cookies, and how much longer they count
 
 
@@ -129,6 +130,21 @@ def cookie_of(datagram: bytes, message: bytes) -> bytes | None:
 def index_of(last: bytes) -> bytes:
     """The index of a session, by the last message of its handshake."""
     return last[-INDEX:]
+
+
+class Rate:
+    """How many handshakes of each host were begun by a cookie in this second. `now` never goes back."""
+
+    def __init__(self) -> None:
+        self._second, self._counts = -1, Counter[bytes]()
+
+    def allow(self, counted: bytes, now: float) -> bool:
+        """Whether one more of a host may begin; if so, it is counted."""
+        if int(now) != self._second:
+            self._second, self._counts = int(now), Counter()
+        may = self._counts[counted] < MOST_A_SECOND
+        self._counts[counted] += may
+        return may
 
 
 class Cookies:

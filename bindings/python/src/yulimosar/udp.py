@@ -89,7 +89,7 @@ class DatagramProtocol(asyncio.DatagramProtocol):
         self._begun: dict[tuple[Any, bytes], _Begun] = {}    # by address and first message, the oldest first
         self._at: dict[Any, list[_Begun]] = {}    # the same by address alone
         self._done: dict[bytes, _Begun] = {}    # those whose messages have all passed, by index
-        self._cookies = rules.Cookies()
+        self._cookies, self._rate = rules.Cookies(), rules.Rate()
         self._told = False    # whether the log has a line on answers that need a cookie
         self._started = 0.0    # when an initiator has begun the first
         self._timer: asyncio.TimerHandle | None = None
@@ -208,7 +208,8 @@ class DatagramProtocol(asyncio.DatagramProtocol):
         answer = 1 + self._messages[1].length + sum(map(len, self._config.payloads[1:2]))
         decided = rules.first_message(len(self._begun), self._busy, shown, came, answer)
         if decided == First.ANSWER:
-            self._begin(address, message, came, shown)
+            if not shown or self._rate.allow(rules.host(address), now):
+                self._begin(address, message, came, shown)
         elif decided == First.COOKIE:
             self._tell(address, came, answer)
             self._send(rules.reply(message, self._cookies.make(address, message, now)), address)
