@@ -110,9 +110,9 @@ class Relay(asyncio.DatagramProtocol):
 
     def __init__(self, server: int, delay: float, source: str | None, sticky: bool) -> None:
         self._server, self._delay, self._source, self._sticky = server, delay, source, sticky
-        self._ways: dict[object, tuple[asyncio.DatagramTransport, object]] = {}
+        self._ways: dict[object, tuple[_Sender, object]] = {}
         self._hook: tuple[int, Callable[[bytes], bool]] | None = None
-        self._closing: list[asyncio.DatagramTransport] = []
+        self._closing: list[_Sender] = []
         self.port = 0
         self.went: list[bytes] = []    # the last datagrams to the server
 
@@ -138,8 +138,10 @@ class Relay(asyncio.DatagramProtocol):
         self._hook = kind, hook
 
     def move(self, source: str) -> None:
-        """Another address for all clients."""
+        """Another address for all clients; what comes to the one before is lost."""
         self._source = source
+        for transport, _ in self._ways.values():
+            transport.stop()
         self._closing += [way[0] for way in self._ways.values()]
         self._ways.clear()
 
@@ -155,7 +157,7 @@ class Relay(asyncio.DatagramProtocol):
         self._ways[name] = transport, addr
         transport.sendto(data, (HOST, self._server))
 
-    def _way(self, name: object) -> asyncio.DatagramTransport:
+    def _way(self, name: object) -> _Sender:
         """A socket of its own, by which the server sees a client."""
         loop, own = asyncio.get_running_loop(), socket.socket(socket.AF_INET, socket.SOCK_DGRAM)
         own.bind((self._source or f"127.9.{len(self._ways) // 250}.{len(self._ways) % 250 + 1}", 0))
@@ -191,6 +193,9 @@ class _Sender:
         with contextlib.suppress(OSError):
             self._own.sendto(data, to)
 
-    def close(self) -> None:
+    def stop(self) -> None:
         asyncio.get_running_loop().remove_reader(self._own.fileno())
+
+    def close(self) -> None:
+        self.stop()
         self._own.close()
