@@ -25,8 +25,8 @@ export function kindOf(datagram, messages) {
 export const maySend = (came, sent, length, shown) => shown || sent + length <= TIMES * came;
 
 /**
- * What a responder does at a first message in a datagram of `came` bytes, to which `answer` bytes would be sent: 'answer',
- * 'cookie' or 'none'. `shown` is whether a right cookie came with it.
+ * What a responder does at a first message in a datagram of `came` bytes, to which `answer` bytes would be sent:
+ * 'answer', 'cookie' or 'none'. `shown` is whether a right cookie came with it.
  */
 export function firstMessage(halfDone, busy, shown, came, answer) {
   if (shown || (halfDone < busy && maySend(came, 0, answer, false))) return 'answer';
