@@ -1,5 +1,5 @@
-// datagrams.mjs: the rules of docs/UDP.md that need no keys of a handshake. vectors/datagrams.json has their cases, which
-// `node datagrams-test.mjs vectors/datagrams.json` runs.
+// datagrams.mjs: the rules of docs/UDP.md that need no keys of a handshake. vectors/datagrams.json has their cases,
+// which `node datagrams-test.mjs vectors/datagrams.json` runs.
 import { createHash, createHmac, randomBytes, timingSafeEqual } from 'node:crypto';
 
 export const [TRANSPORT, COOKIE_REPLY, WITH_COOKIE] = [8, 9, 10];    // kinds above the numbers of messages
