@@ -112,19 +112,24 @@ func newConn(conn net.Conn, config *Config, initiator bool, limit time.Duration)
 func (c *Conn) ConnectionState() ConnectionState {
 	c.stateMutex.Lock()
 	defer c.stateMutex.Unlock()
-	state := c.state
-	if state.PeerStatic != nil {
-		key := *state.PeerStatic
-		state.PeerStatic = &key
+	return c.state.copied()
+}
+
+// copied returns a copy in memory of its own.
+func (s ConnectionState) copied() ConnectionState {
+	payloads := s.Payloads
+	if s.PeerStatic != nil {
+		key := *s.PeerStatic
+		s.PeerStatic = &key
 	}
-	state.Payloads = make([][]byte, len(c.state.Payloads))
-	for i, payload := range c.state.Payloads {
-		state.Payloads[i] = append([]byte(nil), payload...)
-		if payload != nil && state.Payloads[i] == nil {
-			state.Payloads[i] = []byte{}
+	s.Payloads = make([][]byte, len(payloads))
+	for i, payload := range payloads {
+		s.Payloads[i] = append([]byte(nil), payload...)
+		if payload != nil && s.Payloads[i] == nil {
+			s.Payloads[i] = []byte{}
 		}
 	}
-	return state
+	return s
 }
 
 // Read reads what the other party has written. It returns io.EOF once that party has sent the end of its stream.

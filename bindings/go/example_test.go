@@ -8,6 +8,7 @@ import (
 	"io"
 	"log"
 	"net"
+	"os"
 	"strings"
 	"testing/iotest"
 	"time"
@@ -121,6 +122,57 @@ func ExampleDialer() {
 }
 
 // What is wrong with a Config is found before a byte is sent.
+func ExampleListenPacket() {
+	config := &noise.Config{Pattern: "NNpsk0", Prologue: []byte("udp 1"), PSKs: []noise.PSK{{1, 2, 3}}}
+	serve := func(client net.Conn) {
+		io.Copy(client, client) // each payload comes back as one datagram
+	}
+	listen := func() error {
+		listener, err := noise.ListenPacket("udp", ":4045", config)
+		if err != nil {
+			return err
+		}
+		for {
+			client, err := listener.Accept()
+			if err != nil {
+				return err
+			}
+			go serve(client)
+		}
+	}
+	_ = listen
+}
+
+func ExampleDialPacket() {
+	config := &noise.Config{Pattern: "NNpsk0", Prologue: []byte("udp 1"), PSKs: []noise.PSK{{1, 2, 3}}}
+	listener, err := noise.ListenPacket("udp", "127.0.0.1:0", config)
+	must(err)
+	defer listener.Close()
+	go func() {
+		client, err := listener.Accept()
+		must(err)
+		io.Copy(client, client)
+	}()
+
+	server, err := noise.DialPacket("udp", listener.Addr().String(), config)
+	must(err)
+	defer server.Close()
+	answer := make([]byte, 1500)
+	for { // either may be lost
+		_, err := server.Write([]byte("hello"))
+		must(err)
+		server.SetReadDeadline(time.Now().Add(time.Second))
+		n, err := server.Read(answer)
+		if errors.Is(err, os.ErrDeadlineExceeded) {
+			continue
+		}
+		must(err)
+		fmt.Printf("%s\n", answer[:n])
+		break
+	}
+	// Output: hello
+}
+
 func ExampleConfig_Check() {
 	fmt.Println((&noise.Config{Pattern: "IK"}).Check(true))
 	key, err := noise.GenerateKeyPair()

@@ -202,14 +202,14 @@ def test_what_a_channel_refuses():
     for call in (lambda: channel.send(b"x"), lambda: channel.send(b"")):
         with pytest.raises(CallError):
             call()
-    assert channel.receive(b"") is None and channel.receive(b"\2" + bytes(40)) is None
+    assert channel.receive(b"") is None and channel.receive(b"\x08" + bytes(40)) is None
     channel.close()
     assert channel.receive(b"\1" + bytes(48)) is None and not channel.datagrams_to_send()
     network = Network("NN", 1).run()
     with pytest.raises(ValueError):
         network.ends[0].send(b"")
     network.ends[0].close()
-    assert network.ends[0].receive(b"\2" + bytes(40)) is None
+    assert network.ends[0].receive(b"\x08" + bytes(40)) is None
 
 
 def test_a_key_of_low_order_is_dropped():
@@ -412,7 +412,7 @@ def test_strangers_do_not_displace_a_handshake_that_is_done(each_loop):
     """The client has all it needs, and the server hasn't heard of it, while others begin more than it holds."""
     async def main(_result):
         first, second = configs("XX", handshake_timeout=60)
-        async with server_behind(second) as (server, address):
+        async with server_behind(second, busy=udp.MOST_BEGUN + 1) as (server, address):
             loop = asyncio.get_running_loop()
             transport, raw = await loop.create_datagram_endpoint(lambda: Recorder([]), remote_addr=address)
             channel = DatagramChannel(first, True)
@@ -421,7 +421,7 @@ def test_strangers_do_not_displace_a_handshake_that_is_done(each_loop):
                     transport.sendto(datagram)
                 channel.receive(await raw.came.get())
             channel.datagrams_to_send()    # it doesn't come
-            for number in range(1, 201):
+            for number in range(1, udp.MOST_BEGUN + 150):
                 transport.sendto(b"\0" + number.to_bytes(32, "big"))
                 await asyncio.sleep(0.001)
             await until(lambda: len(server._begun) == udp.MOST_BEGUN)
@@ -483,9 +483,9 @@ def test_a_payload_that_no_datagram_takes(each_loop):
         first, second = configs("NN")
         async with server_behind(second) as (_, address), client_at(address, first) as client:
             peer = await client.connected
-            await ask(client, peer, bytes(65482))
-            with pytest.raises(ValueError, match="at most 65482 bytes"):
-                peer.send(bytes(65483))
+            await ask(client, peer, bytes(65474))
+            with pytest.raises(ValueError, match="at most 65474 bytes"):
+                peer.send(bytes(65475))
     run(main)
 
 

@@ -13,7 +13,7 @@ from yulimosar import Config, DatagramPeer, DatagramProtocol
 
 def config() -> Config:
     """What both parties start from."""
-    return Config(pattern="NNpsk0", prologue=b"udp 2", psks=[Path("secret").read_bytes()])
+    return Config(pattern="NNpsk0", prologue=b"udp 3", psks=[Path("secret").read_bytes()])
 
 
 class Server(DatagramProtocol):

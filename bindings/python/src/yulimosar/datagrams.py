@@ -1,12 +1,10 @@
 """A channel over datagrams without input and output: a handshake that outlives loss, repeats, delays and strangers,
-and the payloads after it.
-
-A datagram begins with a byte, its kind: the number of its handshake message, from 0 on; or, of what follows the
-handshake, the number of messages that the pattern has. An empty payload is the protocol's own: it shows that its sender
-has the keys.
+and the payloads after it. docs/UDP.md has the form of the datagrams. An empty payload is the protocol's own: it shows
+that its sender has the keys.
 """
 from __future__ import annotations
 
+from . import rules
 from .channel import Agreed
 from .codes import Code
 from .config import Config
@@ -14,6 +12,7 @@ from .errors import CallError, ConfigError, MessageRefused
 from .handshake import Handshake
 from .memory import Buffer
 from .pattern import layout
+from .rules import Kind
 from .transport import Datagrams
 
 
@@ -45,7 +44,12 @@ class DatagramChannel:
         self._result: Agreed | None = None
         self._agreed: Agreed | None = None
         self._fault: MessageRefused | None = None
+        self._cookie: bytes | None = None    # what the responder wants beside the first message
+        self.index: bytes | None = None    # of the session, once all messages have passed
+        self.first = b""    # the first message of the handshake
+        self.accepted = 0    # how many messages of the other party were accepted
         self.opened = 0    # how many datagrams were opened
+        self.newest = -1    # the greatest nonce of them
         if initiator:
             self._write()
 
@@ -62,25 +66,50 @@ class DatagramChannel:
     @property
     def begun(self) -> bool:
         """Whether a message of the other party was accepted."""
-        return bool(self._others)
+        return self.accepted > 0
 
     @property
     def done(self) -> bool:
         """Whether all messages of the handshake have passed here."""
         return self._result is not None
 
+    @property
+    def challenged(self) -> bool:
+        """Whether the responder wants a cookie, and has sent it."""
+        return self._cookie is not None
+
     def receive(self, datagram: Buffer) -> bytes | None:
-        """Receives a datagram: its payload; None if it has none, or isn't accepted."""
+        """Receives a datagram: its payload; None if it has none, or isn't accepted. Whether a responder wants a cookie
+        is decided before: here one that came with a first message is dropped."""
         came = bytes(datagram)
-        if not came:
-            return None
-        if came[0] == self._count:
+        kind = rules.kind(came, self._count)
+        if kind == Kind.TRANSPORT:
             return self._open(came)
+        if kind == Kind.COOKIE_REPLY:
+            self._keep(came)
+        elif kind == Kind.WITH_COOKIE and not self._initiator:
+            self._message(b"\0" + came[1 + rules.COOKIE:])
+        elif kind == Kind.MESSAGE:
+            self._message(came)
+        return None
+
+    def _message(self, came: bytes) -> None:
+        if self._agreed is not None:
+            return
         if came == self._others:
             self._answer()    # what was sent after it was lost
         elif self._handshake is not None:
             self._read(self._handshake, came)
-        return None
+
+    def _keep(self, came: bytes) -> None:
+        """Keeps a cookie; the first one is sent at once."""
+        if not self._initiator or self._others or self._handshake is None:
+            return
+        found, had = rules.cookie_of(came, self._own[1:]), self._cookie
+        if found is not None:
+            self._cookie = found
+            if had is None:
+                self.repeat()
 
     def send(self, payload: Buffer) -> None:
         """Seals a payload of 1 byte or more, once `agreed` is set."""
@@ -88,7 +117,11 @@ class DatagramChannel:
             raise CallError(Code.NOT_DONE)
         if not len(payload):
             raise ValueError("an empty payload is the protocol's own")
-        self._to_send.append(bytes([self._count]) + self._datagrams.seal(payload))
+        self._seal(self._datagrams, payload)
+
+    def _seal(self, datagrams: Datagrams, payload: Buffer) -> None:
+        assert self.index is not None
+        self._to_send.append(bytes([rules.TRANSPORT]) + self.index + datagrams.seal(payload))
 
     def repeat(self) -> None:
         """Sends again what the other party hasn't answered. A responder does so only after the last message."""
@@ -96,6 +129,8 @@ class DatagramChannel:
             return
         if self._datagrams is not None and not self._writes_last:
             self._answer()
+        elif self._initiator and self._cookie is not None and not self._others:
+            self._to_send.append(rules.with_cookie(self._cookie, self._own[1:]))
         elif self._initiator:
             self._to_send.append(self._own)
 
@@ -119,14 +154,15 @@ class DatagramChannel:
         try:
             self._payloads.append(handshake.try_read(came[1:]))
             if handshake.done:
-                self._finish(handshake)
+                self._finish(handshake, came)
             else:
                 self._write()
         except MessageRefused as fault:    # where a write was refused, as for a key of low order, the handshake is over
             self._fault = fault
             self._handshake = None if handshake.closed else handshake
             return
-        self._others = came
+        self._others, self.accepted = came, self.accepted + 1
+        self.first = self.first or came[1:]
         if self._datagrams is not None and not self._writes_last:
             self._answer()
 
@@ -135,12 +171,14 @@ class DatagramChannel:
         assert handshake is not None
         index, payloads = handshake.message, self._config.payloads
         self._own = bytes([index]) + handshake.write(payloads[index] if index < len(payloads) else b"")
+        self.first = self.first or self._own[1:]
         self._payloads.append(None)
         self._to_send.append(self._own)
         if handshake.done:
-            self._finish(handshake)
+            self._finish(handshake, self._own)
 
-    def _finish(self, handshake: Handshake) -> None:
+    def _finish(self, handshake: Handshake, last: bytes) -> None:
+        self.index = rules.index_of(last)
         self._result = Agreed(handshake.protocol, self._initiator, handshake.hash, handshake.peer_key,
                               tuple(self._payloads))
         self._datagrams = handshake.datagrams(self._window)
@@ -152,17 +190,20 @@ class DatagramChannel:
         if self._datagrams is None or self._writes_last:
             self._to_send.append(self._own)
         elif not self._datagrams.closed:
-            self._to_send.append(bytes([self._count]) + self._datagrams.seal(b""))
+            self._seal(self._datagrams, b"")
 
     def _open(self, came: bytes) -> bytes | None:
-        if self._datagrams is None or self._datagrams.closed:
+        if self._datagrams is None or self._datagrams.closed or came[1:1 + rules.INDEX] != self.index:
             return None
         try:
-            payload = self._datagrams.open(came[1:])
+            payload = self._datagrams.open(came[1 + rules.INDEX:])
         except MessageRefused:
             return None
         self.opened += 1
+        nonce = int.from_bytes(came[1 + rules.INDEX:rules.HEADING], "big")
+        if rules.moves(nonce, self.newest):
+            self.newest = nonce
         self._agreed = self._result
         if not payload and self._writes_last:
-            self._to_send.append(bytes([self._count]) + self._datagrams.seal(b""))
+            self._seal(self._datagrams, b"")
         return payload or None

@@ -1,21 +1,25 @@
-"""Channels over UDP for asyncio: a DatagramProtocol."""
+"""Channels over UDP for asyncio: a DatagramProtocol. docs/UDP.md says what it sends, and when."""
 from __future__ import annotations
 
 import asyncio
 import logging
-from collections import Counter
 from typing import Any, cast
 
+from . import rules
 from .channel import Agreed
-from .codes import DATAGRAM_OVERHEAD, Code
+from .codes import Code
 from .config import Config
 from .datagrams import DatagramChannel
 from .errors import ConfigError, HandshakeTimeout, MessageRefused, NoiseError
 from .memory import Buffer
+from .pattern import layout
+from .rules import First, Kind
 
 RESEND = 0.25       # in seconds: after which what isn't answered is sent again
-MOST_BEGUN = 64     # how many handshakes without a peer a responder has at once
-MOST_PAYLOAD = 65507 - 1 - DATAGRAM_OVERHEAD    # a datagram of UDP over IPv4 has at most 65507 bytes
+RESTART = 1.0       # in seconds: after which an initiator begins another handshake beside those that aren't answered
+MOST_TRIED = 8      # how many handshakes an initiator has at once
+MOST_BEGUN = 256    # how many handshakes without a peer a responder has at once
+MOST_PAYLOAD = 65507 - rules.OVERHEAD    # a datagram of UDP over IPv4 has at most 65507 bytes
 
 logger = logging.getLogger("yulimosar")
 
@@ -25,8 +29,9 @@ class DatagramPeer:
 
     def __init__(self, protocol: DatagramProtocol, channel: DatagramChannel, address: Any) -> None:
         self._protocol, self._channel = protocol, channel
-        self.address = address    # None of the responder, to which the socket is connected
+        self.address = address    # the last one of which a datagram opened; None of the responder, whose doesn't change
         self.heard = protocol.loop.time()
+        self._first = b""    # the first message of the handshake
 
     @property
     def noise(self) -> Agreed:
@@ -34,7 +39,7 @@ class DatagramPeer:
         return cast(Agreed, self._channel.agreed)
 
     def send(self, payload: Buffer) -> None:
-        """Sends a payload of 1 to 65482 bytes in one datagram, 25 bytes longer. It may be lost, repeated and reordered
+        """Sends a payload of 1 to 65474 bytes in one datagram, 33 bytes longer. It may be lost, repeated and reordered
         on its way; the other party gets it at most once."""
         if len(payload) > MOST_PAYLOAD:
             raise ValueError(f"a datagram takes at most {MOST_PAYLOAD} bytes, and this payload has {len(payload)}")
@@ -46,25 +51,47 @@ class DatagramPeer:
         self._protocol._forget(self)
 
 
+class _Begun:
+    """A handshake that no peer has come of yet."""
+
+    def __init__(self, channel: DatagramChannel, address: Any, first: bytes, since: float) -> None:
+        self.channel, self.address, self.first, self.since = channel, address, first, since
+        self.came = self.sent = 0    # bytes
+        self.shown = False    # whether the address has shown that it gets what is sent to it
+
+    def may_send(self, length: int) -> bool:
+        """Whether so many bytes may go to the address; if so, they are counted."""
+        may = rules.may_send(self.came, self.sent, length, self.shown)
+        self.sent += length if may else 0
+        return may
+
+
 class DatagramProtocol(asyncio.DatagramProtocol):
     """What loop.create_datagram_endpoint asks for. Override `peer_connected`, `payload_received` and `peer_lost`.
 
     An initiator has one peer, that of `remote_addr`: `await connected` gives it. A responder has a peer for each
-    address that has shown in a handshake who it is; a new handshake from an address replaces its peer once a datagram
-    opens with the new keys. Functions of the Config can't be asynchronous here.
+    session that has shown in a handshake who it is, and follows it where its address changes; a new session replaces
+    that of the same address and static key. Functions of the Config can't be asynchronous here. From `busy` handshakes
+    on that aren't done, a first message needs a cookie: 0 is always.
     """
 
     def __init__(self, config: Config, initiator: bool, *, window: int = 64, most_peers: int = 1024,
-                 idle: float | None = 180.0) -> None:
+                 idle: float | None = 180.0, busy: int = 16) -> None:
         config.check(initiator)
         self.loop = asyncio.get_running_loop()
         self.connected: asyncio.Future[DatagramPeer] = self.loop.create_future()    # an initiator's
         self.connected.add_done_callback(lambda it: it.cancelled() or it.exception())    # nobody may wait for it
         self._config, self._initiator, self._window = config, initiator, window
-        self._most_peers, self._idle = most_peers, idle
-        self._peers: dict[Any, DatagramPeer] = {}
-        self._begun: dict[tuple[Any, bytes], tuple[DatagramChannel, float]] = {}    # by address and first datagram
-        self._firsts: dict[Any, bytes] = {}    # the first datagram of each peer's handshake
+        self._most_peers, self._idle, self._busy = most_peers, idle, busy
+        self._messages = layout(config.pattern).messages
+        self._peers: dict[bytes, DatagramPeer] = {}    # by index
+        self._firsts: dict[bytes, DatagramPeer] = {}    # by the first message of each peer's handshake
+        self._begun: dict[tuple[Any, bytes], _Begun] = {}    # by address and first message, the oldest first
+        self._at: dict[Any, list[_Begun]] = {}    # the same by address alone
+        self._done: dict[bytes, _Begun] = {}    # those whose messages have all passed, by index
+        self._cookies, self._rate = rules.Cookies(), rules.Rate()
+        self._told = False    # whether the log has a line on answers that need a cookie
+        self._started = 0.0    # when an initiator has begun the first
         self._timer: asyncio.TimerHandle | None = None
         self._transport: asyncio.DatagramTransport | None = None
 
@@ -76,107 +103,216 @@ class DatagramProtocol(asyncio.DatagramProtocol):
 
     def peer_lost(self, peer: DatagramPeer, fault: Exception | None) -> None:
         """Nothing more comes from a peer: it was silent for `idle` seconds (TimeoutError), was replaced by another
-        handshake from its address, or gave way to another where there were `most_peers` (None); or the error of the
+        session of its address and key, or gave way to another where there were `most_peers` (None); or the error of the
         socket."""
 
     def connection_made(self, transport: asyncio.BaseTransport) -> None:
         self._transport = cast(asyncio.DatagramTransport, transport)
+        self._started = self.loop.time()
         if self._initiator:
-            self._begin(None, b"")
+            self._try()
 
     def connection_lost(self, exc: Exception | None) -> None:
         self._transport = None
         if self._timer is not None:
             self._timer.cancel()
-        for channel, _ in self._begun.values():
-            channel.close()
-        self._begun.clear()
+        for begun in list(self._begun.values()):
+            self._close(begun)
         for peer in list(self._peers.values()):
             self._lose(peer, exc)
         if not self.connected.done():
             self.connected.set_exception(exc or HandshakeTimeout("the socket was closed in the handshake"))
 
-    def datagram_received(self, data: bytes, addr: Any) -> None:
-        address = None if self._initiator else addr
-        peer = self._peers.get(address)
-        if peer is not None and self._take(peer._channel, address, data):
-            return
-        for key in [key for key in self._begun if key[0] == address]:
-            if self._take(self._begun[key][0], address, data, key):
-                return
-        if data[:1] == b"\0" and not self._initiator and (address, data) not in self._begun \
-                and self._firsts.get(address) != data:
-            self._begin(address, data)
-
     def error_received(self, exc: Exception) -> None:
         """A datagram couldn't be sent, as to a port where nobody listens yet: it counts as lost."""
 
-    def _begin(self, address: Any, first: bytes) -> None:
-        """Begins a handshake: for a responder, if the first datagram is accepted."""
-        try:
-            channel = DatagramChannel(self._config, self._initiator, self._window)
-        except NoiseError as fault:    # `verify` has refused a key that is known from the start
-            self.connected.set_exception(fault)
+    def datagram_received(self, data: bytes, addr: Any) -> None:
+        kind, address = rules.kind(data, len(self._messages)), None if self._initiator else addr
+        if kind == Kind.TRANSPORT:
+            self._transported(address, data)
+        elif self._initiator:
+            self._answered(data)
+        elif kind == Kind.WITH_COOKIE:
+            start = 1 + rules.COOKIE
+            self._first(address, data[start:], data[1:start])
+        elif kind == Kind.MESSAGE and data[0] == 0:
+            self._first(address, data[1:], None)
+        elif kind == Kind.MESSAGE:
+            for begun in list(self._at.get(address, ())):
+                self._pass(begun, data)
+
+    def _transported(self, address: Any, data: bytes) -> None:
+        """A transport datagram belongs to the session of its index, wherever it comes from."""
+        index = data[1:1 + rules.INDEX]
+        begun, peer = self._done.get(index), self._peers.get(index)
+        channel = begun.channel if begun is not None else peer._channel if peer is not None else None
+        if channel is None:
             return
-        if not self._initiator:
-            channel.receive(first)
-            if not channel.begun:
-                self._report(address, channel.fault)
-                channel.close()
-                return
+        opened, newest, payload = channel.opened, channel.newest, channel.receive(data)
+        if channel.opened == opened:
+            return
+        if begun is not None:
+            peer = self._connect(begun, address)
+        elif peer is not None and channel.newest > newest:
+            peer.address = address
+        if peer is None:
+            return
+        peer.heard = self.loop.time()
+        self._flush(channel, peer.address)
+        if payload is not None:
+            self.payload_received(peer, payload)
+
+    # An initiator.
+
+    def _try(self) -> None:
+        """Begins a handshake, beside those that aren't answered."""
+        try:
+            channel = DatagramChannel(self._config, True, self._window)
+        except NoiseError as fault:    # `verify` has refused a key that is known from the start
+            self._give_up(fault)
+            return
+        if len(self._begun) >= MOST_TRIED:
+            self._close(next(iter(self._begun.values())))
+        self._add(_Begun(channel, None, channel.first, self.loop.time()))
+
+    def _answered(self, data: bytes) -> None:
+        for begun in list(self._begun.values()):
+            self._pass(begun, data)
+
+    def _try_again(self, now: float) -> None:
+        """Sends again what isn't answered; of what nobody has answered at all, the newest alone."""
+        *others, newest = self._begun.values()
+        if now - newest.since >= RESTART:
+            self._try()    # the responder may have forgotten the others
+            others.append(newest)
+        else:
+            self._repeat(newest)
+        for begun in others:
+            if begun.channel.accepted and (None, begun.first) in self._begun:
+                self._repeat(begun)
+
+    # A responder.
+
+    def _first(self, address: Any, message: bytes, cookie: bytes | None) -> None:
+        """A first message: the same again, or one that begins a handshake."""
+        came = len(message) + 1 + (0 if cookie is None else rules.COOKIE)
+        begun, now = self._begun.get((address, message)), self.loop.time()
+        if begun is not None:
+            begun.came += came
+            self._pass(begun, b"\0" + message)
+            return
+        fixed = self._messages[0].length
+        if message in self._firsts or not fixed <= len(message) <= (self._config.handshake_limit or fixed + 4096):
+            return
+        shown = cookie is not None and self._cookies.accept(cookie, address, message, now)
+        answer = 1 + self._messages[1].length + sum(map(len, self._config.payloads[1:2]))
+        decided = rules.first_message(len(self._begun), self._busy, shown, came, answer)
+        if decided == First.ANSWER:
+            if not shown or self._rate.allow(rules.host(address), now):
+                self._begin(address, message, came, shown)
+        elif decided == First.COOKIE:
+            self._tell(address, came, answer)
+            self._send(rules.reply(message, self._cookies.make(address, message, now)), address)
+
+    def _tell(self, address: Any, came: int, answer: int) -> None:
+        if not self._told and not rules.may_send(came, 0, answer, False):
+            self._told = True
+            logger.info("handshake with %s: it needs a cookie, as others will, since the first message has %d bytes, "
+                        "and the answer would have more than %d times as many: %d", address, came, rules.TIMES, answer)
+
+    def _begin(self, address: Any, message: bytes, came: int, shown: bool) -> None:
+        """Begins a handshake, if its first message is accepted."""
+        channel = DatagramChannel(self._config, False, self._window)
+        channel.receive(b"\0" + message)
+        if not channel.accepted:
+            self._report(address, channel.fault)
+            channel.close()
+            return
+        begun = _Begun(channel, address, message, self.loop.time())
+        begun.came, begun.shown = came, shown
         if len(self._begun) >= MOST_BEGUN:
-            self._begun.pop(self._least())[0].close()
-        self._begun[address, first] = channel, self.loop.time()
-        self._flush(channel, address)
+            listed = list(self._begun.values())
+            self._close(listed[rules.gives_way([(rules.host(it.address), it.channel.done) for it in listed])])
+        self._add(begun)
+
+    # Both.
+
+    def _add(self, begun: _Begun) -> None:
+        self._begun[begun.address, begun.first] = begun
+        self._at.setdefault(begun.address, []).append(begun)
+        self._see(begun)
         self._wait()
 
-    def _least(self) -> tuple[Any, bytes]:
-        """The handshake that gives way to a new one: of the address that has the most, the oldest that isn't done. One
-        that is done has shown more than a stranger can, and the other party may rely on it already."""
-        open_ones = [key for key, (channel, _) in self._begun.items() if not channel.done] or list(self._begun)
-        counts = Counter(address for address, _ in open_ones)
-        return max(open_ones, key=lambda key: counts[key[0]])
+    def _pass(self, begun: _Begun, data: bytes) -> None:
+        """Gives a message, or a cookie, to a handshake."""
+        accepted = begun.channel.accepted
+        begun.channel.receive(data)
+        if begun.channel.accepted > accepted:
+            begun.shown = True    # it was made of what was sent to the address
+        self._see(begun)
 
-    def _take(self, channel: DatagramChannel, address: Any, data: bytes, key: tuple[Any, bytes] | None = None) -> bool:
-        """Gives a datagram to a channel; whether it opened it."""
-        opened, payload = channel.opened, channel.receive(data)
-        self._flush(channel, address)
-        if channel.opened == opened:
-            return False
-        if key is not None:
-            self._connect(channel, address, key)
-        peer = self._peers.get(address)
-        if peer is not None:
-            peer.heard = self.loop.time()
-            if payload is not None:
-                self.payload_received(peer, payload)
-        return True
+    def _see(self, begun: _Begun) -> None:
+        """Sends what a handshake has to send, and notes its index once it has one."""
+        index = begun.channel.index
+        if index is not None and (index in self._peers or self._done.setdefault(index, begun) is not begun):
+            self._close(begun)    # two sessions have the same index
+        for datagram in begun.channel.datagrams_to_send():
+            if self._initiator or begun.may_send(len(datagram)):
+                self._send(datagram, begun.address)
 
-    def _connect(self, channel: DatagramChannel, address: Any, key: tuple[Any, bytes]) -> None:
-        """Makes a peer of a channel whose keys have opened a datagram."""
-        for other in [other for other in self._begun if other[0] == address]:
-            begun = self._begun.pop(other)[0]
-            if begun is not channel:
-                begun.close()
-        if address in self._peers:
-            self._lose(self._peers[address], None)
-        elif len(self._peers) >= self._most_peers:
-            self._lose(min(self._peers.values(), key=lambda peer: peer.heard), None)
-        peer = self._peers[address] = DatagramPeer(self, channel, address)
-        self._firsts[address] = key[1]
+    def _repeat(self, begun: _Begun) -> None:
+        begun.channel.repeat()
+        self._see(begun)
+
+    def _close(self, begun: _Begun) -> None:
+        """Forgets a handshake, and its keys."""
+        begun.channel.close()
+        self._drop(begun)
+
+    def _drop(self, begun: _Begun) -> None:
+        del self._begun[begun.address, begun.first]
+        at = self._at[begun.address]
+        at.remove(begun)
+        if not at:
+            del self._at[begun.address]
+        index = begun.channel.index
+        if index is not None and self._done.get(index) is begun:
+            del self._done[index]
+
+    def _connect(self, begun: _Begun, address: Any) -> DatagramPeer | None:
+        """Makes a peer of a handshake whose keys have opened a datagram."""
+        channel, index = begun.channel, cast(bytes, begun.channel.index)
+        self._drop(begun)
+        for other in list(self._at.get(begun.address, ())):
+            self._close(other)
+        if index in self._peers:
+            channel.close()
+            return None
+        peer = DatagramPeer(self, channel, address)
+        for other_peer in [it for it in self._peers.values() if _same(it, peer)]:
+            self._lose(other_peer, None)
+        if len(self._peers) >= self._most_peers:
+            self._lose(min(self._peers.values(), key=lambda it: it.heard), None)
+        self._peers[index] = self._firsts[begun.first] = peer
+        peer._first = begun.first
         if not self.connected.done():
             self.connected.set_result(peer)
         self.peer_connected(peer)
+        return peer
+
+    def _send(self, datagram: bytes, address: Any) -> None:
+        if self._transport is not None:
+            self._transport.sendto(datagram, address)
 
     def _flush(self, channel: DatagramChannel, address: Any) -> None:
         for datagram in channel.datagrams_to_send():
-            if self._transport is not None:
-                self._transport.sendto(datagram, address)
+            self._send(datagram, address)
 
     def _forget(self, peer: DatagramPeer) -> None:
         peer._channel.close()
-        if self._peers.get(peer.address) is peer:
-            del self._peers[peer.address], self._firsts[peer.address]
+        index = cast(bytes, peer._channel.index)
+        if self._peers.get(index) is peer:
+            del self._peers[index], self._firsts[peer._first]
 
     def _lose(self, peer: DatagramPeer, fault: Exception | None) -> None:
         self._forget(peer)
@@ -185,14 +321,19 @@ class DatagramProtocol(asyncio.DatagramProtocol):
     def _tick(self) -> None:
         """Sends again what isn't answered, and gives up what has taken too long."""
         now, limit = self.loop.time(), self._config.handshake_timeout
-        for key, (channel, since) in list(self._begun.items()):
-            if limit is not None and now - since >= limit:
-                del self._begun[key]
-                channel.close()
-                self._give_up(key[0], channel)
+        if self._initiator and self._begun:
+            if limit is not None and now - self._started >= limit:
+                self._give_up()
             else:
-                channel.repeat()
-                self._flush(channel, key[0])
+                self._try_again(now)
+        elif not self._initiator:
+            for begun in list(self._begun.values()):
+                if limit is not None and now - begun.since >= limit:
+                    self._close(begun)
+                    if begun.channel.fault is not None:
+                        self._report(begun.address, begun.channel.fault)
+                else:
+                    self._repeat(begun)
         for peer in list(self._peers.values()) if self._idle is not None else ():
             if now - peer.heard >= cast(float, self._idle):
                 self._lose(peer, TimeoutError("nothing has come from the peer"))
@@ -210,13 +351,19 @@ class DatagramProtocol(asyncio.DatagramProtocol):
             elif self._peers and self._idle is not None:
                 self._timer = self.loop.call_later(max(RESEND, self._idle / 4), self._tick)
 
-    def _give_up(self, address: Any, channel: DatagramChannel) -> None:
-        if self._initiator and not self.connected.done():
-            fault = HandshakeTimeout()
-            fault.__cause__ = channel.fault    # what the last datagram was refused for
-            self.connected.set_exception(fault)
-        elif channel.fault is not None:
-            self._report(address, channel.fault)
+    def _give_up(self, why: NoiseError | None = None) -> None:
+        """An initiator has no session, or not in time."""
+        channels = [begun.channel for begun in self._begun.values()]
+        for begun in list(self._begun.values()):
+            self._close(begun)
+        if self.connected.done():
+            return
+        if why is None and any(it.challenged for it in channels) and not any(it.accepted for it in channels):
+            why = HandshakeTimeout("the responder has asked for a cookie, and hasn't answered the message with it")
+        elif why is None:
+            why = HandshakeTimeout()
+            why.__cause__ = next((it.fault for it in reversed(channels) if it.fault), None)    # why one was refused
+        self.connected.set_exception(why)
 
     def _report(self, address: Any, fault: MessageRefused | None) -> None:
         """A line of the log: at ERROR for what this program does; at DEBUG for others, since anybody can send."""
@@ -225,3 +372,8 @@ class DatagramProtocol(asyncio.DatagramProtocol):
             logger.debug("handshake with %s: %s", address, fault or "no message of a handshake")
         else:
             logger.error("handshake with %s: %s", address, fault, exc_info=cause)
+
+
+def _same(one: DatagramPeer, other: DatagramPeer) -> bool:
+    """Whether two sessions are of one program: one that has begun anew."""
+    return one.address == other.address and one.noise.peer_key == other.noise.peer_key

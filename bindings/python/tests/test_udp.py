@@ -1,0 +1,224 @@
+"""Cookies, three times the bytes, restarts and roaming of the DatagramProtocol (docs/UDP.md)."""
+import asyncio
+import contextlib
+import hashlib
+
+import pytest
+from loops import each_loop, run, until
+from test_datagrams import Recorder, ask, client_at, server_behind
+from toys import configs
+
+from yulimosar import DatagramChannel, HandshakeTimeout, rules, udp
+
+assert each_loop    # a fixture of the tests with a loop
+
+
+class Raw(Recorder):
+    """A client's socket without a protocol, which shows what comes."""
+
+    async def next(self, seconds=20):
+        async with asyncio.timeout(seconds):
+            return await self.came.get()
+
+
+@contextlib.asynccontextmanager
+async def raw_at(address):
+    loop = asyncio.get_running_loop()
+    transport, raw = await loop.create_datagram_endpoint(lambda: Raw([]), remote_addr=address)
+    try:
+        yield raw
+    finally:
+        transport.close()
+        await asyncio.sleep(0)
+
+
+def first_message(number):
+    return b"\0" + number.to_bytes(32, "big")
+
+
+def test_at_load_nothing_is_kept_or_computed_without_a_cookie(each_loop, monkeypatch):
+    made = []
+
+    class Counted(DatagramChannel):
+        def __init__(self, *words):
+            super().__init__(*words)
+            made.append(self)
+
+    async def main(_result):
+        first, second = configs("XX")
+        async with server_behind(second) as (server, address), raw_at(address) as raw:
+            monkeypatch.setattr(udp, "DatagramChannel", Counted)
+            for number in range(1, 101):
+                raw.transport.sendto(first_message(number))
+            came = [await raw.next() for _ in range(100)]
+            assert [it[0] for it in came] == [1] * 16 + [9] * 84 and len(made) == len(server._begun) == 16
+            for number, reply in enumerate(came[16:], 17):
+                assert reply[1:17] == hashlib.sha256(first_message(number)[1:]).digest()[:16] and len(reply) == 33
+            message, cookie = first_message(100)[1:], came[-1][17:]
+            for wrong in (bytes(16), came[-2][17:], cookie[:-1] + bytes([cookie[-1] ^ 1])):
+                raw.transport.sendto(b"\x0a" + wrong + message)
+                assert (await raw.next())[0] == 9 and len(made) == 16
+            async with raw_at(address) as other:    # the cookie is of another address
+                other.transport.sendto(b"\x0a" + cookie + message)
+                assert (await other.next())[0] == 9 and len(made) == 16
+            for _ in range(3):    # the same answer each time
+                raw.transport.sendto(b"\x0a" + cookie + message)
+                assert (await raw.next())[0] == 1 and len(made) == 17
+            async with client_at(address, first) as client:
+                await ask(client, await client.connected, b"text")
+    run(main)
+
+
+def test_cookies_of_old_secrets(each_loop):
+    """One of the secret before is right, and none of an older one."""
+    async def main(_result):
+        _, second = configs("XX")
+        async with server_behind(second, busy=0) as (server, address), raw_at(address) as raw:
+            replies = []
+            for number in (1, 2):
+                raw.transport.sendto(first_message(number))
+                replies.append(await raw.next())
+            for number, (reply, kind) in enumerate(zip(replies, (1, 9)), 1):
+                server._cookies._since -= rules.PERIOD + 10
+                raw.transport.sendto(b"\x0a" + reply[17:] + first_message(number)[1:])
+                assert (await raw.next())[0] == kind
+    run(main)
+
+
+def test_a_reply_that_is_not_for_the_message_sends_nothing():
+    channel = DatagramChannel(configs("XX")[0], True)
+    (first,) = channel.datagrams_to_send()
+    reply = rules.reply(first[1:], bytes(16))
+    for wrong in (rules.reply(first, bytes(16)), reply[:-1], reply + b"\0", b"\x09" + bytes(32)):
+        assert channel.receive(wrong) is None and not channel.datagrams_to_send() and not channel.challenged
+    channel.receive(reply)
+    assert channel.datagrams_to_send() == [b"\x0a" + bytes(16) + first[1:]] and channel.challenged
+    channel.receive(rules.reply(first[1:], bytes([1] * 16)))
+    assert not channel.datagrams_to_send()    # it goes with the next repetition
+    channel.repeat()
+    assert channel.datagrams_to_send() == [b"\x0a" + bytes([1] * 16) + first[1:]]
+    channel.close()
+    channel.receive(reply)
+    assert not channel.datagrams_to_send()
+
+
+def test_a_long_answer_needs_a_cookie_and_the_log_says_so(each_loop):
+    async def main(log):
+        first, second = configs("XX", payloads=[b"", bytes(300)])
+        async with server_behind(second) as (_, address):
+            for _ in range(2):
+                async with client_at(address, first) as client:
+                    await ask(client, await client.connected, b"text")
+        assert len([line for line in log.lines if "needs a cookie" in line and "33 bytes" in line]) == 1
+    run(main)
+
+
+def test_who_is_asked_for_cookies_for_ever_is_told(each_loop):
+    class Asks(asyncio.DatagramProtocol):
+        def connection_made(self, transport):
+            self.transport = transport
+
+        def datagram_received(self, data, addr):
+            message = data[1:] if data[0] == 0 else data[17:]
+            self.transport.sendto(rules.reply(message, bytes(16)), addr)
+
+    async def main(_result):
+        loop = asyncio.get_running_loop()
+        transport, _ = await loop.create_datagram_endpoint(Asks, local_addr=("127.0.0.1", 0))
+        first, _ = configs("XX", handshake_timeout=0.8)
+        async with client_at(transport.get_extra_info("sockname"), first) as client:
+            with pytest.raises(HandshakeTimeout, match="asked for a cookie"):
+                await client.connected
+        transport.close()
+    run(main)
+
+
+def test_an_initiator_begins_anew_beside_the_others(each_loop, monkeypatch):
+    """Each second, and of those that aren't answered it repeats the newest alone; there are never more than eight."""
+    monkeypatch.setattr(udp, "RESTART", 0.05)
+    monkeypatch.setattr(udp, "RESEND", 0.05)
+
+    async def main(_result):
+        loop, came = asyncio.get_running_loop(), []
+
+        class Silent(asyncio.DatagramProtocol):
+            def datagram_received(self, data, addr):
+                came.append(data)
+
+        transport, _ = await loop.create_datagram_endpoint(Silent, local_addr=("127.0.0.1", 0))
+        first, _ = configs("XX", handshake_timeout=60)
+        async with client_at(transport.get_extra_info("sockname"), first) as client:
+            await until(lambda: len(set(came)) >= 12)
+            assert len(client._begun) == udp.MOST_TRIED
+            order = [came.index(it) for it in came]
+            assert order == sorted(order), "an older one was repeated"
+        transport.close()
+    run(main)
+
+
+def test_a_session_moves_with_its_newest_datagram_alone(each_loop):
+    async def main(_result):
+        first, second = configs("XX")
+        async with server_behind(second) as (server, address), raw_at(address) as raw, raw_at(address) as other:
+            channel = DatagramChannel(first, True)
+            while channel.agreed is None:
+                for datagram in channel.datagrams_to_send():
+                    raw.transport.sendto(datagram)
+                channel.receive(await raw.next())
+            channel.send(b"first")
+            channel.send(b"second")
+            *_, late, newest = channel.datagrams_to_send()
+            raw.transport.sendto(newest)
+            await until(lambda: server.peers)
+            before = server.peers[0].address
+            await until(lambda: server.came.qsize() == 1)
+            for datagram in (newest, late[:-1] + bytes([late[-1] ^ 1]), late, newest[:9] + bytes(40)):
+                other.transport.sendto(datagram)
+            await until(lambda: server.came.qsize() == 2)    # the late one was opened
+            assert server.peers[0].address == before
+            channel.send(b"third")
+            other.transport.sendto(channel.datagrams_to_send()[-1])
+            await until(lambda: server.peers[0].address == other.transport.get_extra_info("sockname"))
+            assert len(server.peers) == 1 and not server.lost
+            channel.close()
+    run(main)
+
+
+def test_an_established_session_answers_no_message_of_a_handshake(each_loop):
+    """Not at the server, where an answer might be long, and not of a client that is at another address."""
+    async def main(_result):
+        first, second = configs("IK", payloads=[b"", bytes(100)])
+        async with server_behind(second) as (server, address), raw_at(address) as raw, raw_at(address) as other:
+            channel = DatagramChannel(first, True)
+            message = channel._own
+            await raw.shake(channel)
+            await until(lambda: server.peers)
+            for one in (raw, other):
+                for _ in range(3):
+                    one.transport.sendto(message)
+            channel.send(b"text")
+            assert await raw.answer(channel) == b"text"
+            assert other.came.empty() and not server._begun
+            channel.close()
+    run(main)
+
+
+def test_a_session_of_another_key_at_the_address_does_not_replace(each_loop):
+    """As behind a NAT that has given a port away: the old one goes on where it is now."""
+    async def main(_result):
+        first, second = configs("XX")
+        _, third = configs("XX")
+        any_key = {"pattern": "XX", "key": second.key, "prologue": b"test", "accept_any_key": True,
+                   "ephemeral": second.ephemeral}
+        server_config = type(second)(**any_key)
+        async with server_behind(server_config) as (server, address), raw_at(address) as raw, raw_at(address) as moved:
+            channels = [DatagramChannel(type(first)(**{**any_key, "key": key}), True) for key in (first.key, third.key)]
+            for channel in channels:
+                await raw.shake(channel)
+                await until(lambda: len(server.peers) == channels.index(channel) + 1)
+            assert not server.lost and server.peers[0].noise.peer_key == first.key.public
+            channels[0].send(b"still here")
+            assert await moved.answer(channels[0]) == b"still here"
+            for channel in channels:
+                channel.close()
+    run(main)
