@@ -32,6 +32,7 @@ int main(int count, char **words) {
     check_late_psks();
     check_once();
     check_patterns();
+    check_overlaps();
     puts("c-library: all codes, bytes and places were right");
     return 0;
 }
