@@ -87,8 +87,11 @@ class Handshake(Struct):
             ffi.memmove(setup.psks[index], psk, KEY_LEN)
         text = pattern_text(config.pattern).encode()
         prologue, size = pointer(config.prologue)
-        code = lib.noise_start(self._open(), text, len(text), prologue, size, setup)
-        lib.noise_wipe(setup, ffi.sizeof(setup[0]))
+        try:
+            code = lib.noise_start(self._open(), text, len(text), prologue, size, setup)
+        finally:
+            let_go(prologue)
+            lib.noise_wipe(setup, ffi.sizeof(setup[0]))
         if code:
             self._overwrite()
             raise ConfigError(_FIELDS.get(code, "pattern"), Code(code))

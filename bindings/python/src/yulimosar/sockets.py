@@ -2,6 +2,7 @@
 from __future__ import annotations
 
 import io
+import operator
 import selectors
 import socket
 import struct
@@ -223,7 +224,7 @@ class NoiseSocket:
         return self.recv(len) if buffer is None else self.recv_into(buffer, len)
 
     def _take(self, size: int) -> memoryview:
-        if size < 0:
+        if operator.index(size) < 0:    # a float is refused before it waits
             raise ValueError("a negative size")
         self._open()
         while size and not self._rest and not self._ended:

@@ -15,7 +15,7 @@ from .channel import CLOSED_HERE, Agreed, Channel, Event, Payload, Pending, fram
 from .codes import MAX_PAYLOAD, STREAM_OVERHEAD, Code
 from .config import Config
 from .errors import CallError, ChannelCut, ConfigError, HandshakeTimeout, MessageRefused, NoiseError
-from .memory import Buffer, pointer, shared, uncleared
+from .memory import Buffer, let_go, pointer, shared, uncleared
 
 LIMIT = 2 ** 16        # of a reader's buffer, as asyncio's
 UNJOINED = 2 ** 15     # how many bytes of frames are sent one by one, in one turn of the loop
@@ -362,6 +362,13 @@ class _Below(asyncio.BufferedProtocol):
         """Sends the frames of a payload. After the first 32 KiB that a program writes in one turn of the loop they are
         joined: one call of the system sends 64 KiB, or what there is at the next turn."""
         payload, size = (data, len(data)) if type(data) is bytes else pointer(data)
+        try:
+            self._write(payload, size)
+        except BaseException:
+            let_go(payload)
+            raise
+
+    def _write(self, payload: Any, size: int) -> None:
         length = size + STREAM_OVERHEAD if 0 < size <= MAX_PAYLOAD else frames_length(size)
         if self._turn is None or length > UNJOINED or not self.joins:
             self._send(payload, size, length)
