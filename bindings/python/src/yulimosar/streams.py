@@ -14,7 +14,9 @@ from ._noise import ffi
 from .channel import CLOSED_HERE, Agreed, Channel, Event, Payload, Pending, frames_length
 from .codes import MAX_PAYLOAD, STREAM_OVERHEAD, Code
 from .config import Config
-from .errors import CallError, ChannelCut, ConfigError, HandshakeTimeout, MessageRefused, NoiseError
+from .errors import (
+    CallError, ChannelCut, ConfigError, HandshakeTimeout, LowOrderKey, MessageRefused, NoiseError, PeerRefused,
+)
 from .memory import Buffer, let_go, pointer, shared, uncleared
 
 LIMIT = 2 ** 16        # of a reader's buffer, as asyncio's
@@ -123,6 +125,17 @@ class Reader(asyncio.StreamReader):
             raise fault from cause
         if fault is not None:
             raise fault.with_traceback(None)
+
+
+class _Above(asyncio.StreamReaderProtocol):
+    """The protocol of a Reader. That nobody waits for the close is no fault; asyncio's own says so where it is freed,
+    which may be after the collector has freed, and reported, what it had."""
+
+    def connection_lost(self, exc: Exception | None) -> None:
+        super().connection_lost(exc)
+        closed = cast(Any, self)._closed
+        if closed.done() and not closed.cancelled():
+            closed.exception()
 
 
 class Writer(asyncio.StreamWriter):
@@ -273,7 +286,7 @@ class _Below(asyncio.BufferedProtocol):
     def set_above(self, above: asyncio.Protocol) -> None:
         """A protocol of asyncio's own for a reader copies what it gets; another one is given bytes."""
         self.above = above
-        copies = type(above) is asyncio.StreamReaderProtocol
+        copies = type(above) in (_Above, asyncio.StreamReaderProtocol)
         self._give: Callable[[Any], None] = above.data_received if copies else lambda it: above.data_received(bytes(it))
 
     def _in_child(self) -> None:
@@ -527,7 +540,7 @@ async def open_connection(
     config.check(True)
     loop = asyncio.get_running_loop()
     reader = Reader(limit, loop)
-    above = asyncio.StreamReaderProtocol(reader, loop=loop)
+    above = _Above(reader, loop=loop)
     ready: asyncio.Future[_Transport] = loop.create_future()
 
     def done(transport: _Transport) -> None:
@@ -570,7 +583,7 @@ async def start_server(
 
     def factory() -> asyncio.BufferedProtocol:
         reader = Reader(limit, loop)
-        above = asyncio.StreamReaderProtocol(reader, loop=loop)
+        above = _Above(reader, loop=loop)
 
         def ready(transport: _Transport) -> None:
             task = loop.create_task(_serve(handler, reader, Writer(transport, above, reader, loop)))
@@ -608,8 +621,13 @@ async def _serve(handler: Handler, reader: Reader, writer: Writer) -> None:
 
 def _report(what: str, peer: Any, fault: Exception) -> None:
     """A line of the log: at INFO for what the network or the other party does, at ERROR for what this program does."""
-    cause = fault.cause if isinstance(fault, MessageRefused) else fault
-    if isinstance(cause, Code) or isinstance(cause, (NoiseError, OSError)) and not isinstance(cause, ConfigError):
+    if isinstance(fault, MessageRefused):    # any other cause is what a function of the Config has raised
+        cause: Any = fault.cause
+        is_ours = not isinstance(cause, (Code, PeerRefused, LowOrderKey))
+    else:
+        cause = fault
+        is_ours = isinstance(cause, ConfigError) or not isinstance(cause, (NoiseError, OSError))
+    if not is_ours:
         logger.info(f"{what} with %s: %s", peer, fault)
     else:
         logger.error(f"{what} with %s: %s", peer, fault, exc_info=cause)
