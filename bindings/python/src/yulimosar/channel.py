@@ -5,7 +5,7 @@ from __future__ import annotations
 import threading
 from collections.abc import Awaitable, Callable, Generator
 from dataclasses import dataclass, field
-from typing import Any, TypeAlias, TypeVar
+from typing import Any, NoReturn, TypeAlias, TypeVar
 
 from ._noise import ffi, lib
 from .codes import MAX_PAYLOAD, STREAM_OVERHEAD, Code
@@ -94,6 +94,9 @@ class Channel:
         self._in, self._out = threading.RLock(), threading.RLock()
         self._to_send.clear()
         self._fault = CallError(None, FORKED)
+
+    def __reduce__(self) -> NoReturn:
+        raise TypeError("a Channel isn't copied: two would seal with one key and nonce")
 
     @property
     def agreed(self) -> Agreed | None:

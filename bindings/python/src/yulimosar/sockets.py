@@ -9,7 +9,7 @@ import struct
 import threading
 import time
 from types import TracebackType
-from typing import IO, Any, BinaryIO, Literal, Self, TextIO, Type, overload
+from typing import IO, Any, BinaryIO, Literal, NoReturn, Self, TextIO, Type, overload
 
 from .channel import CLOSED_HERE, Agreed, Channel, Data, End, Event, Pending
 from .codes import MAX_PAYLOAD, Code
@@ -101,6 +101,9 @@ class NoiseSocket:
         self._closing = threading.RLock()
         self._pending = self._rest = memoryview(b"")
         self._forked = True
+
+    def __reduce__(self) -> NoReturn:
+        raise TypeError("a NoiseSocket isn't copied: it has a connection and its keys")
 
     @property
     def noise(self) -> Agreed:
@@ -218,6 +221,15 @@ class NoiseSocket:
             got = self._take(nbytes or len(view))
             view[:len(got)] = got
             return len(got)
+
+    @overload
+    def read(self, len: int = 1024, buffer: None = None) -> bytes: ...
+
+    @overload
+    def read(self, len: int, buffer: bytearray | memoryview) -> int: ...
+
+    @overload
+    def read(self, len: int = 1024, *, buffer: bytearray | memoryview) -> int: ...
 
     def read(self, len: int = 1024, buffer: bytearray | memoryview | None = None) -> bytes | int:
         """`recv`, or with a buffer `recv_into`, by an ssl.SSLSocket's name."""
