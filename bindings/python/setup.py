@@ -1,4 +1,4 @@
-"""The part of the build that pyproject.toml can't say: the extension has assembly text, and shows only its beginning."""
+"""The build beside pyproject.toml: the extension has assembly text, and shows only its beginning."""
 import sys
 
 from setuptools import setup
