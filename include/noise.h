@@ -23,7 +23,8 @@
    WHAT THE CALLER MUST ENSURE, since no call can check it; docs/C.md says why
    - A pointer that has a count may be NULL if the count is 0, and no other may. Each leads to as
      many bytes as its count or its type says. An opaque struct's address is a multiple of 8.
-   - The bytes at a pointer that isn't const overlap those of no other pointer of the call.
+   - The bytes at a pointer that isn't const overlap those of no other pointer of the call. OVERLAP
+     says so of the buffers alone, and only through this header.
    - No copy of a struct writes or encrypts beside the original, as one from a file or a forked
      process's; the nonce of a cipher state for sending isn't set back. A struct may be moved.
    - Each handshake has a new ephemeral key pair.
@@ -47,13 +48,21 @@ extern "C" {
 #define NOISE_ALIGNED _Alignas(8)
 #endif
 
+/* gcc and clang warn of NULL at these arguments, and of a code that nobody looks at. */
+#ifdef __GNUC__
+#define NOISE_NONNULL(...) __attribute__((nonnull(__VA_ARGS__)))
+#define NOISE_CHECKED(...) __attribute__((warn_unused_result)) NOISE_NONNULL(__VA_ARGS__)
+#else
+#define NOISE_NONNULL(...)
+#define NOISE_CHECKED(...)
+#endif
+
 /* What a call returns; noise_text says what each code means. A call's comment ends with its
    codes but OK. If several apply, the call returns the first. After any code but OK everything
    except `result` is as it was, but:
    - SHORT and TAG of noise_read end the handshake.
    - END of noise_stream_read, and its refusals, end the stream.
-   - AGREEMENT, which only a struct gets that something else has changed, may come with other
-     changes. */
+   - AGREEMENT comes only of a struct that something else has changed, maybe with other changes. */
 enum noise_code {
     NOISE_OK = 0, NOISE_NAME = 1, NOISE_PATTERN = 2, NOISE_EPHEMERAL_MISSING = 4,
     NOISE_STATIC_MISSING = 5, NOISE_REMOTE_MISSING = 6, NOISE_REMOTE_UNEXPECTED = 7,
@@ -64,7 +73,7 @@ enum noise_code {
     NOISE_NOT_DUE = 29, NOISE_HEADING = 30, NOISE_ARROW = 31, NOISE_TOKEN = 32,
     NOISE_PRE_MESSAGE = 33, NOISE_TURN = 34, NOISE_PSK_PLACE = 35, NOISE_NAME_TAKEN = 36,
     NOISE_LIMIT = 37, NOISE_ENDING = 38, NOISE_RULE = 39, NOISE_WANTED_PSK = 40, NOISE_END = 41,
-    NOISE_MORE = 42, NOISE_CLOSED = 43, NOISE_CUT = 44
+    NOISE_MORE = 42, NOISE_CLOSED = 43, NOISE_CUT = 44, NOISE_OVERLAP = 45
 };
 
 enum {
@@ -95,8 +104,7 @@ typedef struct {
     uint8_t responder;            /* 0: the initiator; any other value: the responder */
     noise_key e, s;               /* this party's: each for which it has a token in the pattern */
     noise_key remote_e, remote_s; /* those of the other's pre-message, as the responder's s in IK */
-    uint8_t psk_count;            /* how many psks, at most 9: those of the first psk tokens. For
-                                     the others the calls return NOISE_WANTED_PSK */
+    uint8_t psk_count;            /* how many psks, at most 9; at later psk tokens: WANTED_PSK */
     uint8_t psks[9][32];
 } noise_setup;
 
@@ -123,8 +131,7 @@ typedef struct {
     uint8_t messages;    /* how many messages the pattern has, 1 to 8 */
     uint8_t passed;      /* how many of them have been written or read */
     uint8_t ended;       /* 1 if a refused message or a call that finishes has ended it */
-    uint8_t writes_next; /* 1 if this party writes the next message, else 0; says nothing after the
-                            last */
+    uint8_t writes_next; /* 1 if this party writes next, else 0; says nothing after the last */
 } noise_stage_result;
 
 typedef struct {
@@ -167,13 +174,12 @@ typedef struct {
 /* Report the library's version (docs/VERSIONS.md) and its sizes of the opaque structs: compare them
    with NOISE_VERSION and sizeof. */
 uint32_t noise_version(void);
-size_t noise_handshake_size(void), noise_cipher_size(void);
-size_t noise_stream_sender_size(void), noise_stream_receiver_size(void);
-size_t noise_sender_size(void), noise_receiver_size(void);
+size_t noise_handshake_size(void), noise_cipher_size(void), noise_stream_sender_size(void);
+size_t noise_stream_receiver_size(void), noise_sender_size(void), noise_receiver_size(void);
 size_t noise_datagram_sender_size(void), noise_datagram_receiver_size(void);
 
 /* Gives a static text, a sentence that says what a code means, and returns its length. */
-size_t noise_sentence(uint32_t code, const char **sentence);
+size_t noise_sentence(uint32_t code, const char **sentence) NOISE_NONNULL(2);
 
 /* HANDSHAKES, by the HandshakeState of Noise, 5.3. */
 
@@ -185,83 +191,85 @@ size_t noise_sentence(uint32_t code, const char **sentence);
    Codes: NAME · PATTERN · LENGTH (prologue_len is above 65535) · PSK_COUNT (psk_count is above 9) ·
    EPHEMERAL_MISSING · STATIC_MISSING · REMOTE_MISSING · REMOTE_UNEXPECTED · PSK_COUNT. */
 uint32_t noise_start(noise_handshake *h, const uint8_t *pattern, size_t pattern_len,
-    const uint8_t *prologue, size_t prologue_len, const noise_setup *setup);
+    const uint8_t *prologue, size_t prologue_len, const noise_setup *setup) NOISE_CHECKED(1, 6);
 
 /* Supplies the result of X25519 (Noise, 12.1) on one of this party's secret keys and a public key
    of the other party: after WANTED those of result. of_static is 0 for the ephemeral key, else the
    static one. There is room for eight, twice what a message wants: the oldest gives way to a ninth.
    Codes: STRUCT (it isn't a handshake's struct). */
 uint32_t noise_answer(noise_handshake *h, uint8_t of_static, const uint8_t remote[32],
-    const uint8_t dh_result[32]);
+    const uint8_t dh_result[32]) NOISE_CHECKED(1, 3, 4);
 
 /* Supplies the psk of the first psk token that lacks one (Noise, 9.2); then all is as if
    noise_start had been given it. At WANTED_PSK the other party has proved neither its static key
    nor the psk. Use result->remote to choose the psk, and for nothing else until a message that was
    encrypted after the psk has been accepted.
    Codes: STRUCT · PSK_COUNT (no psk token that is still to come lacks one). */
-uint32_t noise_set_psk(noise_handshake *h, const uint8_t psk[32]);
+uint32_t noise_set_psk(noise_handshake *h, const uint8_t psk[32]) NOISE_CHECKED(1, 2);
 
 /* Takes back the last psk that no message has used yet, if there is one: that which was set for a
    message that noise_try_read then refused.
    Codes: STRUCT. */
-uint32_t noise_unset_psk(noise_handshake *h);
+uint32_t noise_unset_psk(noise_handshake *h) NOISE_CHECKED(1);
 
 /* Writes the next message, with this payload, to the start of out (WriteMessage). The bytes after
    it are unchanged. Noise, 7.7 says how well each payload is protected: at first not at all.
    Codes: STRUCT · ENDED · DONE · NOT_YOUR_TURN · TOO_LONG (it would have more than 65535 bytes) ·
-   ROOM (out_len is below result->len) · WANTED · WANTED_PSK. */
+   OVERLAP · ROOM (out_len is below result->len) · WANTED · WANTED_PSK. */
 uint32_t noise_write(noise_handshake *h, const uint8_t *payload, size_t payload_len, uint8_t *out,
-    size_t out_len, noise_result *result);
+    size_t out_len, noise_result *result) NOISE_CHECKED(1, 6);
 
 /* Reads the next message, in place (ReadMessage). After WANTED and WANTED_PSK call again with the
    same message. After SHORT and TAG close the connection, and tell nobody why. These four are
    looked for token by token.
    Codes: STRUCT · LENGTH (message_len is above 65535) · ENDED · DONE · NOT_YOUR_TURN · WANTED ·
    WANTED_PSK · SHORT · TAG. */
-uint32_t noise_read(noise_handshake *h, uint8_t *message, size_t message_len, noise_result *result);
+uint32_t noise_read(noise_handshake *h, uint8_t *message, size_t message_len, noise_result *result)
+    NOISE_CHECKED(1, 4);
 
 /* Reads as noise_read does, but SHORT and TAG leave the handshake as it was, and the message: for
    messages that a stranger can send, as datagrams. Drop such a message, and wait for another; call
    noise_unset_psk first for each psk that was set for it.
    Codes: those of noise_read. */
 uint32_t noise_try_read(noise_handshake *h, uint8_t *message, size_t message_len,
-    noise_result *result);
+    noise_result *result) NOISE_CHECKED(1, 4);
 
 /* Reports the length of the next message with a payload of this length.
    Codes: STRUCT · NOT_DUE (noise_write would return ENDED, DONE, NOT_YOUR_TURN or TOO_LONG). */
-uint32_t noise_message_len(const noise_handshake *h, size_t payload_len, size_t *len);
+uint32_t noise_message_len(const noise_handshake *h, size_t payload_len, size_t *len)
+    NOISE_CHECKED(1, 3);
 
 /* Reports the handshake hash so far. After the last message it is the same at both parties, and
    only if nobody has changed anything: sign it to bind something to this session (Noise, 11.2).
    Codes: STRUCT. */
-uint32_t noise_hash(const noise_handshake *h, uint8_t hash[32]);
+uint32_t noise_hash(const noise_handshake *h, uint8_t hash[32]) NOISE_CHECKED(1, 2);
 
 /* Reports the other party's static public key; key->present is 0 if it isn't known (yet). No call
    compares it: compare it with the one that you expect, or look it up, before you send anything
    that matters (Noise, 14).
    Codes: STRUCT. */
-uint32_t noise_remote_static(const noise_handshake *h, noise_key *key);
+uint32_t noise_remote_static(const noise_handshake *h, noise_key *key) NOISE_CHECKED(1, 2);
 
-/* Reports how far the handshake is.
-   Codes: STRUCT. */
-uint32_t noise_stage(const noise_handshake *h, noise_stage_result *result);
+/* Reports how far the handshake is. Codes: STRUCT. */
+uint32_t noise_stage(const noise_handshake *h, noise_stage_result *result) NOISE_CHECKED(1, 2);
 
 /* Checks the text of a pattern, as noise_start does (Noise, 7.3, 9.3): docs/PATTERNS.md has the
    five rules. A valid pattern isn't necessarily a secure one.
    Codes: HEADING to ENDING · RULE. */
-uint32_t noise_check_pattern(const uint8_t *text, size_t text_len, noise_pattern_result *result);
+uint32_t noise_check_pattern(const uint8_t *text, size_t text_len, noise_pattern_result *result)
+    NOISE_CHECKED(3);
 
 /* Reports what a valid pattern has, of its protocol name or its text as for noise_start;
    result->messages is set too. HEADING to ENDING and RULE set result as noise_check_pattern does.
    Codes: NAME · HEADING to ENDING · RULE. */
 uint32_t noise_pattern(const uint8_t *pattern, size_t pattern_len, noise_pattern_info *info,
-    noise_pattern_result *result);
+    noise_pattern_result *result) NOISE_CHECKED(3, 4);
 
 /* Reports where the pieces of a message stand with a payload of this length. Messages count from 1.
    Codes: NAME · PATTERN · NOT_DUE (there is no such message, or it would have more than 65535
    bytes). */
 uint32_t noise_layout(const uint8_t *pattern, size_t pattern_len, uint8_t message,
-    size_t payload_len, noise_message_layout *layout);
+    size_t payload_len, noise_message_layout *layout) NOISE_CHECKED(5);
 
 /* FRAMES, for the messages of a handshake over a stream: the length in 2 bytes, the higher first,
    and the message (Noise, 13). */
@@ -269,11 +277,11 @@ uint32_t noise_layout(const uint8_t *pattern, size_t pattern_len, uint8_t messag
 /* Puts the length in front of a message that noise_write has written to buffer + 2.
    Codes: LENGTH (message_len is above 65535) · ROOM (buffer_len is below message_len + 2). */
 uint32_t noise_frame_message(uint8_t *buffer, size_t buffer_len, size_t message_len,
-    noise_stream_result *result);
+    noise_stream_result *result) NOISE_CHECKED(4);
 
-/* Looks for the message of the frame at the start of a buffer.
-   Codes: MORE. */
-uint32_t noise_frame_find(const uint8_t *buffer, size_t buffer_len, noise_stream_result *result);
+/* Looks for the message of the frame at the start of a buffer. Codes: MORE. */
+uint32_t noise_frame_find(const uint8_t *buffer, size_t buffer_len, noise_stream_result *result)
+    NOISE_CHECKED(3);
 
 /* STREAMS: bytes in order, with an end, in frames. A reader that gets END has got all that the
    other party wrote before noise_stream_end, unless a message was forged. */
@@ -283,20 +291,20 @@ uint32_t noise_frame_find(const uint8_t *buffer, size_t buffer_len, noise_stream
    noise_remote_static go on. Each direction is rekeyed after `interval` of its frames (Noise,
    11.3), the same number at both parties; 0 means never.
    Codes: STRUCT · NOT_DONE · ENDED. */
-uint32_t noise_finish_stream(noise_handshake *h, uint64_t interval,
-    noise_stream_sender *sender, noise_stream_receiver *receiver);
+uint32_t noise_finish_stream(noise_handshake *h, uint64_t interval, noise_stream_sender *sender,
+    noise_stream_receiver *receiver) NOISE_CHECKED(1, 3, 4);
 
 /* Writes the frame of the first bytes of payload, of at most 65519, to the start of out: send it,
    and then write the rest. Of no bytes it makes none.
-   Codes: STRUCT · ROOM (out_len is below those bytes + 18) · CLOSED · ONE_WAY · EXHAUSTED (only the
-   end can be written). */
+   Codes: OVERLAP · STRUCT · ROOM (out_len is below those bytes + 18) · CLOSED · ONE_WAY · EXHAUSTED
+   (only the end can be written). */
 uint32_t noise_stream_write(noise_stream_sender *s, const uint8_t *payload, size_t payload_len,
-    uint8_t *out, size_t out_len, noise_stream_result *result);
+    uint8_t *out, size_t out_len, noise_stream_result *result) NOISE_CHECKED(1, 6);
 
 /* Writes the end, a frame of 18 bytes: send it after the last, and only if nothing went wrong.
    Codes: STRUCT · ROOM (out_len is below 18) · CLOSED · ONE_WAY. */
 uint32_t noise_stream_end(noise_stream_sender *s, uint8_t *out, size_t out_len,
-    noise_stream_result *result);
+    noise_stream_result *result) NOISE_CHECKED(1, 4);
 
 /* Opens the frame at the start of the buffer, in place. The buffer begins with the first byte that
    isn't used yet, and can hold 65537 bytes. OK gives a payload of 1 byte or more. At MORE receive
@@ -304,39 +312,39 @@ uint32_t noise_stream_end(noise_stream_sender *s, uint8_t *out, size_t out_len,
    EXHAUSTED, SHORT and TAG break the stream: close the connection, and don't end your own stream.
    Codes: STRUCT · CLOSED · MORE · ONE_WAY · EXHAUSTED · SHORT · TAG · END. */
 uint32_t noise_stream_read(noise_stream_receiver *r, uint8_t *buffer, size_t buffer_len,
-    noise_stream_result *result);
+    noise_stream_result *result) NOISE_CHECKED(1, 4);
 
 /* Says whether the stream was truncated, once the connection has ended; `left` bytes of the buffer
    are unused. OK, which is 0: the other party had ended the stream, and nothing is left.
    Codes: STRUCT · CUT. */
-uint32_t noise_stream_is_cut(const noise_stream_receiver *r, size_t left);
+uint32_t noise_stream_is_cut(const noise_stream_receiver *r, size_t left) NOISE_CHECKED(1);
 
 /* MESSAGES IN ORDER, each 16 bytes longer than its payload, for frames of your own. */
 
 /* Makes the two structs for messages, as noise_finish_stream does; `interval` counts messages.
    Codes: STRUCT · NOT_DONE · ENDED. */
 uint32_t noise_finish(noise_handshake *h, uint64_t interval, noise_sender *sender,
-    noise_receiver *receiver);
+    noise_receiver *receiver) NOISE_CHECKED(1, 3, 4);
 
 /* Seals a payload as the next message, at the start of out; or in place: the payload is the first
    payload_len bytes of buffer. The bytes after the message are unchanged.
-   Codes: STRUCT · ROOM (out_len or buffer_len is below payload_len + 16) · ONE_WAY · TOO_LONG
-   (payload_len is above 65519) · EXHAUSTED. */
+   Codes: OVERLAP (of noise_seal alone) · STRUCT · ROOM (out_len or buffer_len is below
+   payload_len + 16) · ONE_WAY · TOO_LONG (payload_len is above 65519) · EXHAUSTED. */
 uint32_t noise_seal(noise_sender *s, const uint8_t *payload, size_t payload_len, uint8_t *out,
-    size_t out_len, noise_result *result);
+    size_t out_len, noise_result *result) NOISE_CHECKED(1, 6);
 uint32_t noise_seal_in_place(noise_sender *s, uint8_t *buffer, size_t buffer_len,
-    size_t payload_len, noise_result *result);
+    size_t payload_len, noise_result *result) NOISE_CHECKED(1, 5);
 
 /* Opens the next message of the other party, in place. If a message was lost or changed, all later
    ones give TAG: close the connection at the first.
    Codes: STRUCT · LENGTH (message_len is above 65535) · ONE_WAY · EXHAUSTED · SHORT (below 16) ·
    TAG. */
-uint32_t noise_open(noise_receiver *r, uint8_t *message, size_t message_len, noise_result *result);
+uint32_t noise_open(noise_receiver *r, uint8_t *message, size_t message_len, noise_result *result)
+    NOISE_CHECKED(1, 4);
 
-/* Report the nonce of the next message: how many were sealed, or opened.
-   Codes: STRUCT. */
-uint32_t noise_sender_nonce(const noise_sender *s, uint64_t *nonce);
-uint32_t noise_receiver_nonce(const noise_receiver *r, uint64_t *nonce);
+/* Report the nonce of the next message: how many were sealed, or opened. Codes: STRUCT. */
+uint32_t noise_sender_nonce(const noise_sender *s, uint64_t *nonce) NOISE_CHECKED(1, 2);
+uint32_t noise_receiver_nonce(const noise_receiver *r, uint64_t *nonce) NOISE_CHECKED(1, 2);
 
 /* DATAGRAMS, for a network that loses, repeats and reorders (Noise, 11.4); the handshake itself
    needs its messages in order, each once. A datagram begins with its nonce, in 8 bytes, the highest
@@ -346,28 +354,28 @@ uint32_t noise_receiver_nonce(const noise_receiver *r, uint64_t *nonce);
    rekeyed. `window` is 64, 256 or 1024: a datagram may come after others whose nonces are less than
    `window` greater.
    Codes: WINDOW · STRUCT · NOT_DONE · ENDED. */
-uint32_t noise_finish_datagrams(noise_handshake *h, uint32_t window,
-    noise_datagram_sender *sender, noise_datagram_receiver *receiver);
+uint32_t noise_finish_datagrams(noise_handshake *h, uint32_t window, noise_datagram_sender *sender,
+    noise_datagram_receiver *receiver) NOISE_CHECKED(1, 3, 4);
 
 /* Seals a payload as the next datagram, as noise_seal; in place the payload is the payload_len
    bytes of buffer from the ninth on.
-   Codes: STRUCT · ROOM (out_len or buffer_len is below payload_len + 24) · ONE_WAY · TOO_LONG
-   (payload_len is above 65519) · EXHAUSTED. */
+   Codes: OVERLAP (of noise_datagram_seal alone) · STRUCT · ROOM (out_len or buffer_len is below
+   payload_len + 24) · ONE_WAY · TOO_LONG (payload_len is above 65519) · EXHAUSTED. */
 uint32_t noise_datagram_seal(noise_datagram_sender *s, const uint8_t *payload, size_t payload_len,
-    uint8_t *out, size_t out_len, noise_result *result);
+    uint8_t *out, size_t out_len, noise_result *result) NOISE_CHECKED(1, 6);
 uint32_t noise_datagram_seal_in_place(noise_datagram_sender *s, uint8_t *buffer, size_t buffer_len,
-    size_t payload_len, noise_result *result);
+    size_t payload_len, noise_result *result) NOISE_CHECKED(1, 5);
 
 /* Opens a datagram of the other party, in place: the payload begins at its ninth byte. No other
    datagram of this nonce will be opened. At any code but OK drop the datagram, and go on.
    Codes: STRUCT · ONE_WAY · SHORT (datagram_len is below 24) · TOO_LONG (above 65543) · RESERVED ·
    OLD · REPEATED · TAG. */
 uint32_t noise_datagram_open(noise_datagram_receiver *r, uint8_t *datagram, size_t datagram_len,
-    noise_result *result);
+    noise_result *result) NOISE_CHECKED(1, 4);
 
-/* Reports the nonce of the next datagram.
-   Codes: STRUCT. */
-uint32_t noise_datagram_sender_nonce(const noise_datagram_sender *s, uint64_t *nonce);
+/* Reports the nonce of the next datagram. Codes: STRUCT. */
+uint32_t noise_datagram_sender_nonce(const noise_datagram_sender *s, uint64_t *nonce)
+    NOISE_CHECKED(1, 2);
 
 /* CIPHER STATES (Noise, 5.1), for a protocol whose packets have associated data, name their nonces
    or have a form of their own. */
@@ -376,31 +384,32 @@ uint32_t noise_datagram_sender_nonce(const noise_datagram_sender *s, uint64_t *n
    (Split: Noise, 5.2). In a one-way pattern the one for the responder's messages has no key, and
    each call with it returns ONE_WAY (Noise, 7.4).
    Codes: STRUCT · NOT_DONE · ENDED. */
-uint32_t noise_finish_ciphers(noise_handshake *h, noise_cipher *send, noise_cipher *receive);
+uint32_t noise_finish_ciphers(noise_handshake *h, noise_cipher *send, noise_cipher *receive)
+    NOISE_CHECKED(1, 2, 3);
 
 /* Encrypts the first text_len bytes of buffer in place, with associated data (EncryptWithAd). The
    message is result->len bytes, 16 more; neither the data nor the nonce is in it. The next nonce is
    one greater.
-   Codes: STRUCT (also of the one for receiving) · ONE_WAY · LENGTH (ad_len is above 65535) · ROOM
-   (buffer_len is below text_len + 16) · EXHAUSTED · TOO_LONG (text_len is above 65519). */
+   Codes: OVERLAP · STRUCT (also of the one for receiving) · ONE_WAY · LENGTH (ad_len is above
+   65535) · ROOM (buffer_len is below text_len + 16) · EXHAUSTED · TOO_LONG (above 65519). */
 uint32_t noise_cipher_encrypt(noise_cipher *c, const uint8_t *ad, size_t ad_len, uint8_t *buffer,
-    size_t buffer_len, size_t text_len, noise_result *result);
+    size_t buffer_len, size_t text_len, noise_result *result) NOISE_CHECKED(1, 7);
 
 /* Decrypts a message in place (DecryptWithAd).
-   Codes: STRUCT (also of the one for sending) · ONE_WAY · LENGTH (ad_len is above 65535) ·
-   EXHAUSTED · TOO_LONG (message_len is above 65535) · SHORT (below 16) · TAG. */
+   Codes: OVERLAP · STRUCT (also of the one for sending) · ONE_WAY · LENGTH (ad_len is above 65535)
+   · EXHAUSTED · TOO_LONG (message_len is above 65535) · SHORT (below 16) · TAG. */
 uint32_t noise_cipher_decrypt(noise_cipher *c, const uint8_t *ad, size_t ad_len, uint8_t *message,
-    size_t message_len, noise_result *result);
+    size_t message_len, noise_result *result) NOISE_CHECKED(1, 6);
 
 /* Replaces the key by the one that follows from it, and keeps the nonce (Rekey: Noise, 11.3).
    Codes: STRUCT · ONE_WAY. */
-uint32_t noise_cipher_rekey(noise_cipher *c);
+uint32_t noise_cipher_rekey(noise_cipher *c) NOISE_CHECKED(1);
 
 /* Reports the nonce of the next message, or sets it (Noise, 11.4): a receiver that sets it refuses
    itself what it has received before.
    Codes: STRUCT · ONE_WAY. */
-uint32_t noise_cipher_nonce(const noise_cipher *c, uint64_t *nonce);
-uint32_t noise_cipher_set_nonce(noise_cipher *c, uint64_t nonce);
+uint32_t noise_cipher_nonce(const noise_cipher *c, uint64_t *nonce) NOISE_CHECKED(1, 2);
+uint32_t noise_cipher_set_nonce(noise_cipher *c, uint64_t nonce) NOISE_CHECKED(1);
 
 /* Overwrites bytes with zeros; the compiler can't remove the writes. */
 static inline void noise_wipe(void *at, size_t len);
@@ -424,11 +433,11 @@ typedef int noise_dh(void *context, uint8_t of_static, const uint8_t remote[32],
    where that function gives none. */
 static inline uint32_t noise_write_with(noise_handshake *h, const uint8_t *payload,
     size_t payload_len, uint8_t *out, size_t out_len, noise_result *result, noise_dh *dh,
-    void *context);
+    void *context) NOISE_CHECKED(1, 6, 7);
 static inline uint32_t noise_read_with(noise_handshake *h, uint8_t *message, size_t message_len,
-    noise_result *result, noise_dh *dh, void *context);
-static inline uint32_t noise_try_read_with(noise_handshake *h, uint8_t *message,
-    size_t message_len, noise_result *result, noise_dh *dh, void *context);
+    noise_result *result, noise_dh *dh, void *context) NOISE_CHECKED(1, 4, 5);
+static inline uint32_t noise_try_read_with(noise_handshake *h, uint8_t *message, size_t message_len,
+    noise_result *result, noise_dh *dh, void *context) NOISE_CHECKED(1, 4, 5);
 
 /* The inline functions; and NULL with a count of 0, which the library itself doesn't take: each
    call with bytes and their count is also a macro for an inline function that passes an address. A

@@ -75,6 +75,7 @@ const (
 	codeMore             = 42
 	codeClosed           = 43
 	codeCut              = 44
+	codeOverlap          = 45
 )
 
 // Sizes, in bytes.

@@ -51,6 +51,7 @@ var texts = map[Code]string{
 	codeLimit:            "the pattern has too many messages or tokens",
 	codeEnding:           "the pattern text ends too early",
 	codeRule:             "the pattern isn't valid",
+	codeOverlap:          "a buffer that the call writes to overlaps another one",
 }
 
 // Error returns what the code means.

@@ -7,6 +7,7 @@ export const code = Object.freeze({
   EXHAUSTED: 17, ROOM: 18, NOT_DONE: 19, WANTED: 20, ONE_WAY: 22, STRUCT: 23, LENGTH: 24, WINDOW: 25, RESERVED: 26,
   OLD: 27, REPEATED: 28, NOT_DUE: 29, HEADING: 30, ARROW: 31, TOKEN: 32, PRE_MESSAGE: 33, TURN: 34, PSK_PLACE: 35,
   NAME_TAKEN: 36, LIMIT: 37, ENDING: 38, RULE: 39, WANTED_PSK: 40, END: 41, MORE: 42, CLOSED: 43, CUT: 44,
+  OVERLAP: 45,
 });
 
 /** What each means; from BUSY on they are this package's own. */
@@ -54,6 +55,7 @@ const TEXTS = Object.freeze({
   CLOSED: 'the stream was ended before, or has refused something',
   CUT: 'the connection ended before the other party has ended its stream, or in the handshake, or was never made: '
     + 'cause is its error, if it had one',
+  OVERLAP: 'a buffer that the call writes to overlaps another one: no call of this package meets it',
   BUSY: 'another call on this handshake is under way: await it first',
   DISPOSED: 'this object is used up',
   NOT_LOADED: 'await load() first',

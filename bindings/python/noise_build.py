@@ -77,6 +77,7 @@ def declarations(header: str) -> str:
     text = re.sub(r"/\*.*?\*/", " ", header, flags=re.S)
     text = text[:text.index("static inline")]
     text = re.sub(r"^#.*$", "", text, flags=re.M).replace('extern "C" {', "")
+    text = re.sub(r"\bNOISE_(?:CHECKED|NONNULL)\([\d, ]+\)", "", text)    # what the compiler warns of
     text, count = re.subn(r"NOISE_ALIGNED unsigned char opaque\[\d+\];", "...;", text)
     if not count or "NOISE_ALIGNED" in text:
         raise SystemExit("noise_build.py: noise.h isn't written as this script reads it")

@@ -1,4 +1,6 @@
-"""The part of the build that pyproject.toml can't say: the extension has assembly text."""
+"""The build beside pyproject.toml: the extension has assembly text, and shows only its beginning."""
+import sys
+
 from setuptools import setup
 from setuptools.command.build_ext import build_ext
 
@@ -12,6 +14,10 @@ class BuildExtension(build_ext):
         self.compiler.src_extensions = [*self.compiler.src_extensions, ".S"]
         for extension in self.extensions:
             extension.extra_compile_args.append("-Wa,-Isrc/assembly")
+            if sys.platform == "darwin":
+                extension.extra_link_args.append("-Wl,-exported_symbol,_PyInit__noise")
+            elif self.compiler.compiler_type == "unix":
+                extension.extra_link_args.append("-Wl,--version-script=src/exports.map")
         super().build_extensions()
 
 

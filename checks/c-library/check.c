@@ -45,6 +45,7 @@ static const struct {
     {"late psks", check_late_psks},
     {"once", check_once},
     {"patterns", check_patterns},
+    {"overlaps", check_overlaps},
 };
 
 int main(int count, char **words) {

@@ -106,5 +106,6 @@ void check_changed_structs(void);
 void check_late_psks(void);
 void check_once(void);
 void check_patterns(void);
+void check_overlaps(void);
 
 #endif

@@ -44,6 +44,7 @@ export const code: Readonly<{
     MORE: 42;
     CLOSED: 43;
     CUT: 44;
+    OVERLAP: 45;
 }>;
 export function codeOf(number: any): string;
 /** What a refused call throws. */
@@ -121,6 +122,7 @@ declare const TEXTS: Readonly<{
     MORE: "the frame isn't complete";
     CLOSED: "the stream was ended before, or has refused something";
     CUT: string;
+    OVERLAP: "a buffer that the call writes to overlaps another one: no call of this package meets it";
     BUSY: "another call on this handshake is under way: await it first";
     DISPOSED: "this object is used up";
     NOT_LOADED: "await load() first";

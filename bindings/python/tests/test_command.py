@@ -1,15 +1,18 @@
 """python3 -m yulimosar connect, listen, keygen and pubkey."""
 import concurrent.futures
 import contextlib
+import dataclasses
 import os
 import socket
 import stat
 import subprocess
 import sys
+import threading
 
 import pytest
+from toys import configs
 
-from yulimosar import KeyPair
+from yulimosar import KeyPair, __main__, connect
 
 SECONDS = 100
 NOISECAT = os.environ.get("NOISECAT")    # the command of bindings/go, if it is there
@@ -171,3 +174,27 @@ def test_with_noisecat(keys, pattern, tmp_path):
             client = command("connect", f"127.0.0.1:{port}", *own, input=data)
         assert client.returncode == 0 and client.stdout == data[::-1], client.stderr
         assert served()[:2] == (0, data)
+
+
+@pytest.mark.parametrize("said", [b"", b"x"], ids=["silent", "after a byte"])
+def test_strangers_who_wait_do_not_keep_out_a_client(said, monkeypatch):
+    """More than a listener shakes hands with at once, without any limit of time."""
+    monkeypatch.setattr(__main__, "SECONDS", None)
+    client, server = (dataclasses.replace(it, handshake_timeout=None) for it in configs("XX"))
+    made = []
+    with socket.create_server(("127.0.0.1", 0)) as listener:
+        handshakes = __main__._Handshakes(listener, server)
+        thread = threading.Thread(target=lambda: made.append(handshakes.first()), daemon=True)
+        thread.start()
+        strangers = [socket.create_connection(listener.getsockname()) for _ in range(__main__.AT_ONCE + 6)]
+        for it in strangers:
+            it.sendall(said)
+        sock = socket.create_connection(listener.getsockname(), 30)
+        with connect(sock, client) as channel:
+            thread.join(60)
+            made[0].sendall(b"welcome")
+            assert channel.recv() == b"welcome"
+            made[0].abort()
+            channel.abort()
+    for it in strangers:
+        it.close()

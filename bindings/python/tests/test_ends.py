@@ -225,7 +225,9 @@ class Levels(logging.Handler):
 
 
 @pytest.mark.parametrize("fault, level", [
-    (None, logging.INFO), (KeyError("database"), logging.ERROR), (TypeError("a bug"), logging.ERROR)])
+    (None, logging.INFO), (KeyError("database"), logging.ERROR), (TypeError("a bug"), logging.ERROR),
+    (ConnectionRefusedError("the database is down"), logging.ERROR), (TimeoutError("database"), logging.ERROR),
+    (ChannelCut(), logging.ERROR)])
 def test_a_fault_of_this_program_is_logged_as_an_error(fault, level):
     """A `verify` that refuses is what it is for; one that fails refuses every client, and nobody would know."""
     def verify(_key):
@@ -254,7 +256,8 @@ def test_a_fault_of_this_program_is_logged_as_an_error(fault, level):
     assert (log.records[0].exc_info is not None) == (level == logging.ERROR)
 
 
-@pytest.mark.parametrize("fault, level", [(PeerRefused("no psk"), logging.INFO), (KeyError("no psk"), logging.ERROR)])
+@pytest.mark.parametrize("fault, level", [(PeerRefused("no psk"), logging.INFO), (KeyError("no psk"), logging.ERROR),
+                                          (ConnectionRefusedError("the database is down"), logging.ERROR)])
 def test_a_key_without_a_psk_is_refused(fault, level):
     """Anybody can show a key that isn't known: that is no fault of the program, if it says so."""
     def psk_for(_key):
@@ -280,6 +283,44 @@ def test_a_key_without_a_psk_is_refused(fault, level):
     assert [record.levelno for record in log.records] == [level]
 
 
+@pytest.mark.parametrize("fault, level", [
+    (OSError("no such device"), logging.ERROR), (RuntimeError("locked"), logging.ERROR), (None, logging.INFO)])
+@pytest.mark.parametrize("waits", [False, True], ids=["at once", "after a wait"])
+def test_a_device_that_fails_is_logged_as_an_error(fault, level, waits):
+    """A key pair that is in a device; zeros are the other party's fault."""
+    class Device:
+        public = bytes(range(32))
+
+        def agree(self, _remote):
+            return self.later() if waits else self.now()
+
+        def now(self):
+            if fault is not None:
+                raise fault
+            return bytes(32)
+
+        async def later(self):
+            await asyncio.sleep(0)
+            return self.now()
+
+    log = Levels()
+    logger = logging.getLogger("yulimosar")
+    logger.addHandler(log)
+
+    async def main(_result):
+        client = Config(pattern="NK", peer_key=Device.public, ephemeral=Xor)
+        async with server_of(says_bye_and_closes, Config(pattern="NK", key=Device(), accept_any_key=True)) as address:
+            with pytest.raises(ChannelCut):
+                await open_connection(*address, client)
+            await until(lambda: log.records)
+    try:
+        run(main)
+    finally:
+        logger.removeHandler(log)
+    assert [record.levelno for record in log.records] == [level]
+    assert (log.records[0].exc_info is not None) == (level == logging.ERROR)
+
+
 def test_a_connection_error_of_the_handlers_own_is_reported():
     """One that isn't this channel's goes to the loop's exception handler; the channel is aborted."""
     async def main(log):
@@ -291,6 +332,34 @@ def test_a_connection_error_of_the_handlers_own_is_reported():
                 await reader.read()
         assert not log.lines
     run(main, faults=1)
+
+
+@pytest.mark.parametrize("side", ["client", "server"])
+def test_a_cut_leaves_no_error_that_nobody_has_retrieved(side):
+    """Whether the program waits for the close or not, and in whichever order the collector frees what is left."""
+    async def main(_result):
+        writers = []
+
+        async def handler(_reader, writer):
+            writers.append(writer)
+            if side == "client":
+                writer.abort()
+            else:
+                await asyncio.sleep(60)
+
+        async with connected("NN", handler) as (reader, writer):
+            await until(lambda: writers)
+            if side == "client":
+                with pytest.raises(ChannelCut):
+                    await reader.read()
+            else:
+                writer.abort()
+            cut = writer if side == "client" else writers[0]
+            await until(cut.transport.is_closing)
+            await settle()
+            cut.transport.get_protocol()._closed = asyncio.get_running_loop().create_future()    # frees the other one
+            await settle()
+    run(main)
 
 
 # Forked processes.

@@ -512,3 +512,72 @@ def test_nothing_is_left():
     del initiator, responder
     gc.collect()
     assert len(_all) <= before
+
+
+# A psk that was set for a message which is refused then.
+
+def before_the_last():
+    """A responder of XXpsk3 that gets its psk later, and message 3."""
+    ours, theirs = configs("XXpsk3")
+    config = Config(pattern="XXpsk3", key=theirs.key, prologue=b"test", ephemeral=Xor, accept_any_key=True)
+    initiator, responder = Handshake(ours, True), Handshake(config, False)
+    responder.try_read(initiator.write())
+    initiator.read(responder.write())
+    return responder, initiator.write(b"the right one")
+
+
+def test_a_psk_of_a_refused_message_is_taken_back():
+    """A stranger's message, with its psk, doesn't keep out the message of the client who comes next."""
+    responder, message = before_the_last()
+    for psk in (b"w" * 32, b"v" * 32):
+        with pytest.raises(PskWanted):
+            responder.try_read(message)
+        responder.set_psk(psk)
+        with pytest.raises(MessageRefused) as caught:
+            responder.try_read(message)
+        assert caught.value.cause == Code.TAG
+    with pytest.raises(PskWanted):
+        responder.try_read(message)
+    responder.set_psk(bytes([1] * 32))
+    assert responder.try_read(message) == b"the right one" and responder.done
+
+
+def test_no_earlier_psk_is_taken_back():
+    """Nor one that was set before a message asked for it, nor where a call raises something else."""
+    responder, message = before_the_last()
+    responder.set_psk(bytes([1] * 32))
+    with pytest.raises(MessageRefused):
+        responder.try_read(message[:-1])
+    assert responder.try_read(message) == b"the right one"
+    initiator = Handshake(configs("NNpsk0+psk2", psks=())[0], True)
+    other = Handshake(configs("NNpsk0+psk2")[1], False)
+    initiator.set_psk(bytes([1] * 32))
+    other.read(initiator.write())
+    message = other.write(b"here")
+    with pytest.raises(PskWanted):
+        initiator.try_read(message)
+    initiator.set_psk(b"w" * 32)
+    with pytest.raises(MessageRefused):
+        initiator.try_read(message)
+    with pytest.raises(PskWanted):
+        initiator.try_read(message)
+    initiator.set_psk(bytes([2] * 32))
+    with pytest.raises(TypeError):
+        initiator.try_read(None)
+    assert initiator.try_read(message) == b"here" and initiator.done
+
+
+def test_a_psk_is_taken_back_by_a_call():
+    responder, message = before_the_last()
+    with pytest.raises(PskWanted):
+        responder.try_read(message)
+    responder.set_psk(b"w" * 32)
+    responder.unset_psk()
+    responder.unset_psk()    # there is none
+    with pytest.raises(PskWanted):
+        responder.try_read(message)
+    responder.set_psk(bytes([1] * 32))
+    assert responder.try_read(message) == b"the right one"
+    responder.close()
+    with pytest.raises(CallError):
+        responder.unset_psk()

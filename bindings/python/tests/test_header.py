@@ -1,12 +1,14 @@
 """The names and numbers of the package are those of noise.h."""
 import enum
 import re
+import shutil
+import subprocess
 from pathlib import Path
 
 import pytest
 
 import yulimosar
-from yulimosar import Code, codes
+from yulimosar import Code, _noise, codes
 
 HEADER = Path(__file__).resolve().parent.parent / "src" / "noise.h"
 
@@ -45,6 +47,14 @@ def test_sentences():
 def test_version(header):
     parts = re.findall(r"#define NOISE_VERSION_[A-Z]+ (\d+)", header)
     assert yulimosar.__version__ == ".".join(parts)
+
+
+def test_the_extension_shows_only_its_beginning():
+    """Else its calls could be those of another copy of the library in the process."""
+    if shutil.which("nm") is None:
+        pytest.skip("nm")
+    listed = subprocess.run(["nm", "-D", "--defined-only", _noise.__file__], capture_output=True, text=True, check=True)
+    assert [line.split()[-1] for line in listed.stdout.splitlines()] == ["PyInit__noise"]
 
 
 def test_every_public_name_is_there():

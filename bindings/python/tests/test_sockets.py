@@ -1,7 +1,9 @@
 """Channels over blocking sockets: ends, cuts and refusals, timeouts, threads, and what is left."""
+import copy
 import http.client
 import io
 import os
+import pickle
 import signal
 import socket
 import threading
@@ -508,3 +510,12 @@ def test_fork():
         assert os.waitstatus_to_exitcode(os.waitpid(child, 0)[1]) == 0
         client.sendall(b"from the parent")
         assert server.recv(100) == b"from the parent"
+
+
+def test_what_has_keys_is_not_copied():
+    near, far, _, _ = pair()
+    with near, far:
+        for it in (near, near._channel):
+            for call in (copy.copy, copy.deepcopy, pickle.dumps):
+                with pytest.raises(TypeError, match="isn't copied"):
+                    call(it)

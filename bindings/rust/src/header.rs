@@ -44,6 +44,7 @@ pub(crate) const END: u32 = 41;
 pub(crate) const MORE: u32 = 42;
 pub(crate) const CLOSED: u32 = 43;
 pub(crate) const CUT: u32 = 44;
+pub(crate) const OVERLAP: u32 = 45;
 
 pub(crate) const KEY_LEN: usize = 32;
 pub(crate) const TAG_LEN: usize = 16;

@@ -1,6 +1,6 @@
 -- The numbers of include/noise.h: those of the codes, and of the marks with which the structs begin.
 use Rattle.std.specs.Prelude.{◌≡◌, ℕ, List, ◌∷◌, []}
-use Rattle.noise_c.specs.declared.codes.numbers.TheConstants.{AGREEMENT, ARROW, CLOSED, CUT, DATAGRAM_RECEIVER, DATAGRAM_SENDER, DONE, END, ENDED, ENDING, EPHEMERAL_MISSING, EXHAUSTED, HANDSHAKE, HEADING, LENGTH, LIMIT, MORE, NAME, NAME_TAKEN, NOT_DONE, NOT_DUE, NOT_YOUR_TURN, OK, OLD, ONE_WAY, PATTERN, PRE_MESSAGE, PSK_COUNT, PSK_PLACE, RECEIVER, RECEIVING_CIPHER, REMOTE_MISSING, REMOTE_UNEXPECTED, REPEATED, RESERVED, ROOM, RULE, SENDER, SENDING_CIPHER, SHORT, STATIC_MISSING, STREAM_RECEIVER, STREAM_SENDER, STRUCT, TAG, TOKEN, TOO_LONG, TURN, WANTED, WANTED_PSK, WINDOW}
+use Rattle.noise_c.specs.declared.codes.numbers.TheConstants.{AGREEMENT, ARROW, CLOSED, CUT, DATAGRAM_RECEIVER, DATAGRAM_SENDER, DONE, END, ENDED, ENDING, EPHEMERAL_MISSING, EXHAUSTED, HANDSHAKE, HEADING, LENGTH, LIMIT, MORE, NAME, NAME_TAKEN, NOT_DONE, NOT_DUE, NOT_YOUR_TURN, OK, OLD, ONE_WAY, OVERLAP, PATTERN, PRE_MESSAGE, PSK_COUNT, PSK_PLACE, RECEIVER, RECEIVING_CIPHER, REMOTE_MISSING, REMOTE_UNEXPECTED, REPEATED, RESERVED, ROOM, RULE, SENDER, SENDING_CIPHER, SHORT, STATIC_MISSING, STREAM_RECEIVER, STREAM_SENDER, STRUCT, TAG, TOKEN, TOO_LONG, TURN, WANTED, WANTED_PSK, WINDOW}
 
 -- what a call returns
 pub record CodesAreNumbered : Type 0 where
@@ -15,6 +15,7 @@ pub record CodesAreNumbered : Type 0 where
   pub lines : (HEADING ∷ ARROW ∷ TOKEN ∷ PRE_MESSAGE ∷ TURN ∷ PSK_PLACE ∷ []) ≡ (30 ∷ 31 ∷ 32 ∷ 33 ∷ 34 ∷ 35 ∷ [])
   pub texts : (NAME_TAKEN ∷ LIMIT ∷ ENDING ∷ RULE ∷ []) ≡ (36 ∷ 37 ∷ 38 ∷ 39 ∷ [])
   pub streams : (END ∷ MORE ∷ CLOSED ∷ CUT ∷ []) ≡ (41 ∷ 42 ∷ 43 ∷ 44 ∷ [])
+  pub buffers : OVERLAP ≡ 45
 
 -- the kind of a struct in the second byte, and the version of its layout in the first
 pub record MarksAreNumbered : Type 0 where

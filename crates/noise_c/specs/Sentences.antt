@@ -1,6 +1,6 @@
 -- What each code means, as a sentence.
 use Rattle.std.specs.Prelude.{ℕ, List, codes, if◌then◌else◌, ◌==◌}
-use Rattle.noise_c.specs.declared.codes.numbers.TheConstants.{AGREEMENT, ARROW, CLOSED, CUT, DONE, END, ENDED, ENDING, EPHEMERAL_MISSING, EXHAUSTED, HEADING, LENGTH, LIMIT, MORE, NAME, NAME_TAKEN, NOT_DONE, NOT_DUE, NOT_YOUR_TURN, OK, OLD, ONE_WAY, PATTERN, PRE_MESSAGE, PSK_COUNT, PSK_PLACE, REMOTE_MISSING, REMOTE_UNEXPECTED, REPEATED, RESERVED, ROOM, RULE, SHORT, STATIC_MISSING, STRUCT, TAG, TOKEN, TOO_LONG, TURN, WANTED, WANTED_PSK, WINDOW}
+use Rattle.noise_c.specs.declared.codes.numbers.TheConstants.{AGREEMENT, ARROW, CLOSED, CUT, DONE, END, ENDED, ENDING, EPHEMERAL_MISSING, EXHAUSTED, HEADING, LENGTH, LIMIT, MORE, NAME, NAME_TAKEN, NOT_DONE, NOT_DUE, NOT_YOUR_TURN, OK, OLD, ONE_WAY, OVERLAP, PATTERN, PRE_MESSAGE, PSK_COUNT, PSK_PLACE, REMOTE_MISSING, REMOTE_UNEXPECTED, REPEATED, RESERVED, ROOM, RULE, SHORT, STATIC_MISSING, STRUCT, TAG, TOKEN, TOO_LONG, TURN, WANTED, WANTED_PSK, WINDOW}
 
 abbrev pub meaning : ℕ → List ℕ
 meaning code =
@@ -46,4 +46,5 @@ meaning code =
     else if code == MORE then codes "The frame is not complete."
     else if code == CLOSED then codes "The stream was ended or refused before."
     else if code == CUT then codes "The connection ended before the stream did."
+    else if code == OVERLAP then codes "A buffer that the call writes to overlaps another of its buffers."
     else codes "This number is not a code of the library."

@@ -12,7 +12,7 @@ use noise_session::{DatagramFault, OpenFault, SendFault};
 use noise_state::CipherFault;
 
 // What an export returns, with the numbers that `include/noise.h` has, the marks of the structs, and the lengths of a
-// frame.
+// frame. No export returns OVERLAP: the functions of the header do, which see addresses.
 #[rattlefmt::skip]
 pub(crate) mod numbers {
     pub(crate) const OK: u32 = 0;
@@ -57,6 +57,7 @@ pub(crate) mod numbers {
     pub(crate) const MORE: u32 = 42;
     pub(crate) const CLOSED: u32 = 43;
     pub(crate) const CUT: u32 = 44;
+    pub(crate) const OVERLAP: u32 = 45;
 
     // A struct begins with its mark: which kind of struct it is, in the second byte, and which version of its layout,
     // in the first. A change of a layout gives its mark another version.

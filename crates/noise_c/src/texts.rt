@@ -116,6 +116,8 @@ fn sentence_of(code: u32) -> (&'static [u8; 80], usize)
             \0\0\0\0\0\0\0\0\0\0\0\0\0\0\0\0\0\0\0\0\0\0\0\0\0\0\0\0\0\0\0\0\0\0\0\0\0\0\0\0\0", 39),
         CUT => (b"The connection ended before the stream did.\
             \0\0\0\0\0\0\0\0\0\0\0\0\0\0\0\0\0\0\0\0\0\0\0\0\0\0\0\0\0\0\0\0\0\0\0\0\0", 43),
+        OVERLAP => (b"A buffer that the call writes to overlaps another of its buffers.\
+            \0\0\0\0\0\0\0\0\0\0\0\0\0\0\0", 65),
         _ => (b"This number is not a code of the library.\
             \0\0\0\0\0\0\0\0\0\0\0\0\0\0\0\0\0\0\0\0\0\0\0\0\0\0\0\0\0\0\0\0\0\0\0\0\0\0\0", 41),
     }

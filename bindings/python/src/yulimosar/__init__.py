@@ -1,7 +1,8 @@
 """Secure channels by the Noise Protocol Framework (revision 34, with 25519, ChaChaPoly and SHA256).
 
-open_connection and start_server are for asyncio, connect and accept for sockets, Channel for anything else; and
-DatagramProtocol and DatagramChannel for UDP. Below them are Handshake, Sender, Receiver, Datagrams and CipherState.
+open_connection and start_server are for asyncio, create_connection and create_server for its protocols, connect and
+accept for sockets, Channel for anything else; and DatagramProtocol and DatagramChannel for UDP. Below them are
+Handshake, Sender, Receiver, Datagrams and CipherState.
 """
 from __future__ import annotations
 
@@ -23,7 +24,7 @@ from .transport import CipherState, Datagrams, Receiver, Sender
 
 if TYPE_CHECKING:
     from .sockets import NoiseSocket, accept, connect
-    from .streams import Reader, Writer, open_connection, start_server
+    from .streams import Reader, Writer, create_connection, create_server, open_connection, start_server
     from .udp import DatagramPeer, DatagramProtocol
 
 __version__ = "1.0.0"
@@ -32,10 +33,11 @@ __all__ = [
     "DatagramChannel", "DatagramPeer", "DatagramProtocol", "Datagrams", "End", "Event", "Fault", "Handshake",
     "HandshakeTimeout", "KeyPair", "Layout", "LowOrderKey", "MAX_DATAGRAM", "MAX_MESSAGE", "MAX_PAYLOAD", "Message",
     "MessageRefused", "Needs", "NoiseError", "NoiseSocket", "PeerRefused", "Pending", "Piece", "PskWanted", "Reader",
-    "Receiver", "Sender", "Writer", "accept", "check_pattern", "connect", "layout", "open_connection", "start_server",
+    "Receiver", "Sender", "Writer", "accept", "check_pattern", "connect", "create_connection", "create_server",
+    "layout", "open_connection", "start_server",
 ]
 
-_STREAMS = {"Reader", "Writer", "open_connection", "start_server"}
+_STREAMS = {"Reader", "Writer", "create_connection", "create_server", "open_connection", "start_server"}
 _SOCKETS = {"NoiseSocket", "accept", "connect"}
 _UDP = {"DatagramPeer", "DatagramProtocol"}
 _STRUCTS = ("handshake", "stream_sender", "stream_receiver", "sender", "receiver", "datagram_sender",

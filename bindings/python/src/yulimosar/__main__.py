@@ -22,7 +22,7 @@ from .keys import KeyPair, key_of_digits
 from .sockets import NoiseSocket, accept, connect
 
 SECONDS = 30.0    # that connecting and a handshake may take
-AT_ONCE = 64      # how many handshakes of a listener run at once, so that silent strangers take little
+AT_ONCE = 64      # how many handshakes of a listener run at once, so that strangers take little
 
 EXAMPLES = """
   python3 -m yulimosar keygen -o server.key        prints the public key, too
@@ -148,12 +148,15 @@ def _join(options: argparse.Namespace) -> None:
 
 
 class _Handshakes:
-    """The handshakes of those who connect to a listener, side by side. Failures are reported on standard error."""
+    """The handshakes of those who connect to a listener, side by side. Where there are too many, the oldest gives way,
+    first of those that have said nothing. Failures are reported on standard error."""
 
     def __init__(self, listener: socket.socket, config: Config) -> None:
         self._listener, self._config = listener, config
-        self._places = threading.Semaphore(AT_ONCE)
         self._made: queue.SimpleQueue[NoiseSocket] = queue.SimpleQueue()
+        self._silent: dict[socket.socket, None] = {}    # the oldest first
+        self._others: dict[socket.socket, None] = {}
+        self._gave_way: set[socket.socket] = set()
         self._over, self._lock = False, threading.Lock()
 
     def first(self) -> NoiseSocket:
@@ -162,29 +165,51 @@ class _Handshakes:
         while True:
             with contextlib.suppress(queue.Empty):
                 return self._made.get_nowait()
-            if self._places.acquire(timeout=0.1):
-                try:
-                    sock, peer = self._listener.accept()
-                except TimeoutError:
-                    self._places.release()
-                else:
-                    threading.Thread(target=self._shake, args=(sock, peer), daemon=True).start()
+            with contextlib.suppress(TimeoutError):
+                sock, peer = self._listener.accept()
+                self._make_place(sock)
+                threading.Thread(target=self._shake, args=(sock, peer), daemon=True).start()
+
+    def _make_place(self, sock: socket.socket) -> None:
+        with self._lock:
+            if len(self._silent) + len(self._others) >= AT_ONCE:
+                places = self._silent or self._others
+                oldest = next(iter(places))
+                del places[oldest]
+                self._gave_way.add(oldest)
+                with contextlib.suppress(OSError):
+                    oldest.shutdown(socket.SHUT_RDWR)    # which ends its thread
+            self._silent[sock] = None
 
     def _shake(self, sock: socket.socket, peer: tuple[str, int]) -> None:
         try:
-            channel = accept(sock, self._config)
-        except Exception as fault:
-            if not self._over:
-                print(f"yulimosar: {peer[0]}:{peer[1]}: {fault}", file=sys.stderr)
-        else:
+            sock.settimeout(SECONDS)
+            sock.recv(1, socket.MSG_PEEK)
+            sock.settimeout(None)
             with self._lock:
-                if self._over:
-                    channel.abort()
-                else:
-                    self._over = True
-                    self._made.put(channel)
+                if sock in self._silent:
+                    del self._silent[sock]
+                    self._others[sock] = None
+            channel = accept(sock, self._config)
+            self._hand_over(sock, channel)
+        except Exception as fault:
+            sock.close()
+            if not self._over:
+                text = "gave way to a newer connection" if sock in self._gave_way else str(fault)
+                print(f"yulimosar: {peer[0]}:{peer[1]}: {text}", file=sys.stderr)
         finally:
-            self._places.release()
+            with self._lock:
+                self._silent.pop(sock, None)
+                self._others.pop(sock, None)
+                self._gave_way.discard(sock)
+
+    def _hand_over(self, sock: socket.socket, channel: NoiseSocket) -> None:
+        with self._lock:
+            if self._over or self._others.pop(sock, False) is False:    # it gave way meanwhile
+                channel.abort()
+            else:
+                self._over = True
+                self._made.put(channel)
 
 
 def _carry(channel: NoiseSocket) -> None:

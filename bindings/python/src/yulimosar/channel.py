@@ -5,7 +5,7 @@ from __future__ import annotations
 import threading
 from collections.abc import Awaitable, Callable, Generator
 from dataclasses import dataclass, field
-from typing import Any, TypeAlias, TypeVar
+from typing import Any, NoReturn, TypeAlias, TypeVar
 
 from ._noise import ffi, lib
 from .codes import MAX_PAYLOAD, STREAM_OVERHEAD, Code
@@ -95,6 +95,9 @@ class Channel:
         self._to_send.clear()
         self._fault = CallError(None, FORKED)
 
+    def __reduce__(self) -> NoReturn:
+        raise TypeError("a Channel isn't copied: two would seal with one key and nonce")
+
     @property
     def agreed(self) -> Agreed | None:
         """What the handshake has agreed on; None until it is done."""
@@ -172,19 +175,22 @@ class Channel:
     def write(self, payload: Buffer) -> None:
         """Writes to the stream, once the handshake is done: `data_to_send` has the frames."""
         data, size = pointer(payload)
-        length = frames_length(size)
-        frames = uncleared(_CHARS, length)
-        with self._out:
-            self._seal(data, size, frames, length)
-            if length:
-                self._to_send.append(ffi.unpack(frames, length))
+        try:
+            length = frames_length(size)
+            frames = uncleared(_CHARS, length)
+            with self._out:
+                self._seal(data, size, frames, length)
+                if length:
+                    self._to_send.append(ffi.unpack(frames, length))
+        except BaseException:
+            let_go(data)
+            raise
 
     def _seal(self, data: Any, size: int, room: Any, length: int) -> None:
         """Writes the frames of a payload, which go after what `data_to_send` has returned. One thread calls it."""
         at = None if self._sender is None or self._fault is not None else self._sender._at
-        sender = at[0] if at is not None else self._sends(data)
+        sender = at[0] if at is not None else self._sends()
         if code := _stream_write_all(sender, data, size, room, length, self._write_result):
-            let_go(data)
             raise CallError(Code(code))
 
     def write_eof(self) -> None:
@@ -196,11 +202,10 @@ class Channel:
                 raise CallError(Code(code))
             self._to_send.append(ffi.unpack(room, result.len))
 
-    def _sends(self, *places: Any) -> Any:
-        """The struct that sends, if anything may be sent; else it lets go of what `pointer` returned."""
+    def _sends(self) -> Any:
+        """The struct that sends, if anything may be sent."""
         if self._fault is None and self._sender is not None and self._sender._at is not None:
             return self._sender._at[0]
-        let_go(*places)
         if self._fault is not None:
             raise self._fault.with_traceback(None)
         if self._sender is None:

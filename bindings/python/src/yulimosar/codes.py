@@ -49,6 +49,7 @@ class Code(IntEnum):
     MORE = 42
     CLOSED = 43
     CUT = 44
+    OVERLAP = 45
 
     def __str__(self) -> str:
         sentence: bytes = ffi.string(lib.noise_text(self))

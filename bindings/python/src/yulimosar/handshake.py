@@ -56,7 +56,7 @@ class Handshake(Struct):
     """
 
     __slots__ = ("config", "initiator", "_layout", "_result", "_stage", "_ephemeral", "_verified", "_used", "_tries",
-                 "_kept")
+                 "_kept", "_asks", "_late")
 
     def __init__(self, config: Config, initiator: bool, *, late_psks: bool = True) -> None:
         self._layout = config.checked(initiator, late_psks)
@@ -66,6 +66,8 @@ class Handshake(Struct):
         self._used = False      # whether `split`, `datagrams`, `ciphers` or `stream` has used it up
         self._tries = False     # whether `try_read` runs
         self._kept: Any = None  # then the struct as it was before, if the Config has to decide something
+        self._asks = False      # whether `try_read` has raised PskWanted, and its message wasn't accepted or refused
+        self._late = 0          # how many psks were set since then
         self._result = ffi.new("noise_result *")
         self._stage = ffi.new("noise_stage_result *")
         draws = self._layout.needs(initiator).ephemeral
@@ -87,8 +89,11 @@ class Handshake(Struct):
             ffi.memmove(setup.psks[index], psk, KEY_LEN)
         text = pattern_text(config.pattern).encode()
         prologue, size = pointer(config.prologue)
-        code = lib.noise_start(self._open(), text, len(text), prologue, size, setup)
-        lib.noise_wipe(setup, ffi.sizeof(setup[0]))
+        try:
+            code = lib.noise_start(self._open(), text, len(text), prologue, size, setup)
+        finally:
+            let_go(prologue)
+            lib.noise_wipe(setup, ffi.sizeof(setup[0]))
         if code:
             self._overwrite()
             raise ConfigError(_FIELDS.get(code, "pattern"), Code(code))
@@ -191,24 +196,36 @@ class Handshake(Struct):
 
     def try_read(self, message: Buffer) -> bytes:
         """Reads the message that is due, if it is the right one: its payload. Any error leaves the handshake as it was,
-        and the right message can still be read. For messages that a stranger can send, as over UDP."""
+        and the right message can still be read: MessageRefused takes back what `set_psk` has passed since PskWanted.
+        For messages that a stranger can send, as over UDP."""
         with self._lock:
             at = self._open()
             self._tries = True
             if self._decides():
                 self._kept = ffi.new("noise_handshake *", at[0])
             try:
-                return run(self.reading(message))
+                payload = run(self.reading(message))
+                self._asks, self._late = False, 0
+                return payload
             except PskWanted:
+                self._asks = True
                 raise
-            except BaseException:
+            except BaseException as error:
                 self._refuse()
+                if isinstance(error, MessageRefused):
+                    self._take_back()
                 raise
             finally:
                 self._tries = False
                 if self._kept is not None:
                     lib.noise_wipe(self._kept, ffi.sizeof(self._kept[0]))
                     self._kept = None
+
+    def _take_back(self) -> None:
+        """Takes back the psks that were set for a message which was refused."""
+        while self._late and self._at is not None:
+            self.unset_psk()
+        self._asks = False
 
     def _decides(self) -> bool:
         """Whether the Config has to do with the next message what the library can't take back: it verifies a key that
@@ -218,12 +235,20 @@ class Handshake(Struct):
         return config.psk_for is not None or verifies and self.message == self._layout.learns(self.initiator)
 
     def set_psk(self, psk: bytes) -> None:
-        """Passes the secret of the first psk token that has none. Later calls can't replace it."""
+        """Passes the secret of the first psk token that has none. Later calls can't replace it, but see `unset_psk`."""
         if len(psk) != KEY_LEN:
             raise ValueError("a psk has 32 bytes")
         with self._lock:
             if code := lib.noise_set_psk(self._open(), psk):
                 raise CallError(Code(code))
+            self._late += self._asks
+
+    def unset_psk(self) -> None:
+        """Takes back the last secret that no message has used yet, if there is one."""
+        with self._lock:
+            if code := lib.noise_unset_psk(self._open()):
+                raise CallError(Code(code))
+            self._late -= self._late > 0
 
     def writing(self, payload: Buffer) -> Steps[bytes]:
         """`write`, where functions of the Config may be asynchronous."""

@@ -32,8 +32,8 @@ def pointer(data: Buffer) -> tuple[Any, int]:
 
 
 def let_go(*places: Any) -> None:
-    """Gives back what `pointer` returned, before a call raises: a memoryview that a frame of the traceback still uses
-    crashes CPython, if its collector frees both."""
+    """Gives back what `pointer` returned, before any exception leaves its frame: a memoryview that a frame of the
+    traceback still uses crashes CPython, if its collector frees both."""
     for place in places:
         if isinstance(place, ffi.CData):
             ffi.release(place)
@@ -45,11 +45,14 @@ def refuse_text(data: Buffer) -> None:
         raise TypeError("a bytes-like object is wanted, not a str: encode it first")
 
 
-def copied(data: Buffer) -> tuple[Any, int]:
-    """A copy in which a call of the library works in place, and how many bytes it has."""
+def copied(data: Buffer, more: int = 0) -> tuple[Any, int]:
+    """A copy in which a call of the library works in place, with room for `more` after it, and its length without."""
     there, size = pointer(data)
-    copy = _new(_CHARS, size)
-    ffi.memmove(copy, there, size)
+    try:
+        copy = _new(_CHARS, size + more)
+        ffi.memmove(copy, there, size)
+    finally:
+        let_go(there)
     return copy, size
 
 
@@ -95,9 +98,8 @@ class Struct:
         """Whether it was closed, or used up."""
         return self._at is None
 
-    def _gone(self, *places: Any) -> CallError:
-        """What a call raises that needs the keys, where there are none; it lets go of what `pointer` returned."""
-        let_go(*places)
+    def _gone(self) -> CallError:
+        """What a call raises that needs the keys, where there are none."""
         return CallError(None, self._why)
 
     def __enter__(self) -> Self:

@@ -2,13 +2,14 @@
 from __future__ import annotations
 
 import io
+import operator
 import selectors
 import socket
 import struct
 import threading
 import time
 from types import TracebackType
-from typing import IO, Any, BinaryIO, Literal, Self, TextIO, Type, overload
+from typing import IO, Any, BinaryIO, Literal, NoReturn, Self, TextIO, Type, overload
 
 from .channel import CLOSED_HERE, Agreed, Channel, Data, End, Event, Pending
 from .codes import MAX_PAYLOAD, Code
@@ -100,6 +101,9 @@ class NoiseSocket:
         self._closing = threading.RLock()
         self._pending = self._rest = memoryview(b"")
         self._forked = True
+
+    def __reduce__(self) -> NoReturn:
+        raise TypeError("a NoiseSocket isn't copied: it has a connection and its keys")
 
     @property
     def noise(self) -> Agreed:
@@ -218,12 +222,21 @@ class NoiseSocket:
             view[:len(got)] = got
             return len(got)
 
+    @overload
+    def read(self, len: int = 1024, buffer: None = None) -> bytes: ...
+
+    @overload
+    def read(self, len: int, buffer: bytearray | memoryview) -> int: ...
+
+    @overload
+    def read(self, len: int = 1024, *, buffer: bytearray | memoryview) -> int: ...
+
     def read(self, len: int = 1024, buffer: bytearray | memoryview | None = None) -> bytes | int:
         """`recv`, or with a buffer `recv_into`, by an ssl.SSLSocket's name."""
         return self.recv(len) if buffer is None else self.recv_into(buffer, len)
 
     def _take(self, size: int) -> memoryview:
-        if size < 0:
+        if operator.index(size) < 0:    # a float is refused before it waits
             raise ValueError("a negative size")
         self._open()
         while size and not self._rest and not self._ended:

@@ -3,19 +3,22 @@ from __future__ import annotations
 
 import asyncio
 import copy
+import functools
 import logging
 import warnings
 from asyncio.trsock import TransportSocket
 from collections.abc import Awaitable, Callable, Iterable
 from types import TracebackType
-from typing import Any, Self, cast
+from typing import Any, Self, TypeAlias, TypeVar, cast
 
 from ._noise import ffi
 from .channel import CLOSED_HERE, Agreed, Channel, Event, Payload, Pending, frames_length
 from .codes import MAX_PAYLOAD, STREAM_OVERHEAD, Code
 from .config import Config
-from .errors import CallError, ChannelCut, ConfigError, HandshakeTimeout, MessageRefused, NoiseError
-from .memory import Buffer, pointer, shared, uncleared
+from .errors import (
+    CallError, ChannelCut, ConfigError, HandshakeTimeout, LowOrderKey, MessageRefused, NoiseError, PeerRefused,
+)
+from .memory import Buffer, let_go, pointer, shared, uncleared
 
 LIMIT = 2 ** 16        # of a reader's buffer, as asyncio's
 UNJOINED = 2 ** 15     # how many bytes of frames are sent one by one, in one turn of the loop
@@ -23,6 +26,9 @@ JOINED = 2 ** 16       # how many are sent together after them
 _ROOM = JOINED + 1024  # for four frames of 16 KiB
 _CHARS = ffi.typeof("char[]")
 CLOSE_TIMEOUT = 30.0   # in seconds: how long `close` waits for a peer that takes nothing, as asyncio's does with TLS
+
+AnyProtocol: TypeAlias = asyncio.Protocol | asyncio.BufferedProtocol
+_P = TypeVar("_P", bound=AnyProtocol)
 
 logger = logging.getLogger("yulimosar")
 
@@ -125,6 +131,17 @@ class Reader(asyncio.StreamReader):
             raise fault.with_traceback(None)
 
 
+class _Above(asyncio.StreamReaderProtocol):
+    """The protocol of a Reader. That nobody waits for the close is no fault; asyncio's own says so where it is freed,
+    which may be after the collector has freed, and reported, what it had."""
+
+    def connection_lost(self, exc: Exception | None) -> None:
+        super().connection_lost(exc)
+        closed = cast(Any, self)._closed
+        if closed.done() and not closed.cancelled():
+            closed.exception()
+
+
 class Writer(asyncio.StreamWriter):
     """A StreamWriter. `close` sends the end of the stream, unless something went wrong; `abort` doesn't, so that the
     other party gets ChannelCut. As an asynchronous context manager it closes, or aborts after an exception."""
@@ -186,7 +203,7 @@ class _Transport(asyncio.Transport):
         return self._below.transport.get_extra_info(name, default)
 
     def set_protocol(self, protocol: asyncio.BaseProtocol) -> None:
-        self._below.set_above(cast(asyncio.Protocol, protocol))
+        self._below.set_above(cast(AnyProtocol, protocol))
 
     def get_protocol(self) -> asyncio.BaseProtocol:
         return self._below.above
@@ -246,7 +263,7 @@ class _Below(asyncio.BufferedProtocol):
     """
 
     def __init__(
-        self, channel: Channel, above: asyncio.Protocol, timeout: float | None,
+        self, channel: Channel, above: AnyProtocol, timeout: float | None,
         ready: Callable[[_Transport], None], failed: Callable[[Exception], None]
     ) -> None:
         self.loop = asyncio.get_running_loop()
@@ -270,11 +287,17 @@ class _Below(asyncio.BufferedProtocol):
         self._turn: asyncio.Handle | None = None    # of `_turned`, if it is called at the loop's next turn
         shared.add(self)
 
-    def set_above(self, above: asyncio.Protocol) -> None:
-        """A protocol of asyncio's own for a reader copies what it gets; another one is given bytes."""
+    def set_above(self, above: AnyProtocol) -> None:
+        """A protocol of asyncio's own for a reader copies what it gets; another one is given bytes, or has a buffer."""
         self.above = above
-        copies = type(above) is asyncio.StreamReaderProtocol
-        self._give: Callable[[Any], None] = above.data_received if copies else lambda it: above.data_received(bytes(it))
+        self._give: Callable[[Any], None]
+        if isinstance(above, asyncio.BufferedProtocol):
+            self._give = functools.partial(_fill, above)
+        elif type(above) in (_Above, asyncio.StreamReaderProtocol):
+            self._give = above.data_received
+        else:
+            received = above.data_received
+            self._give = lambda it: received(bytes(it))
 
     def _in_child(self) -> None:
         """In a forked process the connection, and the loop's selector, are the parent's."""
@@ -314,13 +337,25 @@ class _Below(asyncio.BufferedProtocol):
             except Exception as fault:
                 self.break_off(fault)
                 return
-            if type(event) is Payload:
-                self._give(event)
-                continue
-            self._flush()
-            if event is None:
-                return
-            self._take(cast(Event, event))
+            if type(event) is not Payload:
+                self._flush()
+                if event is None:
+                    return
+            try:
+                if type(event) is Payload:
+                    self._give(event)
+                else:
+                    self._take(cast(Event, event))
+            except Exception as fault:    # of the protocol above
+                self._report(fault)
+                self.break_off(fault)
+
+    def _report(self, fault: Exception) -> None:
+        """As asyncio's transports do: then the connection is aborted."""
+        self.loop.call_exception_handler({
+            "message": "Fatal error: a call of the protocol over a channel failed.", "exception": fault,
+            "transport": self.transport, "protocol": self.above,
+        })
 
     def _take(self, event: Event) -> None:
         if isinstance(event, Agreed):
@@ -362,6 +397,13 @@ class _Below(asyncio.BufferedProtocol):
         """Sends the frames of a payload. After the first 32 KiB that a program writes in one turn of the loop they are
         joined: one call of the system sends 64 KiB, or what there is at the next turn."""
         payload, size = (data, len(data)) if type(data) is bytes else pointer(data)
+        try:
+            self._write(payload, size)
+        except BaseException:
+            let_go(payload)
+            raise
+
+    def _write(self, payload: Any, size: int) -> None:
         length = size + STREAM_OVERHEAD if 0 < size <= MAX_PAYLOAD else frames_length(size)
         if self._turn is None or length > UNJOINED or not self.joins:
             self._send(payload, size, length)
@@ -513,14 +555,26 @@ class _Below(asyncio.BufferedProtocol):
             pass    # that was all
 
 
-async def open_connection(
-    host: str | None, port: int | str | None, config: Config, *, limit: int = LIMIT, **words: Any
-) -> tuple[Reader, Writer]:
-    """Connects, and runs the handshake as the initiator. The other words are those of loop.create_connection."""
-    config.check(True)
+def _fill(protocol: asyncio.BufferedProtocol, payload: Any) -> None:
+    """Gives bytes to a protocol that has a buffer for them, as asyncio's transports do."""
+    rest = memoryview(payload)
+    while size := len(rest):
+        room = memoryview(protocol.get_buffer(size))
+        count = min(size, len(room))
+        if not count:
+            raise RuntimeError("get_buffer() returned an empty buffer")
+        room[:count] = rest[:count]
+        room.release()
+        rest = rest[count:]
+        protocol.buffer_updated(count)
+
+
+async def _connect(
+    above: AnyProtocol, host: str | None, port: int | str | None, config: Config, words: dict[str, Any],
+    reader: Reader | None = None
+) -> _Transport:
+    """Connects, and runs the handshake as the initiator."""
     loop = asyncio.get_running_loop()
-    reader = Reader(limit, loop)
-    above = asyncio.StreamReaderProtocol(reader, loop=loop)
     ready: asyncio.Future[_Transport] = loop.create_future()
 
     def done(transport: _Transport) -> None:
@@ -532,15 +586,59 @@ async def open_connection(
             ready.set_exception(fault)
             ready.exception()    # nobody may wait for it
 
-    below = reader._below = _Below(Channel(config, True), above, config.handshake_timeout, done, failed)
+    below = _Below(Channel(config, True), above, config.handshake_timeout, done, failed)
+    if reader is not None:
+        reader._below = below
     connect: Any = loop.create_connection    # host and port are None where `words` have a socket
     await connect(lambda: below, host, port, **words)
     try:
-        transport = await ready
+        return await ready
     except asyncio.CancelledError:
         below.abort()
         raise
-    if below.channel.one_way:
+
+
+async def create_connection(
+    protocol_factory: Callable[[], _P], host: str | None, port: int | str | None, config: Config, **words: Any
+) -> tuple[asyncio.Transport, _P]:
+    """Connects, and runs the handshake as the initiator, as loop.create_connection does with `ssl`. A protocol, also a
+    BufferedProtocol, gets `connection_made` once that is done; if it fails, this call raises. The transport's
+    `get_extra_info("noise")` is what the handshake has agreed on. The other words are those of loop.create_connection.
+    """
+    config.check(True)
+    protocol = protocol_factory()
+    return await _connect(protocol, host, port, config, words), protocol
+
+
+async def create_server(
+    protocol_factory: Callable[[], AnyProtocol], host: str | None, port: int | str | None, config: Config, **words: Any
+) -> asyncio.Server:
+    """Listens, and runs the handshake as the responder with each client, as loop.create_server does with `ssl`. What
+    fails is logged as by `start_server`. The other words are those of loop.create_server."""
+    config.check(False)
+
+    def factory() -> asyncio.BufferedProtocol:
+        def failed(fault: Exception) -> None:
+            _report("handshake", below.transport.get_extra_info("peername"), fault)
+
+        below = _Below(Channel(config, False), protocol_factory(), config.handshake_timeout, lambda _it: None, failed)
+        return below
+
+    listen: Any = asyncio.get_running_loop().create_server
+    server: asyncio.Server = await listen(factory, host, port, **words)
+    return server
+
+
+async def open_connection(
+    host: str | None, port: int | str | None, config: Config, *, limit: int = LIMIT, **words: Any
+) -> tuple[Reader, Writer]:
+    """Connects, and runs the handshake as the initiator. The other words are those of loop.create_connection."""
+    config.check(True)
+    loop = asyncio.get_running_loop()
+    reader = Reader(limit, loop)
+    above = _Above(reader, loop=loop)
+    transport = await _connect(above, host, port, config, words, reader)
+    if transport._below.channel.one_way:
         reader.set_exception(CallError(Code.ONE_WAY))
     return reader, Writer(transport, above, reader, loop)
 
@@ -563,7 +661,7 @@ async def start_server(
 
     def factory() -> asyncio.BufferedProtocol:
         reader = Reader(limit, loop)
-        above = asyncio.StreamReaderProtocol(reader, loop=loop)
+        above = _Above(reader, loop=loop)
 
         def ready(transport: _Transport) -> None:
             task = loop.create_task(_serve(handler, reader, Writer(transport, above, reader, loop)))
@@ -601,8 +699,13 @@ async def _serve(handler: Handler, reader: Reader, writer: Writer) -> None:
 
 def _report(what: str, peer: Any, fault: Exception) -> None:
     """A line of the log: at INFO for what the network or the other party does, at ERROR for what this program does."""
-    cause = fault.cause if isinstance(fault, MessageRefused) else fault
-    if isinstance(cause, Code) or isinstance(cause, (NoiseError, OSError)) and not isinstance(cause, ConfigError):
+    if isinstance(fault, MessageRefused):    # any other cause is what a function of the Config has raised
+        cause: Any = fault.cause
+        is_ours = not isinstance(cause, (Code, PeerRefused, LowOrderKey))
+    else:
+        cause = fault
+        is_ours = isinstance(cause, ConfigError) or not isinstance(cause, (NoiseError, OSError))
+    if not is_ours:
         logger.info(f"{what} with %s: %s", peer, fault)
     else:
         logger.error(f"{what} with %s: %s", peer, fault, exc_info=cause)

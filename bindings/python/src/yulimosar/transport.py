@@ -6,7 +6,7 @@ from typing import Any
 from ._noise import ffi, lib
 from .codes import DATAGRAM_OVERHEAD, TAG_LEN, Code
 from .errors import CallError, MessageRefused
-from .memory import SMALL, Buffer, Struct, let_go, pointer
+from .memory import SMALL, Buffer, Struct, copied, let_go, pointer
 
 _REFUSALS = {Code.SHORT, Code.TAG, Code.TOO_LONG, Code.LENGTH, Code.RESERVED, Code.OLD, Code.REPEATED}
 
@@ -23,13 +23,7 @@ _encrypt = lib.noise_cipher_encrypt
 _decrypt = lib.noise_cipher_decrypt
 
 
-def _unsealed(code: int, *places: Any) -> CallError:
-    let_go(*places)
-    return CallError(Code(code))
-
-
-def _unopened(code: int, *places: Any) -> Exception:
-    let_go(*places)
+def _unopened(code: int) -> Exception:
     if code in _REFUSALS:
         return MessageRefused(None, None, Code(code))
     return CallError(Code(code))
@@ -48,27 +42,35 @@ class Sender(Struct):
         """The next message: 16 bytes longer than the payload, which has at most 65519."""
         data, size = (payload, len(payload)) if type(payload) is bytes else pointer(payload)
         length = size + TAG_LEN
-        with self._lock:
-            at = self._at
-            if at is None:
-                raise self._gone(data)
-            room = self._spare if self._spare and length <= SMALL else self._room(length)
-            if code := _seal(at[0], data, size, room, length, self._result):
-                raise _unsealed(code, data)
-            return _unpack(room, length)    # type: ignore[no-any-return]
+        try:
+            with self._lock:
+                at = self._at
+                if at is None:
+                    raise self._gone()
+                room = self._spare if self._spare and length <= SMALL else self._room(length)
+                if code := _seal(at[0], data, size, room, length, self._result):
+                    raise CallError(Code(code))
+                return _unpack(room, length)    # type: ignore[no-any-return]
+        except BaseException:
+            let_go(data)
+            raise
 
     def seal_in_place(self, buffer: bytearray | memoryview, size: int) -> int:
         """Seals the first `size` bytes of a buffer where they are, without a copy. The message is 16 bytes longer."""
         if size < 0:
             raise ValueError("a negative size")
         room = _from_buffer(_CHARS, buffer, True)
-        with self._lock:
-            at = self._at
-            if at is None:
-                raise self._gone(room)
-            if code := _seal_in_place(at[0], room, len(room), size, self._result):
-                raise _unsealed(code, room)
-            return size + TAG_LEN
+        try:
+            with self._lock:
+                at = self._at
+                if at is None:
+                    raise self._gone()
+                if code := _seal_in_place(at[0], room, len(room), size, self._result):
+                    raise CallError(Code(code))
+                return size + TAG_LEN
+        except BaseException:
+            let_go(room)
+            raise
 
     @property
     def nonce(self) -> int:
@@ -88,27 +90,35 @@ class Receiver(Struct):
     def open(self, message: Buffer) -> bytes:
         """The payload of the next message. MessageRefused changes nothing; over a stream close at the first."""
         data, size = (message, len(message)) if type(message) is bytes else pointer(message)
-        with self._lock:
-            at = self._at
-            if at is None:
-                raise self._gone(data)
-            room = self._spare if self._spare and size <= SMALL else self._room(size)
-            if code := _open_copy(at[0], data, size, room, self._result):
-                raise _unopened(code, data)
-            return _unpack(room, size - TAG_LEN)    # type: ignore[no-any-return]
+        try:
+            with self._lock:
+                at = self._at
+                if at is None:
+                    raise self._gone()
+                room = self._spare if self._spare and size <= SMALL else self._room(size)
+                if code := _open_copy(at[0], data, size, room, self._result):
+                    raise _unopened(code)
+                return _unpack(room, size - TAG_LEN)    # type: ignore[no-any-return]
+        except BaseException:
+            let_go(data)
+            raise
 
     def open_in_place(self, message: bytearray | memoryview) -> memoryview:
         """Opens a message where it is, without a copy: the payload is a view of it."""
         room = _from_buffer(_CHARS, message, True)
         size = len(room)
-        with self._lock:
-            at = self._at
-            if at is None:
-                raise self._gone(room)
-            if code := _open(at[0], room, size, self._result):
-                raise _unopened(code, room)
-            view = memoryview(message)
-            return (view if view.format == "B" else view.cast("B"))[:size - TAG_LEN]
+        try:
+            with self._lock:
+                at = self._at
+                if at is None:
+                    raise self._gone()
+                if code := _open(at[0], room, size, self._result):
+                    raise _unopened(code)
+                view = memoryview(message)
+                return (view if view.format == "B" else view.cast("B"))[:size - TAG_LEN]
+        except BaseException:
+            let_go(room)
+            raise
 
     @property
     def nonce(self) -> int:
@@ -139,26 +149,34 @@ class Datagrams(Struct):
         """A datagram: 24 bytes longer than the payload, which has at most 65519."""
         data, size = (payload, len(payload)) if type(payload) is bytes else pointer(payload)
         length = size + DATAGRAM_OVERHEAD
-        with self._lock:
-            at = self._at
-            if at is None:
-                raise self._gone(data)
-            room = self._spare if self._spare and length <= SMALL else self._room(length)
-            if code := _datagram_seal(at[0], data, size, room, length, self._result):
-                raise _unsealed(code, data)
-            return _unpack(room, length)    # type: ignore[no-any-return]
+        try:
+            with self._lock:
+                at = self._at
+                if at is None:
+                    raise self._gone()
+                room = self._spare if self._spare and length <= SMALL else self._room(length)
+                if code := _datagram_seal(at[0], data, size, room, length, self._result):
+                    raise CallError(Code(code))
+                return _unpack(room, length)    # type: ignore[no-any-return]
+        except BaseException:
+            let_go(data)
+            raise
 
     def open(self, datagram: Buffer) -> bytes:
         """The payload of a datagram. MessageRefused changes nothing: drop the datagram, and wait for the next."""
         data, size = (datagram, len(datagram)) if type(datagram) is bytes else pointer(datagram)
-        with self._lock:
-            at = self._at
-            if at is None:
-                raise self._gone(data)
-            room = self._spare if self._spare and size <= SMALL else self._room(size)
-            if code := _datagram_open_copy(at[1], data, size, room, self._result):
-                raise _unopened(code, data)
-            return _unpack(room + 8, size - DATAGRAM_OVERHEAD)    # type: ignore[no-any-return]
+        try:
+            with self._lock:
+                at = self._at
+                if at is None:
+                    raise self._gone()
+                room = self._spare if self._spare and size <= SMALL else self._room(size)
+                if code := _datagram_open_copy(at[1], data, size, room, self._result):
+                    raise _unopened(code)
+                return _unpack(room + 8, size - DATAGRAM_OVERHEAD)    # type: ignore[no-any-return]
+        except BaseException:
+            let_go(data)
+            raise
 
     @property
     def nonce(self) -> int:
@@ -177,31 +195,33 @@ class CipherState(Struct):
 
     def encrypt_with_ad(self, ad: Buffer, plaintext: Buffer) -> bytes:
         """Encrypts, with associated data, at the next nonce: 16 bytes longer than the plaintext. Neither is in it."""
-        data, size = pointer(plaintext)
-        ad_data, ad_size = pointer(ad)
-        with self._lock:
-            if self._at is None:
-                raise self._gone(data, ad_data)
-            room = self._room(size + TAG_LEN)
-            ffi.memmove(room, data, size)
-            code = _encrypt(self._at[0], ad_data, ad_size, room, size + TAG_LEN, size, self._result)
-            if code:
-                raise _unsealed(code, data, ad_data)
-            return _unpack(room, self._result.len)    # type: ignore[no-any-return]
+        room, size = copied(plaintext, TAG_LEN)
+        data, length = pointer(ad)
+        try:
+            with self._lock:
+                if self._at is None:
+                    raise self._gone()
+                if code := _encrypt(self._at[0], data, length, room, size + TAG_LEN, size, self._result):
+                    raise CallError(Code(code))
+                return _unpack(room, self._result.len)    # type: ignore[no-any-return]
+        except BaseException:
+            let_go(data)
+            raise
 
     def decrypt_with_ad(self, ad: Buffer, ciphertext: Buffer) -> bytes:
         """Decrypts, with associated data, at the next nonce. MessageRefused leaves the nonce as it was."""
-        data, size = pointer(ciphertext)
-        ad_data, ad_size = pointer(ad)
-        with self._lock:
-            if self._at is None:
-                raise self._gone(data, ad_data)
-            room = self._room(size)
-            ffi.memmove(room, data, size)
-            code = _decrypt(self._at[0], ad_data, ad_size, room, size, self._result)
-            if code:
-                raise _unopened(code, data, ad_data)
-            return _unpack(room + getattr(self._result, "from"), self._result.len)    # type: ignore[no-any-return]
+        room, size = copied(ciphertext)
+        data, length = pointer(ad)
+        try:
+            with self._lock:
+                if self._at is None:
+                    raise self._gone()
+                if code := _decrypt(self._at[0], data, length, room, size, self._result):
+                    raise _unopened(code)
+                return _unpack(room + getattr(self._result, "from"), self._result.len)    # type: ignore[no-any-return]
+        except BaseException:
+            let_go(data)
+            raise
 
     @property
     def nonce(self) -> int:
