@@ -1,10 +1,10 @@
 #!/usr/bin/env python3
 """Logs that lack lines: gaps.py PROGRAM [SEED].
 
-400 logs of right parties lack lines anywhere, end early, or have other words for the same: `noise compare` may say of
-none that it differs. 300 logs of parties with a mistake of the transport lack lines too: where a mistake is named, it is
-the one that was made. One of the mistakes is a log's alone: `n` after the message in place of before. It writes what
-failed, and a last line with the counts.
+400 logs of right parties lack lines anywhere, end early, or have `?` for values: `noise compare` may say of none that
+it differs. 300 logs of parties with a mistake of the transport lack lines too: where a mistake is named, it is the one
+that was made. One of the mistakes is a log's alone: `n` after the message in place of before. It writes what failed,
+and a last line with the counts.
 """
 
 from __future__ import annotations
