@@ -1,4 +1,4 @@
-"""An implementation of its own (revision 34: 25519, ChaChaPoly, SHA256), both parties of which can make one of 64
+"""An implementation of its own (revision 34: 25519, ChaChaPoly, SHA256), both parties of which can make one of 67
 mistakes, and the log that DEBUGGING.md asks for.
 
 It shares nothing with the code of `noise`. A mistake is a name; "" is none. It needs python's `cryptography`.
@@ -251,7 +251,7 @@ class Party:
             self.ck = chaining_key
         self.cipher.key = key
         if self.mistake != "nonce-kept":
-            self.cipher.n = 0
+            self.cipher.n = 1 if self.mistake == "new-key-from-one" else 0
 
     def hashed_bytes(self, text: bytes, sealed: bytes) -> bytes:
         if self.mistake == "plain-text-hashed":
@@ -340,7 +340,7 @@ class Party:
         return tokens
 
     def write_static(self) -> bytes:
-        public = self.own.s.public
+        public = self.own.e.public if self.mistake == "ephemeral-as-static" else self.own.s.public
         if self.mistake == "static-in-clear" or (self.mistake == "tag-without-key" and self.cipher.key is None):
             data = public + (bytes(TAG) if self.mistake == "tag-without-key" else b"")
             self.mix_hash(data)
@@ -384,7 +384,8 @@ class Party:
         if self.mistake == "split-inputs-exchanged":
             first, second, _ = hkdf(b"", self.ck, "")
         else:
-            first, second, _ = hkdf(self.ck, data, self.mistake)
+            outputs = hkdf(self.ck, data, self.mistake)
+            first, second = outputs[1:] if self.mistake == "split-later" else outputs[:2]
         if self.mistake == "open-earlier-hash":
             self.h = self.hash_before
         mine, theirs = Cipher(self.mistake, first), Cipher(self.mistake, second)

@@ -1,14 +1,19 @@
 -- What is said of the likely mistakes.
-use Rattle.std.specs.Prelude.{◌≡◌, ℕ, ◌&&◌, ◌||◌, Bool, not, List, [], ◌∷◌, ◌++◌, Option, Some, None, codes, flat_map, if◌then◌else◌}
+use Rattle.std.specs.Prelude.{◌≡◌, ℕ, ◌==◌, ◌&&◌, ◌||◌, Bool, true, false, not, List, [], ◌∷◌, ◌++◌, Option, Some, None, codes, count_by, drop, find, flat_map, if◌then◌else◌, length, take}
+use Rattle.std.specs.Str.{bytes_eq}
 use Rattle.noise_compare.specs.Finding.{found_mistakes, is_right, refusing_mistakes, tried_mistakes}
 use Rattle.noise_compare.specs.Sentences.{sentence}
+use Rattle.noise_compare.specs.Situations.{IsSituation}
+use Rattle.noise_compare.specs.declared.facts.Facts.{Facts}
 use Rattle.noise_compare.specs.declared.mistake.Mistake.{Mistake}
 use Rattle.noise_compare.specs.declared.state.Situation.{Situation}
 use Rattle.noise_compare.specs.declared.state.Logged.{Logged}
-use Rattle.noise_compare.specs.Lines.{is_same_word, word_at, words_in}
-use Rattle.noise_compare.specs.Report.{ended}
-use Rattle.noise_compare.specs.Steps.{hashes_in, last_state, states_before, transport_keys}
-use Rattle.noise_compare.specs.Values.{AreLogged, has_bytes, kind_in, state_in, word_bytes}
+use Rattle.noise_compare.specs.Lines.{is_of_place, is_same_word, word_at, words_in}
+use Rattle.noise_compare.specs.Report.{ended, place_text, value_text}
+use Rattle.noise_compare.specs.Steps.{count_before}
+use Rattle.noise_compare.specs.Values.{AreLogged, has_bytes, is_text, items_of, kind_in, logged_word, word_number}
+use Rattle.noise_compare.specs.States.{state_fits}
+use Rattle.std.specs.Option.{is_some}
 use Rattle.noise_compare.specs.declared.line.Line.{Line}
 
 -- the sentence of each mistake, a line each
@@ -34,7 +39,35 @@ mistakes_text at (mistake ∷ (other ∷ more)) =
 abbrev pub refusing_text : List Mistake → List ℕ
 refusing_text mistakes =
     ended (codes "if your end refused this message, and got the bytes that are right here, each of these mistakes does it:")
-    ++ (sentences mistakes ++ ended (codes "or the AEAD itself: try RFC 8439, 2.8.2"))
+    ++ (sentences mistakes ++ (ended (codes "or it decrypts with another key than k: log the key that your AEAD takes")
+    ++ ended (codes "or the AEAD itself: try RFC 8439, 2.8.2")))
+
+-- ---- lines that the log lacks
+
+-- a line of a party that its log lacks before another
+unfoldable pub lacking_place : Line → List ℕ
+lacking_place line = codes "your log has no line here for " ++ ended (place_text line)
+
+abbrev pub lacking_line : Line → Line → List ℕ
+lacking_line expected line =
+    if bytes_eq (word_at (words_in line) 1) (word_at (words_in expected) 1) then lacking_place line else []
+
+abbrev pub lacking_lines : Line → List Line → List ℕ
+lacking_lines expected lines = flat_map (lacking_line expected) lines
+
+-- those of the right lines from this place on that stand before a line
+abbrev pub lacking_text : List Line → ℕ → Line → List ℕ
+lacking_text right left expected =
+    lacking_lines expected (take (count_before (drop left right) expected) (drop left right))
+
+-- The log has fewer lines of a right line's place before the line at this index than stand before the right line. Where
+-- lines of the transport are passed over, n may be another, so that no mistake is named.
+abbrev pub has_gap : List Line → List Line → ℕ → Line → Bool
+has_gap right log index expected = not (count_by (is_of_place expected) (take (count_before right expected) right)
+    == count_by (is_of_place expected) (take index log))
+
+unfoldable pub gap_text : List ℕ
+gap_text = ended (codes "no mistake is named: your log passes over lines of this name before this one, or its n is another")
 
 -- ---- what a log has in another form
 
@@ -51,29 +84,152 @@ abbrev pub has_state : Line → Line → Bool
 has_state line expected = is_same_word line expected 8 && is_same_word line expected 9
     && is_same_word line expected 10 && is_same_word line expected 11
 
+-- a word that stands for no bytes, for bytes or for what isn't logged
+abbrev pub is_known : List ℕ → Bool
+is_known word = is_some (logged_word word) || bytes_eq word (codes "?")
+
+abbrev pub is_known_number : List ℕ → Bool
+is_known_number word = bytes_eq word (codes "?") || is_some (word_number word)
+
+-- all values of a line are such words
+abbrev pub has_known : Line → Bool
+has_known line = is_known (word_at (words_in line) 7) && is_known (word_at (words_in line) 8)
+    && is_known (word_at (words_in line) 9) && is_known (word_at (words_in line) 10)
+    && is_known_number (word_at (words_in line) 11)
+
+unfoldable pub unknown_text : Bool → List ℕ
+unknown_text known = if known then [] else
+    ended (codes "words that aren't hex digits aren't compared: write hex digits, - for none, or ? for what you don't have")
+
+-- the log has `-` for a value of a step of the handshake
+abbrev pub lacks_value : Line → Line → ℕ → Bool
+lacks_value line expected i = bytes_eq (word_at (words_in line) i) (codes "-") && not (is_same_word line expected i)
+    && not (bytes_eq (word_at (words_in expected) 2) (codes "open"))
+
+abbrev pub lacks_state : Line → Line → Bool
+lacks_state line expected = lacks_value line expected 8 || lacks_value line expected 9
+
 -- what is said of a line whose values are right, and not written as the right ones
-unfoldable pub form_text : Line → Line → List ℕ
-form_text line expected = if has_other_bytes line expected && has_state line expected
+unfoldable pub form_text : Bool → Line → Line → List ℕ
+form_text known line expected = if lacks_state line expected
+    then ended (codes "your log has - for a hash or a chaining key that this step has: log it, or ? if your log lacks it; all else here is right")
+    else (if not known then ended (codes "all else that your log has here is right")
+    else (if has_other_bytes line expected && has_state line expected
     then ended (codes "only your log's bytes differ: this step has none, so log -")
-    else ended (codes "what your log has here is right: write each value above as the right one is, or ? if you don't have it")
+    else ended (codes "what your log has here is right: write each value above as the right one is, or ? if you don't have it")))
 
--- no mistake where the values are right
-abbrev pub advice_text : Situation → Logged → Line → Line → List ℕ
-advice_text at logged line expected = if is_right at logged then form_text line expected
-    else bytes_text line expected ++ mistakes_text at (found_mistakes at logged)
+-- the state is right with the hash, which is that of the right bytes, and the logged bytes are others
+abbrev pub is_hashed : Situation → Logged → Bool
+is_hashed at logged = is_some logged.hash && state_fits logged at.right
 
--- At a step of the key schedule, after some lines, the mistakes that give what was logged, all of the list and in its
--- order. The step is that of this right line: what it is, the states before and after it, its bytes, the hashes before,
--- and the keys of the transport. The values are those of the line of the log. Where they are right no mistake is named.
-pub record IsAdvice (right : List Line) (line expected : Line) (text : List ℕ) : Type 0 where
-  pub front : List ℕ
+unfoldable pub hashed_text : List ℕ
+hashed_text = ended (codes "only the bytes differ, and h is that of the right ones: log the bytes as they are in the message")
+
+abbrev pub wrong_text : Bool → Situation → Logged → Line → Line → List ℕ
+wrong_text gap at logged line expected = if is_hashed at logged then hashed_text
+    else bytes_text line expected ++ (if gap then gap_text else mistakes_text at (found_mistakes at logged))
+
+-- no mistake where the values are right, nor where lines of the place are passed over
+abbrev pub advice_text : Bool → Situation → Logged → Line → Line → List ℕ
+advice_text gap at logged line expected = unknown_text (has_known line)
+    ++ (if is_right at logged then form_text (has_known line) line expected else wrong_text gap at logged line expected)
+
+-- At the step of the right line beside a line of the log: the lines that the log lacks before it, and the mistakes that
+-- give what was logged, all of the list and in its order. The values are those of the line of the log.
+pub record IsAdvice (facts : Facts) (right log : List Line) (index left : ℕ) (line expected : Line) (text : List ℕ) : Type 0 where
   pub at : Situation
-  pub kind : at.kind ≡ kind_in expected
-  pub before : at.before ≡ last_state (states_before right expected) (state_in expected)
-  pub after : at.right ≡ state_in expected
-  pub bytes : at.bytes.now ≡ word_bytes (word_at (words_in expected) 7)
-  pub hashes : at.hashes.now ≡ hashes_in (states_before right expected)
-  pub keys : at.keys.now ≡ transport_keys right
+  pub step : IsSituation facts right left expected at
   pub logged : Logged
   pub values : AreLogged line expected logged
-  pub text_is : text ≡ front ++ advice_text at logged line expected
+  pub text_is : text ≡ lacking_text right left expected
+      ++ advice_text (has_gap right log index expected) at logged line expected
+
+-- ---- a line whose place no right line has that is left
+
+-- a right line of its party; a Rekey isn't what is due for a message that is dropped
+abbrev pub is_due_for : Line → Line → Bool
+is_due_for logged right = bytes_eq (word_at (words_in right) 1) (word_at (words_in logged) 1)
+    && not (bytes_eq (word_at (words_in logged) 4) (codes "dropped") && bytes_eq (word_at (words_in right) 4) (codes "renewed"))
+
+-- the next right line that is due for it
+abbrev pub next_for : List Line → ℕ → Line → Option Line
+next_for right left logged = find (is_due_for logged) (drop left right)
+
+unfoldable pub none_left_text : List ℕ
+none_left_text = ended (codes "no line of the schedule is left: a message that the file lacks, or a step too many")
+
+unfoldable pub due_text : Line → List ℕ
+due_text next = codes "due is " ++ (ended (place_text next)
+    ++ ended (codes "a step out of order, or too many, or under another name"))
+
+-- a message that is dropped, and is right
+abbrev pub is_dropped : Line → Line → Bool
+is_dropped logged next = bytes_eq (word_at (words_in logged) 4) (codes "dropped") && bytes_eq (word_at (words_in next) 4) (codes "opened")
+
+-- the key and the nonce are right, so the tag is made in another way
+abbrev pub nonce_text : Line → List ℕ
+nonce_text next = if bytes_eq (word_at (words_in next) 11) (codes "0") then []
+    else ended (codes "or its nonce isn't 4 zero bytes and 8 little-endian ones (12.3)")
+
+unfoldable pub sealed_otherwise_text : Line → List ℕ
+sealed_otherwise_text next =
+    ended (codes "your end refused a right message with the right key and n: its associated data isn't empty (5)")
+    ++ (nonce_text next ++ ended (codes "or the AEAD itself: try RFC 8439, 2.8.2"))
+
+abbrev pub dropped_advice : Bool → Situation → Logged → Line → Line → List ℕ
+dropped_advice gap at values logged next = if is_right at values
+    then bytes_text logged next ++ sealed_otherwise_text next else advice_text gap at values logged next
+
+-- it is refused under another key or nonce, or its tag is made in another way
+pub record IsDropped (facts : Facts) (right log : List Line) (index : ℕ) (logged next : Line) (text : List ℕ) : Type 0 where
+  pub at : Situation
+  pub step : IsSituation facts right 0 next at
+  pub values : Logged
+  pub values_are : AreLogged logged next values
+  pub text_is : text ≡ value_text (codes "key") 10 logged next ++ (value_text (codes "nonce") 11 logged next
+      ++ dropped_advice (has_gap right log index next) at values logged next)
+
+abbrev pub IsNextAdvice : Facts → List Line → List Line → ℕ → Line → Line → Bool → List ℕ → Type 0
+IsNextAdvice facts right log index logged next true text = IsDropped facts right log index logged next text
+IsNextAdvice facts right log index logged next false text = text ≡ due_text next
+
+abbrev pub IsDueAdvice : Facts → List Line → List Line → ℕ → Line → Option Line → List ℕ → Type 0
+IsDueAdvice facts right log index logged None text = text ≡ none_left_text
+IsDueAdvice facts right log index logged (Some next) text =
+    IsNextAdvice facts right log index logged next (is_dropped logged next) text
+
+-- what is said of such a line
+abbrev pub IsPlaceAdvice : Facts → List Line → List Line → ℕ → ℕ → Line → List ℕ → Type 0
+IsPlaceAdvice facts right log index left logged text =
+    IsDueAdvice facts right log index logged (next_for right left logged) text
+
+-- ---- the step before which a log ends
+
+-- the right bytes alone
+pub record HasBytesAlone (bytes : List ℕ) (logged : Logged) : Type 0 where
+  pub bytes_are : items_of logged.bytes ≡ Some bytes
+  pub no_hash : items_of logged.hash ≡ None
+  pub no_chaining_key : items_of logged.chaining_key ≡ None
+  pub no_key : items_of logged.key ≡ None
+  pub no_nonce : logged.nonce ≡ None
+
+abbrev pub keyless_text : Bool → List ℕ
+keyless_text of_text = if of_text
+    then ended (codes "your end takes another length here: without a key a text has no tag; or of the frame (13)")
+    else ended (codes "your end stopped there: give its frame by raw, and see what the right end makes of it")
+
+-- of a text under a key, the mistakes with which a party refuses it
+abbrev pub keyed_text : Situation → Logged → List ℕ
+keyed_text at logged = if is_text at.kind then refusing_text (refusing_mistakes at logged) else keyless_text false
+
+abbrev pub end_text : Situation → Option (List ℕ) → Logged → List ℕ
+end_text at None logged = keyless_text (is_text at.kind)
+end_text at (Some key) logged = keyed_text at logged
+
+-- what is said of a log that ends before this step
+pub record IsEndAdvice (facts : Facts) (right : List Line) (next : Line) (text : List ℕ) : Type 0 where
+  pub at : Situation
+  pub step : IsSituation facts right 0 next at
+  pub logged : Logged
+  pub bytes : HasBytesAlone at.bytes.now logged
+  pub text_is : text ≡ end_text at at.before.key logged

@@ -47,23 +47,23 @@ ephemeral_mistakes = Hash hash.LeftOut ∷ Hash hash.LengthInFront ∷ Hash hash
 abbrev pub agreement_mistakes : List Mistake
 agreement_mistakes = Secret secret.InputsExchanged ∷ Secret secret.OutputsExchanged ∷ Secret secret.Reversed
     ∷ Secret secret.Digested ∷ Secret secret.CountedFromZero ∷ Secret secret.Unchained ∷ Secret secret.ShortBlocks
-    ∷ Secret secret.ChainingKeyKept ∷ Secret secret.NonceKept ∷ Secret secret.LeftOut ∷ Secret secret.HashedToo
+    ∷ Secret secret.ChainingKeyKept ∷ Secret secret.NonceKept ∷ Secret secret.NonceFromOne ∷ Secret secret.LeftOut ∷ Secret secret.HashedToo
     ∷ Secret secret.Other ∷ Secret secret.StepsLeftOut ∷ []
 
 abbrev pub psk_mistakes : List Mistake
 psk_mistakes = Secret secret.InputsExchanged ∷ Secret secret.OutputsExchanged ∷ Secret secret.Reversed
     ∷ Secret secret.Digested ∷ Secret secret.CountedFromZero ∷ Secret secret.Unchained ∷ Secret secret.ShortBlocks
-    ∷ Secret secret.ChainingKeyKept ∷ Secret secret.NonceKept ∷ Secret secret.LeftOut ∷ Secret secret.KeyAlone
+    ∷ Secret secret.ChainingKeyKept ∷ Secret secret.NonceKept ∷ Secret secret.NonceFromOne ∷ Secret secret.LeftOut ∷ Secret secret.KeyAlone
     ∷ Secret secret.HashLeftOut ∷ Secret secret.Other ∷ Secret secret.StepsLeftOut ∷ []
 
 abbrev pub text_mistakes : List Mistake
-text_mistakes = Text text.Clear ∷ Text text.TagLeftOff ∷ Text text.TagAdded ∷ Text text.TagInFront ∷ Text text.BigEndian
+text_mistakes = Text text.Clear ∷ Text text.OtherKey ∷ Text text.TagLeftOff ∷ Text text.TagAdded ∷ Text text.TagInFront ∷ Text text.BigEndian
     ∷ Text text.FirstBytes ∷ Text text.BigEndianFirstBytes ∷ Text text.NonceFromOne ∷ Text text.NonceOfZero
     ∷ Text text.NoAssociatedData ∷ Text text.ChainingKeyAsData ∷ Text text.EarlierHash ∷ Text text.TextHashedBefore ∷ Text text.HashLeftOut
     ∷ Text text.TextHashed ∷ Text text.TagNotHashed ∷ Text text.LengthHashed ∷ Text text.LengthMixed ∷ Text text.NonceKept ∷ Text text.NonceRaised ∷ Text text.StepsLeftOut ∷ []
 
 abbrev pub opening_mistakes : List Mistake
-opening_mistakes = Key key.Exchanged ∷ Key key.SplitOfHash ∷ Key key.SplitOfZeros ∷ Key key.SplitInputs
+opening_mistakes = Key key.Exchanged ∷ Key key.SplitLater ∷ Key key.SplitOfHash ∷ Key key.SplitOfZeros ∷ Key key.SplitInputs
     ∷ Key key.NonceFromOne ∷ Key key.EarlierHash ∷ []
 
 abbrev pub rekey_mistakes : List Mistake

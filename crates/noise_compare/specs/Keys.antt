@@ -2,7 +2,7 @@
 use Rattle.std.specs.Prelude.{ℕ, ◌&&◌, ◌||◌, Bool, false, not, List, [], Option, Some, None, count_by, drop, nat_lt, replicate, take}
 use Rattle.std.specs.Str.{bytes_eq}
 use Rattle.noise_aead.specs.Sealing.{nonce_of, rekeyed}
-use Rattle.noise_kdf.specs.Hkdf.{first_output, second_output}
+use Rattle.noise_kdf.specs.Hkdf.{first_output, second_output, third_output}
 use Rattle.noise_compare.specs.Mixing.{with_hash}
 use Rattle.noise_compare.specs.Secrets.{with_nonce}
 use Rattle.noise_compare.specs.States.{has, fits, nonce_fits}
@@ -10,7 +10,7 @@ use Rattle.noise_compare.specs.Texts.{one_more, sealed_under}
 use Rattle.noise_compare.specs.declared.state.Situation.{Situation}
 use Rattle.noise_compare.specs.declared.state.Logged.{Logged}
 use Rattle.noise_compare.specs.declared.mistake.KeyMistake.{KeyMistake}
-use Rattle.noise_compare.specs.declared.mistake.KeyMistake.TheVariants.{SplitOfHash, SplitOfZeros, SplitInputs, Exchanged, NonceFromOne, EarlierHash, NonceRaised, NonceSetBack, RekeyLater, RekeyLeftOut, RekeyByNonce, RekeyByZero, RekeyByOnes, RekeyLastBytes}
+use Rattle.noise_compare.specs.declared.mistake.KeyMistake.TheVariants.{SplitLater, SplitOfHash, SplitOfZeros, SplitInputs, Exchanged, NonceFromOne, EarlierHash, NonceRaised, NonceSetBack, RekeyLater, RekeyLeftOut, RekeyByNonce, RekeyByZero, RekeyByOnes, RekeyLastBytes}
 
 -- the right state with another key
 abbrev pub fits_with_key : Situation → Logged → List ℕ → Bool
@@ -21,6 +21,11 @@ fits_with_key at logged key = has logged.bytes at.bytes.now && has logged.hash a
 abbrev pub split_explains : Situation → Logged → List ℕ → List ℕ → Bool
 split_explains at logged key input = fits_with_key at logged (first_output key input)
     || fits_with_key at logged (second_output key input)
+
+-- its second and third outputs, where its inputs are right
+abbrev pub later_outputs_explain : Situation → Logged → Bool
+later_outputs_explain at logged = fits_with_key at logged (second_output at.right.chaining_key [])
+    || fits_with_key at logged (third_output at.right.chaining_key [])
 
 abbrev pub is_key : Option (List ℕ) → List ℕ → Bool
 is_key None other = false
@@ -60,6 +65,7 @@ abbrev pub rekey_explains : Situation → Logged → List ℕ → Bool
 rekey_explains at logged nonce = fits_with_key at logged (take 32 (rekeyed_by at nonce))
 
 unfoldable pub key_explains : KeyMistake → Situation → Logged → Bool
+key_explains SplitLater at logged = later_outputs_explain at logged
 key_explains SplitOfHash at logged = split_explains at logged at.right.chaining_key at.right.hash
 key_explains SplitOfZeros at logged = split_explains at logged at.right.chaining_key (replicate 32 0)
 -- HMAC pads a key of no bytes and one of 32 zeros to the same

@@ -1,4 +1,5 @@
 pub mod Advice
+pub mod Cut
 pub mod Differences
 pub mod Finding
 pub mod Findings
@@ -10,6 +11,7 @@ pub mod Reading
 pub mod Report
 pub mod Secrets
 pub mod Sentences
+pub mod Situations
 pub mod States
 pub mod Steps
 pub mod Texts

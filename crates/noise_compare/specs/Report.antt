@@ -49,7 +49,8 @@ is_of_split line = bytes_eq (word_at (words_in line) 2) (codes "open")
 -- how many lines there are, and how many of them are of Split
 unfoldable pub agreement_text : List Line → List ℕ
 agreement_text log = codes "agrees in " ++ (decimal (length log) ++ (ended (codes " lines")
-    ++ (codes "lines of Split compared: " ++ ended (decimal (count_by is_of_split log)))))
+    ++ (codes "lines of Split compared: " ++ (decimal (count_by is_of_split log)
+    ++ (ended [] ++ ended (codes "decrypted texts compared: none"))))))
 
 -- the step before which the log ends
 unfoldable pub ending_text : Line → List ℕ → List ℕ

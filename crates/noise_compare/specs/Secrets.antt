@@ -11,7 +11,7 @@ use Rattle.noise_compare.specs.declared.state.Situation.{Situation}
 use Rattle.noise_compare.specs.declared.state.Logged.{Logged}
 use Rattle.noise_compare.specs.declared.secrets.Outputs.{Outputs}
 use Rattle.noise_compare.specs.declared.mistake.SecretMistake.{SecretMistake}
-use Rattle.noise_compare.specs.declared.mistake.SecretMistake.TheVariants.{InputsExchanged, OutputsExchanged, Reversed, Digested, CountedFromZero, Unchained, ShortBlocks, ChainingKeyKept, NonceKept, LeftOut, HashedToo, KeyAlone, HashLeftOut, Other, StepsLeftOut}
+use Rattle.noise_compare.specs.declared.mistake.SecretMistake.TheVariants.{InputsExchanged, OutputsExchanged, Reversed, Digested, CountedFromZero, Unchained, ShortBlocks, ChainingKeyKept, NonceKept, NonceFromOne, LeftOut, HashedToo, KeyAlone, HashLeftOut, Other, StepsLeftOut}
 
 abbrev pub outputs : List ℕ → List ℕ → List ℕ → Outputs
 outputs first second third = record { first = first; second = second; third = third }
@@ -95,6 +95,7 @@ secret_state Unchained at = applied at.kind at.before (unchained (hmac_of at.bef
 secret_state ShortBlocks at = applied at.kind at.before (short_outputs (short_hmac at.before.chaining_key at.secret))
 secret_state ChainingKeyKept at = with_chaining_key at.right at.before.chaining_key
 secret_state NonceKept at = with_nonce at.right at.before.nonce
+secret_state NonceFromOne at = with_nonce at.right 1
 secret_state LeftOut at = at.before
 secret_state HashedToo at = with_hash at.right (sha256 (at.right.hash ++ at.secret))
 secret_state KeyAlone at = mixed_key at.before (expanded at.before.chaining_key at.secret)

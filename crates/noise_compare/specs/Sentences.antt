@@ -48,6 +48,7 @@ secret_sentence secret.Unchained =
 secret_sentence secret.ShortBlocks = codes "HMAC pads its keys to 32 bytes: SHA256's blocks have 64 bytes (4.3)"
 secret_sentence secret.ChainingKeyKept = codes "ck stays as it was: HKDF's first output is the new ck (5.2)"
 secret_sentence secret.NonceKept = codes "n stays as it was: each new key sets it to 0 (5.1, 5.2)"
+secret_sentence secret.NonceFromOne = codes "n begins at 1: each new key sets it to 0 (5.1, 5.2)"
 secret_sentence secret.LeftOut = codes "nothing is mixed at this token"
 secret_sentence secret.HashedToo = codes "MixHash takes the DH result, besides MixKey: a DH result goes into MixKey alone (5.3)"
 secret_sentence secret.KeyAlone = codes "MixKey stands in place of MixKeyAndHash (9.2)"
@@ -59,6 +60,7 @@ secret_sentence secret.StepsLeftOut = codes "the steps for which your log has no
 unfoldable pub text_sentence : TextMistake → List ℕ
 text_sentence text.Clear =
     codes "the text is in the clear: there is a key, so it is encrypted, an empty text too (5.2)"
+text_sentence text.OtherKey = codes "the text is another public key of the file: the token s sends the static key (5.3)"
 text_sentence text.TagLeftOff =
     codes "the bytes are taken in the clear: there is a key, so 16 bytes of a tag follow the text (5.2)"
 text_sentence text.TagAdded = codes "16 bytes follow the text: without a key a text has no tag (5.2)"
@@ -93,6 +95,7 @@ text_sentence text.NonceRaised =
 text_sentence text.StepsLeftOut = codes "the steps for which your log has no line here are left out, or come later"
 
 unfoldable pub key_sentence : KeyMistake → List ℕ
+key_sentence key.SplitLater = codes "Split takes the second and the third output of HKDF: it takes the first and the second (5.2)"
 key_sentence key.SplitOfHash = codes "Split's HKDF takes ck and h: it takes ck and no bytes (5.2)"
 key_sentence key.SplitOfZeros = codes "Split's HKDF takes ck and 32 zero bytes: it takes ck and no bytes (5.2)"
 key_sentence key.SplitInputs =

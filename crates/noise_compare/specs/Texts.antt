@@ -10,7 +10,7 @@ use Rattle.noise_compare.specs.declared.state.State.{State}
 use Rattle.noise_compare.specs.declared.state.Situation.{Situation}
 use Rattle.noise_compare.specs.declared.state.Logged.{Logged}
 use Rattle.noise_compare.specs.declared.mistake.TextMistake.{TextMistake}
-use Rattle.noise_compare.specs.declared.mistake.TextMistake.TheVariants.{Clear, TagLeftOff, TagAdded, TagInFront, BigEndian, FirstBytes, BigEndianFirstBytes, NonceFromOne, NonceOfZero, NoAssociatedData, ChainingKeyAsData, EarlierHash, LaterHash, TextHashedBefore, HashLeftOut, TextHashed, TagNotHashed, LengthHashed, LengthMixed, NonceKept, NonceRaised, StepsLeftOut}
+use Rattle.noise_compare.specs.declared.mistake.TextMistake.TheVariants.{Clear, OtherKey, TagLeftOff, TagAdded, TagInFront, BigEndian, FirstBytes, BigEndianFirstBytes, NonceFromOne, NonceOfZero, NoAssociatedData, ChainingKeyAsData, EarlierHash, LaterHash, TextHashedBefore, HashLeftOut, TextHashed, TagNotHashed, LengthHashed, LengthMixed, NonceKept, NonceRaised, StepsLeftOut}
 
 -- a text under this key, if there is one
 abbrev pub sealed_under : Option (List ℕ) → List ℕ → List ℕ → List ℕ → List ℕ
@@ -79,6 +79,17 @@ without_steps_explains at logged = fits logged (sealed_without_steps at) (state_
 abbrev pub earlier_hash_explains : Situation → Logged → Bool
 earlier_hash_explains at logged = nat_lt 0 (count_by (λ hash. ad_fits_text at logged hash) at.hashes.now)
 
+-- another public key of the file as the text
+abbrev pub sealed_key : Situation → List ℕ → List ℕ
+sealed_key at key = sealed_under at.before.key (nonce_of at.before.nonce) at.before.hash key
+
+-- it gives what was logged
+abbrev pub key_fits_text : Situation → Logged → List ℕ → Bool
+key_fits_text at logged key = bytes_fit at logged (sealed_key at key)
+
+abbrev pub other_key_explains : Situation → Logged → Bool
+other_key_explains at logged = nat_lt 0 (count_by (λ key. key_fits_text at logged key) at.publics.now)
+
 abbrev pub without_tag : List ℕ → List ℕ
 without_tag bytes = take (length bytes - 16) bytes
 
@@ -93,6 +104,7 @@ hashed_before at logged =
 
 unfoldable pub text_explains : TextMistake → Situation → Logged → Bool
 text_explains Clear at logged = fits logged at.text.now (with_hash at.before (sha256 (at.before.hash ++ at.text.now)))
+text_explains OtherKey at logged = other_key_explains at logged
 text_explains TagLeftOff at logged = fits logged (without_tag at.bytes.now)
     (with_hash at.before (sha256 (at.before.hash ++ without_tag at.bytes.now)))
 text_explains TagAdded at logged = bytes_fit at logged (at.text.now ++ replicate 16 0)

@@ -35,13 +35,29 @@ word_number word = if length word == 0 then None else fold add_digit (Some 0) wo
 
 -- ---- a logged line
 
--- `?` was not logged
+-- a word for no bytes
+unfoldable pub is_none : List ℕ → Bool
+is_none word = bytes_eq word (codes "-") || bytes_eq word (codes "none") || bytes_eq word (codes "null")
+    || bytes_eq word (codes "nil") || bytes_eq word (codes "(none)")
+
+abbrev pub decoded : Result (List ℕ) FromHexError → Option (List ℕ)
+decoded (Ok bytes) = Some bytes
+decoded (Err e) = None
+
+-- `?` was not logged, nor is what isn't hex digits compared
 abbrev pub logged_word : List ℕ → Option (List ℕ)
-logged_word word = if bytes_eq word (codes "?") then None else Some (word_bytes word)
+logged_word word = if is_none word then Some [] else decoded (decode_of word)
+
+-- nor are 32 zero bytes where there is no key
+abbrev pub zero_digits : List ℕ
+zero_digits = codes "0000000000000000000000000000000000000000000000000000000000000000"
+
+abbrev pub logged_key : List ℕ → List ℕ → Option (List ℕ)
+logged_key right word = if bytes_eq right (codes "-") && bytes_eq word zero_digits then None else logged_word word
 
 -- nor is `-` where each line of a handshake has a value; where the right word is `-` there is none, and any is passed over
 abbrev pub logged_if_any : List ℕ → List ℕ → Option (List ℕ)
-logged_if_any right word = if bytes_eq right (codes "-") || bytes_eq word (codes "-") then None else logged_word word
+logged_if_any right word = if bytes_eq right (codes "-") || is_none word then None else logged_word word
 
 abbrev pub items_of : Option (Vec ℕ Global) → Option (List ℕ)
 items_of value = option_map (λ v. v.items) value
@@ -107,5 +123,5 @@ pub record AreLogged (line expected : Line) (logged : Logged) : Type 0 where
   pub bytes : items_of logged.bytes ≡ logged_bytes expected (word_at (words_in line) 7)
   pub hash : items_of logged.hash ≡ logged_if_any (word_at (words_in expected) 8) (word_at (words_in line) 8)
   pub chaining_key : items_of logged.chaining_key ≡ logged_if_any (word_at (words_in expected) 9) (word_at (words_in line) 9)
-  pub key : items_of logged.key ≡ logged_word (word_at (words_in line) 10)
+  pub key : items_of logged.key ≡ logged_key (word_at (words_in expected) 10) (word_at (words_in line) 10)
   pub nonce : logged.nonce ≡ word_number (word_at (words_in line) 11)

@@ -1,8 +1,8 @@
 -- What a walk through a log leaves of the right lines.
-use Rattle.std.specs.Prelude.{◌≡◌, ◌≤◌, ℕ, List, Option, Some, None, Result, MatchResult, drop, find, fold, length, if◌then◌else◌, option_copied, option_map}
+use Rattle.std.specs.Prelude.{◌≡◌, ◌≤◌, ℕ, List, Option, Some, None, Result, MatchResult, drop, fold, length, if◌then◌else◌, option_copied, option_map}
 use Rattle.std.specs.Borrow.{Bor}
-use Rattle.noise_compare.specs.Differences.{after_match, is_of_responder}
-use Rattle.noise_compare.specs.Lines.{is_of_place}
+use Rattle.noise_compare.specs.Differences.{after_match, beside, is_of_responder}
+use Rattle.noise_compare.specs.declared.difference.Rule.{Rule}
 use Rattle.noise_compare.specs.declared.line.Line.{Line}
 
 -- the right lines of each role that are left to match with
@@ -21,29 +21,29 @@ left_from right initiator responder = both (drop initiator right) (drop responde
 abbrev pub left_for : Left → Line → List Line
 left_for left logged = if is_of_responder logged then left.responder else left.initiator
 
-abbrev pub left_after : Left → Line → Option Left
-left_after left logged = if is_of_responder logged
-    then option_map (λ more. both left.initiator more) (after_match logged left.responder)
-    else option_map (λ more. both more left.responder) (after_match logged left.initiator)
+abbrev pub left_after : Rule → Left → Line → Option Left
+left_after rule left logged = if is_of_responder logged
+    then option_map (λ more. both left.initiator more) (after_match rule logged left.responder)
+    else option_map (λ more. both more left.responder) (after_match rule logged left.initiator)
 
--- where the lines that are left begin after a logged line, or the first of its place, where it isn't matched
-abbrev pub AreLeftAfter : List Line → Left → Line → Result (ℕ × ℕ) (Option (Bor Line)) → Type 0
-AreLeftAfter right left logged result = MatchResult result
+-- where the lines that are left begin after a logged line, or the right line beside it, where it isn't matched
+abbrev pub AreLeftAfter : Rule → List Line → Left → Line → Result (ℕ × ℕ) (Option (Bor Line)) → Type 0
+AreLeftAfter rule right left logged result = MatchResult result
     (λ next. (next.0 ≤ length right) × (next.1 ≤ length right)
-    × (left_after left logged ≡ Some (left_from right next.0 next.1)))
-    (λ other. (left_after left logged ≡ None)
-    × (option_copied other ≡ find (is_of_place logged) (left_for left logged)))
+    × (left_after rule left logged ≡ Some (left_from right next.0 next.1)))
+    (λ other. (left_after rule left logged ≡ None)
+    × (option_copied other ≡ beside rule logged (left_for left logged)))
 
 -- likewise for the lines of one role
-abbrev pub AreLeftFrom : List Line → List Line → Line → Result ℕ (Option (Bor Line)) → Type 0
-AreLeftFrom right left logged result = MatchResult result
-    (λ next. (next ≤ length right) × (after_match logged left ≡ Some (drop next right)))
-    (λ other. (after_match logged left ≡ None) × (option_copied other ≡ find (is_of_place logged) left))
+abbrev pub AreLeftFrom : Rule → List Line → List Line → Line → Result ℕ (Option (Bor Line)) → Type 0
+AreLeftFrom rule right left logged result = MatchResult result
+    (λ next. (next ≤ length right) × (after_match rule logged left ≡ Some (drop next right)))
+    (λ other. (after_match rule logged left ≡ None) × (option_copied other ≡ beside rule logged left))
 
-abbrev pub left_after_logged : Option Left → Line → Option Left
-left_after_logged None logged = None
-left_after_logged (Some left) logged = left_after left logged
+abbrev pub left_after_logged : Rule → Option Left → Line → Option Left
+left_after_logged rule None logged = None
+left_after_logged rule (Some left) logged = left_after rule left logged
 
 -- what is left of the right lines after all lines of a log, or None where one isn't matched
-abbrev pub left_by : List Line → List Line → Option Left
-left_by right log = fold left_after_logged (Some (both right right)) log
+abbrev pub left_by : Rule → List Line → List Line → Option Left
+left_by rule right log = fold (left_after_logged rule) (Some (both right right)) log

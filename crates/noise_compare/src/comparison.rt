@@ -1,9 +1,8 @@
 //! Comparing a log with a key schedule.
 
-ghost use Rattle.std.specs.Prelude.{◌≡◌, ◌<◌, IfOk, IfSome, length, option_copied};
-ghost use Rattle.noise_compare.specs.Advice.{IsAdvice};
+ghost use Rattle.std.specs.Prelude.{◌≡◌, ◌<◌, ◌≤◌, IfOk, length, option_copied};
 ghost use Rattle.noise_compare.specs.Differences.{Agrees, IsFirstDifference};
-ghost use Rattle.noise_compare.specs.Findings.{IsReport, step_after};
+ghost use Rattle.noise_compare.specs.Findings.{IsReport, IsSaid, step_after};
 
 use crate::difference::{Difference, first_difference, next_step};
 use crate::facts::Facts;
@@ -39,7 +38,7 @@ pub fn compare_lines(
     log: &[Line<'_>],
     right: &[Line<'_>],
 ) -> Result<LogReport, AllocError>
-    ensures { IfOk result (λ report. IsReport right.now log.now report.finding report.text.items) }
+    ensures { IfOk result (λ report. IsReport facts.now right.now log.now report.finding report.text.items) }
 {
     match first_difference(log, right) {
         Some(found) => differing(alloc, facts, log, right, found),
@@ -55,35 +54,37 @@ fn differing(
     right: &[Line<'_>],
     found: Difference<'_, '_>,
 ) -> Result<LogReport, AllocError>
-    requires within { found.index < length log.now }
-    ensures first { IsFirstDifference right.now log.now found.entry.index (option_copied found.entry.right)
-        → IfOk result (λ report. IsReport right.now log.now report.finding report.text.items) }
+    requires index { found.index < length log.now }
+    requires left { found.left ≤ length right.now }
+    ensures first { IsFirstDifference right.now log.now found.entry.index found.entry.left
+        (option_copied found.entry.right) → IfOk result (λ report. IsReport facts.now right.now log.now report.finding report.text.items) }
 {
     let line = &log[found.index];
-    let advice = advice(alloc, facts, log, right, found.index, line, found.right)?;
+    let advice = advice(alloc, facts, log, right, &found, line, found.right)?;
     Ok(LogReport {
         finding: Finding::Differs,
         text: difference_text(alloc, line, found.right, &advice)?,
     })
 }
 
-// What is said of the line of the log at this index, and of the right line of its place, if there is one.
+// What is said of a line of the log that differs, and of the right line of its place, if there is one.
 fn advice(
     alloc: Global,
     facts: &Facts,
     log: &[Line<'_>],
     right: &[Line<'_>],
-    index: usize,
+    found: &Difference<'_, '_>,
     logged: &Line<'_>,
     expected: Option<&Line<'_>>,
 ) -> Result<Vec<u8>, AllocError>
-    requires within { index < length log.now }
-    ensures text { IfOk result (λ text. IfSome (option_copied expected.entry)
-        (λ found. IsAdvice right.now logged.now found text.items)) }
+    requires index { found.now.index ≤ length log.now }
+    requires left { found.now.left ≤ length right.now }
+    ensures text { IfOk result (λ text. IsSaid facts.now right.now log.now found.now.index found.now.left logged.now
+        (option_copied expected.entry) text.items) }
 {
     match expected {
-        Some(expected) => of_values(alloc, facts, log, right, index, logged, expected),
-        None => of_place(alloc, facts, log, right, index),
+        Some(expected) => of_values(alloc, facts, log, right, found, logged, expected),
+        None => of_place(alloc, facts, log, right, found, logged),
     }
 }
 
@@ -95,7 +96,7 @@ fn agreeing(
     right: &[Line<'_>],
 ) -> Result<LogReport, AllocError>
     requires same { Agrees right.now log.now }
-    ensures reported { IfOk result (λ report. IsReport right.now log.now report.finding report.text.items) }
+    ensures reported { IfOk result (λ report. IsReport facts.now right.now log.now report.finding report.text.items) }
 {
     match step_after(log, right) {
         Some(next) => Ok(LogReport {

@@ -176,7 +176,7 @@ static EPHEMERAL: [Mistake; 7] = [
     Mistake::Hash(HashMistake::StepsLeftOut),
 ];
 
-static AGREEMENT: [Mistake; 13] = [
+static AGREEMENT: [Mistake; 14] = [
     Mistake::Secret(SecretMistake::InputsExchanged),
     Mistake::Secret(SecretMistake::OutputsExchanged),
     Mistake::Secret(SecretMistake::Reversed),
@@ -186,13 +186,14 @@ static AGREEMENT: [Mistake; 13] = [
     Mistake::Secret(SecretMistake::ShortBlocks),
     Mistake::Secret(SecretMistake::ChainingKeyKept),
     Mistake::Secret(SecretMistake::NonceKept),
+    Mistake::Secret(SecretMistake::NonceFromOne),
     Mistake::Secret(SecretMistake::LeftOut),
     Mistake::Secret(SecretMistake::HashedToo),
     Mistake::Secret(SecretMistake::Other),
     Mistake::Secret(SecretMistake::StepsLeftOut),
 ];
 
-static PSK: [Mistake; 14] = [
+static PSK: [Mistake; 15] = [
     Mistake::Secret(SecretMistake::InputsExchanged),
     Mistake::Secret(SecretMistake::OutputsExchanged),
     Mistake::Secret(SecretMistake::Reversed),
@@ -202,6 +203,7 @@ static PSK: [Mistake; 14] = [
     Mistake::Secret(SecretMistake::ShortBlocks),
     Mistake::Secret(SecretMistake::ChainingKeyKept),
     Mistake::Secret(SecretMistake::NonceKept),
+    Mistake::Secret(SecretMistake::NonceFromOne),
     Mistake::Secret(SecretMistake::LeftOut),
     Mistake::Secret(SecretMistake::KeyAlone),
     Mistake::Secret(SecretMistake::HashLeftOut),
@@ -209,8 +211,9 @@ static PSK: [Mistake; 14] = [
     Mistake::Secret(SecretMistake::StepsLeftOut),
 ];
 
-static TEXT: [Mistake; 21] = [
+static TEXT: [Mistake; 22] = [
     Mistake::Text(TextMistake::Clear),
+    Mistake::Text(TextMistake::OtherKey),
     Mistake::Text(TextMistake::TagLeftOff),
     Mistake::Text(TextMistake::TagAdded),
     Mistake::Text(TextMistake::TagInFront),
@@ -233,8 +236,9 @@ static TEXT: [Mistake; 21] = [
     Mistake::Text(TextMistake::StepsLeftOut),
 ];
 
-static OPENING: [Mistake; 6] = [
+static OPENING: [Mistake; 7] = [
     Mistake::Key(KeyMistake::Exchanged),
+    Mistake::Key(KeyMistake::SplitLater),
     Mistake::Key(KeyMistake::SplitOfHash),
     Mistake::Key(KeyMistake::SplitOfZeros),
     Mistake::Key(KeyMistake::SplitInputs),

@@ -3,7 +3,7 @@
 ghost use Rattle.std.specs.Prelude.{◌≡◌, [], IfOk, Some, drop, replicate};
 ghost use Rattle.noise_aead.specs.Sealing.{nonce_of};
 ghost use Rattle.noise_compare.specs.Texts.{sealed_under};
-ghost use Rattle.noise_compare.specs.Keys.{earlier_hash_fits, fits_with_key, is_key, key_before_explains, key_before_fits, key_explains, left_out_explains, other_key_explains, other_key_fits, precedes, rekey_explains, rekeyed_by, split_explains};
+ghost use Rattle.noise_compare.specs.Keys.{earlier_hash_fits, fits_with_key, is_key, key_before_explains, key_before_fits, key_explains, later_outputs_explain, left_out_explains, other_key_explains, other_key_fits, precedes, rekey_explains, rekeyed_by, split_explains};
 
 use crate::mistake::KeyMistake;
 use crate::mixing::with_hash;
@@ -11,7 +11,7 @@ use crate::secrets::with_nonce;
 use crate::state::{Logged, Situation, has, nonce_fits};
 use crate::texts::{one_more, sealed_under};
 use noise_aead::{nonce, rekey};
-use noise_kdf::expand2;
+use noise_kdf::{expand2, expand3};
 use std::alloc::{AllocError, Global};
 
 /// Whether a mistake gives the logged values.
@@ -25,6 +25,7 @@ pub(crate) fn key_explains(
     ensures { IfOk result (λ b. b ≡ key_explains mistake at.now logged.now) }
 {
     match mistake {
+        KeyMistake::SplitLater => Ok(later_outputs_explain(at, logged)),
         KeyMistake::SplitOfHash => {
             Ok(split_explains(at, logged, &at.right.chaining_key, &at.right.hash))
         }
@@ -68,6 +69,14 @@ fn split_explains(at: &Situation<'_>, logged: &Logged, key: &[u8; 32], input: &[
 {
     let (first, second) = expand2(key, input);
     fits_with_key(at, logged, &first) || fits_with_key(at, logged, &second)
+}
+
+// Whether Split gives them where it takes HKDF's second and third output.
+fn later_outputs_explain(at: &Situation<'_>, logged: &Logged) -> bool
+    ensures { result ≡ later_outputs_explain at.now logged.now }
+{
+    let (_, second, third) = expand3(&at.right.chaining_key, &[]);
+    fits_with_key(at, logged, &second) || fits_with_key(at, logged, &third)
 }
 
 // Whether another key of the transport gives them, but for the one before Rekey.

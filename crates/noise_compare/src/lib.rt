@@ -7,6 +7,7 @@
 
 mod advice;
 mod comparison;
+mod cut;
 mod difference;
 mod facts;
 mod finding;
@@ -27,6 +28,7 @@ mod texts;
 mod values;
 
 pub use comparison::{Finding, LogReport, compare_lines};
+pub use cut::{push_cut, whole_lines};
 pub use difference::{Difference, first_difference};
 pub use facts::Facts;
 pub use line::Line;

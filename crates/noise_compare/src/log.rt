@@ -9,7 +9,7 @@ use crate::line::{Line, parts};
 use std::alloc::{AllocError, Global};
 
 /// How many words a line of a key schedule has.
-const WORDS: usize = 12;
+pub(crate) const WORDS: usize = 12;
 
 /// Why a log isn't read.
 #[derive(Clone, Copy, PartialEq, Eq)]

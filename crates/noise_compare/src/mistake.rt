@@ -57,6 +57,8 @@ pub enum SecretMistake {
     ChainingKeyKept,
     /// The nonce isn't set to 0.
     NonceKept,
+    /// The nonce begins at 1.
+    NonceFromOne,
     /// The secret isn't mixed.
     LeftOut,
     /// MixHash takes the secret, besides MixKey.
@@ -76,6 +78,8 @@ pub enum SecretMistake {
 pub enum TextMistake {
     /// There is a key, and the text isn't encrypted.
     Clear,
+    /// The text is another public key of the file.
+    OtherKey,
     /// There is a key, and the bytes are taken without the tag, in the clear.
     TagLeftOff,
     /// There is no key, and 16 zero bytes follow the text.
@@ -123,6 +127,8 @@ pub enum TextMistake {
 /// A mistake of a key of the transport.
 #[derive(Clone, Copy, PartialEq, Eq)]
 pub enum KeyMistake {
+    /// Split takes the second and the third output of HKDF.
+    SplitLater,
     /// Split's HKDF takes the hash, and not no bytes.
     SplitOfHash,
     /// Split's HKDF takes 32 zero bytes, and not no bytes.

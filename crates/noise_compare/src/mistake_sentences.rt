@@ -91,6 +91,7 @@ fn secret_sentence(mistake: SecretMistake) -> &'static str
             "ck stays as it was: HKDF's first output is the new ck (5.2)"
         }
         SecretMistake::NonceKept => "n stays as it was: each new key sets it to 0 (5.1, 5.2)",
+        SecretMistake::NonceFromOne => "n begins at 1: each new key sets it to 0 (5.1, 5.2)",
         SecretMistake::LeftOut => "nothing is mixed at this token",
         SecretMistake::HashedToo =>
             "MixHash takes the DH result, besides MixKey: a DH result goes into MixKey alone (5.3)",
@@ -114,6 +115,9 @@ fn text_sentence(mistake: TextMistake) -> &'static str
     match mistake {
         TextMistake::Clear => {
             "the text is in the clear: there is a key, so it is encrypted, an empty text too (5.2)"
+        }
+        TextMistake::OtherKey => {
+            "the text is another public key of the file: the token s sends the static key (5.3)"
         }
         TextMistake::TagLeftOff => {
             "the bytes are taken in the clear: there is a key, so 16 bytes of a tag follow the text (5.2)"
@@ -179,6 +183,9 @@ fn key_sentence(mistake: KeyMistake) -> &'static str
     ensures { result.now ≡ key_sentence mistake }
 {
     match mistake {
+        KeyMistake::SplitLater => {
+            "Split takes the second and the third output of HKDF: it takes the first and the second (5.2)"
+        }
         KeyMistake::SplitOfHash => "Split's HKDF takes ck and h: it takes ck and no bytes (5.2)",
         KeyMistake::SplitOfZeros => {
             "Split's HKDF takes ck and 32 zero bytes: it takes ck and no bytes (5.2)"

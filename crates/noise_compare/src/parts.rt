@@ -1,18 +1,20 @@
 //! The step of a right line, with what comes before it.
 
-ghost use Rattle.std.specs.Prelude.{◌≡◌, ◌≤◌, IfOk, length, vec_len};
+ghost use Rattle.std.specs.Prelude.{◌≡◌, ◌≤◌, ◌++◌, IfOk, find, length, option_copied, take, vec_len};
+ghost use Rattle.sha2.specs.Sha256.{sha256};
 ghost use Rattle.noise_compare.specs.Lines.{word_at, words_in};
+ghost use Rattle.noise_compare.specs.Situations.{IsSituation, agreed_state, data_of, gives_chaining_key, gives_hash, public_among, secret_among, secret_of, secrets_of};
 ghost use Rattle.noise_compare.specs.Steps.{hashes_in, last_state, states_before, transport_keys};
 ghost use Rattle.noise_compare.specs.Values.{kind_in, state_in, word_bytes};
 
 use crate::facts::Facts;
 use crate::line::Line;
+use crate::mixing::mixed;
 use crate::state::{Kind, Situation, State};
 use crate::steps::{hashes_in, last_state, states_before, transport_keys};
 use crate::values::{bytes_in, kind_in, state_in};
 use noise_aead::{nonce, open_in_place};
 use noise_kdf::expand2;
-use sha2::{Digest, Sha256};
 use std::alloc::{AllocError, Global};
 
 /// The step of a right line, but for what a file gives.
@@ -32,19 +34,26 @@ pub(crate) struct Parts {
 }
 
 impl Parts {
-    /// The step of `expected`, one of the right lines, where the party's log agrees up to the line `agreed`.
+    /// The step of `expected`, one of the right lines, where the log's party has the right lines before this place.
     pub fn of(
         alloc: Global,
         facts: &Facts,
         right: &[Line<'_>],
         expected: &Line<'_>,
-        agreed: Option<&Line<'_>>,
+        left: usize,
     ) -> Result<Parts, AllocError>
         ensures kind { IfOk result (λ parts. parts.kind ≡ kind_in expected.now) }
         ensures before { IfOk result (λ parts. parts.before
             ≡ last_state (states_before right.now expected.now) (state_in expected.now)) }
+        ensures agreed { IfOk result (λ parts. parts.agreed ≡ agreed_state right.now left
+            (last_state (states_before right.now expected.now) (state_in expected.now))) }
         ensures right { IfOk result (λ parts. parts.right ≡ state_in expected.now) }
         ensures bytes { IfOk result (λ parts. parts.bytes.items ≡ word_bytes (word_at (words_in expected.now) 7)) }
+        ensures data_is { IfOk result (λ parts. parts.data.items ≡ take 65535 (data_of facts.now expected.now
+            (last_state (states_before right.now expected.now) (state_in expected.now)) (state_in expected.now)
+            (word_bytes (word_at (words_in expected.now) 7)))) }
+        ensures secret { IfOk result (λ parts. parts.secret ≡ secret_of facts.now (kind_in expected.now)
+            (last_state (states_before right.now expected.now) (state_in expected.now)) (state_in expected.now)) }
         ensures hashes { IfOk result (λ parts. parts.hashes.items ≡ hashes_in (states_before right.now expected.now)) }
         ensures keys { IfOk result (λ parts. parts.keys.items ≡ transport_keys right.now) }
     {
@@ -53,20 +62,15 @@ impl Parts {
         let earlier = states_before(alloc, right, expected)?;
         let before = last_state(&earlier, after);
         let bytes = bytes_in(alloc, expected.word(7))?;
-        let mut data = data_of(alloc, facts, expected, &before, &after, &bytes)?;
-        data.truncate(65535);
-        let mut text = text_of(alloc, &before, &bytes)?;
-        text.truncate(65535);
+        let data = short_data(alloc, facts, expected, &before, &after, &bytes)?;
+        let text = short_text(alloc, &before, &bytes)?;
         let secret = secret_of(facts, kind, &before, &after);
         let hashes = hashes_in(alloc, &earlier)?;
         let keys = transport_keys(alloc, right)?;
         Ok(Parts {
             kind,
             before,
-            agreed: match agreed {
-                Some(line) => state_in(line),
-                None => before,
-            },
+            agreed: agreed_state(right, left, before),
             right: after,
             bytes,
             data,
@@ -81,8 +85,14 @@ impl Parts {
     pub fn situation<'a>(&'a self, facts: &'a Facts) -> Situation<'a>
         ensures kind { result.kind ≡ self.now.kind }
         ensures before { result.before ≡ self.now.before }
+        ensures agreed { result.agreed ≡ self.now.agreed }
         ensures right { result.right ≡ self.now.right }
         ensures bytes { result.bytes.now ≡ self.now.bytes.items }
+        ensures data_is { result.data.now ≡ self.now.data.items }
+        ensures secret { result.secret ≡ self.now.secret }
+        ensures secrets { result.secrets.now ≡ secrets_of facts.now self.now.kind }
+        ensures name { result.name.now ≡ facts.now.name.items }
+        ensures publics { result.publics.now ≡ facts.now.publics.items }
         ensures hashes { result.hashes.now ≡ self.now.hashes.items }
         ensures keys { result.keys.now ≡ self.now.keys.items }
     {
@@ -97,45 +107,102 @@ impl Parts {
             name: &facts.name,
             secret: self.secret,
             publics: &facts.publics,
-            secrets: if self.kind == Kind::Secret {
-                &facts.psks
-            } else {
-                &facts.results
-            },
+            secrets: secrets_of(facts, self.kind),
             hashes: &self.hashes,
             keys: &self.keys,
         }
     }
 }
 
-// What MixHash takes at a step.
-fn data_of(
+// All DH results, or at a psk all psks.
+fn secrets_of(facts: &Facts, kind: Kind) -> &[[u8; 32]]
+    ensures { result.now ≡ secrets_of facts.now kind }
+{
+    match kind {
+        Kind::Secret => &facts.psks,
+        _ => &facts.results,
+    }
+}
+
+// The state after the last right line before this place, which the log's party has; that before the step, where none is.
+fn agreed_state(right: &[Line<'_>], left: usize, before: State) -> State
+    ensures { result ≡ agreed_state right.now left before }
+{
+    if left == 0 {
+        return before;
+    }
+    match right.get(left - 1) {
+        Some(line) => state_in(line),
+        None => before,
+    }
+}
+
+// What MixHash takes at a step, and no more than a message has.
+fn short_data(
     alloc: Global,
     facts: &Facts,
     expected: &Line<'_>,
     before: &State,
     after: &State,
     bytes: &[u8],
-) -> Result<Vec<u8>, AllocError> {
-    if expected.word(4) == b"prologue".as_slice() {
-        return Vec::from_slice(alloc, &facts.prologue);
-    }
-    if expected.word(2) != b"start".as_slice() {
-        return Vec::from_slice(alloc, bytes);
-    }
-    for key in &facts.publics {
-        if hash_of_both(&before.hash, key).as_slice() == after.hash.as_slice() {
-            return Vec::from_slice(alloc, key);
-        }
-    }
-    Ok(Vec::new(alloc))
+) -> Result<Vec<u8>, AllocError>
+    ensures value { IfOk result (λ v. v.items
+        ≡ take 65535 (data_of facts.now expected.now before.now after.now bytes.now)) }
+    ensures short { IfOk result (λ v. vec_len v ≤ 65535) }
+{
+    let mut data = Vec::from_slice(alloc, data_of(facts, expected, before, after, bytes))?;
+    data.truncate(65535);
+    Ok(data)
 }
 
-fn hash_of_both(hash: &[u8; 32], data: &[u8]) -> [u8; 32] {
-    let mut hasher = Sha256::new();
-    hasher.update(hash);
-    hasher.update(data);
-    hasher.finalize()
+fn data_of<'a>(
+    facts: &'a Facts,
+    expected: &Line<'_>,
+    before: &State,
+    after: &State,
+    bytes: &'a [u8],
+) -> &'a [u8]
+    ensures { result.now ≡ data_of facts.now expected.now before.now after.now bytes.now }
+{
+    if expected.word(4) == b"prologue".as_slice() {
+        &facts.prologue
+    } else if expected.word(2) == b"start".as_slice() {
+        public_among(&facts.publics, before, after)
+    } else {
+        bytes
+    }
+}
+
+// The first of these keys that gives the hash after a step, or nothing.
+fn public_among<'a>(publics: &'a [[u8; 32]], before: &State, after: &State) -> &'a [u8]
+    ensures { result.now ≡ public_among publics.now before.now after.now }
+{
+    match first_public(publics, before, after) {
+        Some(key) => key,
+        None => &[],
+    }
+}
+
+fn first_public<'a>(publics: &'a [[u8; 32]], before: &State, after: &State) -> Option<&'a [u8; 32]>
+    ensures { option_copied result ≡ find (gives_hash before.now after.now) publics.now }
+{
+    publics.iter().find(|key| gives_hash(before, after, key))
+}
+
+fn gives_hash(before: &State, after: &State, key: &[u8; 32]) -> bool
+    ensures { result ≡ gives_hash before.now after.now key.now }
+{
+    let hash = mixed(&before.hash, key);
+    hash.as_slice() == after.hash.as_slice()
+}
+
+// Likewise of the text.
+fn short_text(alloc: Global, before: &State, bytes: &[u8]) -> Result<Vec<u8>, AllocError>
+    ensures { IfOk result (λ v. vec_len v ≤ 65535) }
+{
+    let mut text = text_of(alloc, before, bytes)?;
+    text.truncate(65535);
+    Ok(text)
 }
 
 // The plain text of bytes, or the bytes where they aren't encrypted.
@@ -158,20 +225,36 @@ fn text_of(alloc: Global, before: &State, bytes: &[u8]) -> Result<Vec<u8>, Alloc
 }
 
 // The DH result or the psk that gives the right chaining key, or else zeros.
-fn secret_of(facts: &Facts, kind: Kind, before: &State, after: &State) -> [u8; 32] {
+fn secret_of(facts: &Facts, kind: Kind, before: &State, after: &State) -> [u8; 32]
+    ensures { result ≡ secret_of facts.now kind before.now after.now }
+{
     match kind {
-        Kind::Agreement => mixed_one(&facts.results, before, after),
-        Kind::Secret => mixed_one(&facts.psks, before, after),
+        Kind::Agreement => secret_among(&facts.results, before, after),
+        Kind::Secret => secret_among(&facts.psks, before, after),
         _ => [0; 32],
     }
 }
 
-fn mixed_one(secrets: &[[u8; 32]], before: &State, after: &State) -> [u8; 32] {
-    for secret in secrets {
-        let (chaining_key, _) = expand2(&before.chaining_key, secret);
-        if chaining_key.as_slice() == after.chaining_key.as_slice() {
-            return *secret;
-        }
+fn secret_among(secrets: &[[u8; 32]], before: &State, after: &State) -> [u8; 32]
+    ensures { result ≡ secret_among secrets.now before.now after.now }
+{
+    match first_secret(secrets, before, after) {
+        Some(secret) => *secret,
+        None => [0; 32],
     }
-    [0; 32]
+}
+
+fn first_secret<'a>(secrets: &'a [[u8; 32]], before: &State, after: &State) -> Option<&'a [u8; 32]>
+    ensures { option_copied result ≡ find (gives_chaining_key before.now after.now) secrets.now }
+{
+    secrets
+        .iter()
+        .find(|secret| gives_chaining_key(before, after, secret))
+}
+
+fn gives_chaining_key(before: &State, after: &State, secret: &[u8; 32]) -> bool
+    ensures { result ≡ gives_chaining_key before.now after.now secret.now }
+{
+    let (chaining_key, _) = expand2(&before.chaining_key, secret);
+    chaining_key.as_slice() == after.chaining_key.as_slice()
 }

@@ -22,7 +22,8 @@ pub fn plain_text(alloc: Global, text: &[u8]) -> Result<Vec<u8>, AllocError>
     Ok(plain)
 }
 
-fn plain_line(alloc: Global, text: &[u8]) -> Result<Vec<u8>, AllocError>
+/// Likewise of one line.
+pub(crate) fn plain_line(alloc: Global, text: &[u8]) -> Result<Vec<u8>, AllocError>
     ensures { IfOk result (λ line. line.items ≡ plain_line text.now) }
 {
     let text = spaced(alloc, text)?;

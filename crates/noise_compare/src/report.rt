@@ -13,7 +13,9 @@ pub fn agreement_text(alloc: Global, log: &[Line<'_>]) -> Result<Vec<u8>, AllocE
 {
     let count = log.len();
     let split = split_lines(log);
-    let line = format!(in alloc; "agrees in {count} lines\nlines of Split compared: {split}\n")?;
+    let line = format!(in alloc;
+        "agrees in {count} lines\nlines of Split compared: {split}\ndecrypted texts compared: none\n"
+    )?;
     Vec::from_slice(alloc, line.as_bytes())
 }
 

@@ -81,6 +81,7 @@ fn secret_state(mistake: SecretMistake, at: &Situation<'_>) -> State
         }
         SecretMistake::ChainingKeyKept => with_chaining_key(&at.right, *chaining_key),
         SecretMistake::NonceKept => with_nonce(&at.right, at.before.nonce),
+        SecretMistake::NonceFromOne => with_nonce(&at.right, 1),
         SecretMistake::LeftOut => at.before,
         SecretMistake::HashedToo => with_hash(&at.right, mixed(&at.right.hash, &at.secret)),
         SecretMistake::KeyAlone => mixed_key(before, &expanded(chaining_key, &at.secret)),

@@ -87,7 +87,7 @@ impl Logged {
         has(&self.bytes, bytes) && self.state_fits(state)
     }
 
-    fn state_fits(&self, state: &State) -> bool
+    pub(crate) fn state_fits(&self, state: &State) -> bool
         ensures { result ≡ state_fits self.now state.now }
     {
         has(&self.hash, &state.hash)

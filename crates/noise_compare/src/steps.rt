@@ -34,7 +34,8 @@ pub(crate) fn states_before(
     states_in(alloc, expected, &right[..count])
 }
 
-fn count_before(right: &[Line<'_>], expected: &Line<'_>) -> usize
+/// How many of these lines stand before this one.
+pub(crate) fn count_before(right: &[Line<'_>], expected: &Line<'_>) -> usize
     ensures { result ≡ count_before right.now expected.now }
 {
     right

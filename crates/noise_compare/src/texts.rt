@@ -5,7 +5,7 @@ ghost use Rattle.sha2.specs.Sha256.{sha256};
 ghost use Rattle.noise_aead.specs.Sealing.{nonce_of, sealed};
 ghost use Rattle.noise_compare.specs.Mixing.{hashed, with_hash};
 ghost use Rattle.noise_compare.specs.States.{fits};
-ghost use Rattle.noise_compare.specs.Texts.{ad_fits_text, big_endian, big_endian_first_bytes, bytes_fit, earlier_hash_explains, first_bytes, hashed_before, nonce_fits_text, one_more, raised, sealed_by_zero, sealed_under, sealed_with, sealed_without_steps, state_without_steps, tag_first, text_explains, without_steps_explains, without_tag, zero_fits};
+ghost use Rattle.noise_compare.specs.Texts.{ad_fits_text, big_endian, big_endian_first_bytes, bytes_fit, earlier_hash_explains, first_bytes, hashed_before, key_fits_text, nonce_fits_text, other_key_explains, one_more, raised, sealed_by_zero, sealed_key, sealed_under, sealed_with, sealed_without_steps, state_without_steps, tag_first, text_explains, without_steps_explains, without_tag, zero_fits};
 
 use crate::mistake::TextMistake;
 use crate::mixing::{
@@ -30,6 +30,7 @@ pub(crate) fn text_explains(
     let n = at.before.nonce;
     match mistake {
         TextMistake::Clear => Ok(clear_fits(at, logged, at.text)),
+        TextMistake::OtherKey => other_key_explains(alloc, at, logged),
         TextMistake::TagLeftOff => Ok(clear_fits(at, logged, without_tag(at.bytes))),
         TextMistake::TagAdded => tag_explains(alloc, at, logged),
         TextMistake::TagInFront => tag_first_explains(alloc, at, logged),
@@ -200,6 +201,42 @@ fn earlier_hash_explains(
         }
     }
     Ok(found)
+}
+
+// Whether a public key of the file, as the text, gives the logged values.
+fn other_key_explains(
+    alloc: Global,
+    at: &Situation<'_>,
+    logged: &Logged,
+) -> Result<bool, AllocError>
+    ensures { IfOk result (λ b. b ≡ other_key_explains at.now logged.now) }
+{
+    let mut found = false;
+    for key in at.publics {
+        if key_fits_text(alloc, at, logged, key)? {
+            found = true;
+        }
+    }
+    Ok(found)
+}
+
+fn key_fits_text(
+    alloc: Global,
+    at: &Situation<'_>,
+    logged: &Logged,
+    key: &[u8; 32],
+) -> Result<bool, AllocError>
+    ensures { IfOk result (λ b. b ≡ key_fits_text at.now logged.now key.now) }
+{
+    let bytes = sealed_key(alloc, at, key)?;
+    Ok(bytes_fit(at, logged, &bytes))
+}
+
+fn sealed_key(alloc: Global, at: &Situation<'_>, key: &[u8; 32]) -> Result<Vec<u8>, AllocError>
+    ensures { IfOk result (λ v. v.items ≡ sealed_key at.now key.now) }
+{
+    let right = nonce(at.before.nonce);
+    sealed_under(alloc, &at.before.key, &right, &at.before.hash, key)
 }
 
 fn nonce_fits_text(

@@ -2,12 +2,15 @@
 
 ghost use Rattle.std.specs.Prelude.{◌≡◌, IfOk};
 ghost use Rattle.noise_compare.specs.Lines.{word_at, words_in};
-ghost use Rattle.noise_compare.specs.Values.{AreLogged, add_digit, agreement_or_text, has_bytes, is_text, items_of, kind_by, kind_in, logged_bytes, logged_if_any, logged_word, start_kind, state_in, token_kind, transport_kind, word_array, word_bytes, word_key, word_number};
+ghost use Rattle.noise_compare.specs.Values.{AreLogged, add_digit, agreement_or_text, has_bytes, is_none, is_text, items_of, kind_by, kind_in, logged_bytes, logged_if_any, logged_key, logged_word, start_kind, state_in, token_kind, transport_kind, word_array, word_bytes, word_key, word_number};
 
 use crate::line::Line;
 use crate::state::{Kind, Logged, State};
 use hex::FromHexError;
 use std::alloc::{AllocError, Global};
+
+/// A key of zeros.
+const ZERO_DIGITS: &[u8; 64] = b"0000000000000000000000000000000000000000000000000000000000000000";
 
 /// The bytes of a word of hex digits, and none of `-`; of any other word the word's own.
 pub(crate) fn bytes_in(alloc: Global, word: &[u8]) -> Result<Vec<u8>, AllocError>
@@ -34,21 +37,48 @@ fn array_in(word: &[u8]) -> [u8; 32]
     }
 }
 
-fn logged_in(alloc: Global, word: &[u8]) -> Result<Option<Vec<u8>>, AllocError>
+/// What a word of a log stands for; None where that isn't compared.
+pub(crate) fn logged_in(alloc: Global, word: &[u8]) -> Result<Option<Vec<u8>>, AllocError>
     ensures { IfOk result (λ value. items_of value ≡ logged_word word.now) }
 {
-    if word == b"?".as_slice() {
-        return Ok(None);
+    if is_none(word) {
+        return Ok(Some(Vec::new(alloc)));
     }
-    let bytes = bytes_in(alloc, word)?;
-    Ok(Some(bytes))
+    match hex::decode(alloc, word) {
+        Ok(bytes) => Ok(Some(bytes)),
+        Err(FromHexError::OutOfMemory) => Err(AllocError),
+        Err(_) => Ok(None),
+    }
+}
+
+/// Whether it is a word for no bytes.
+#[tactic(auto, unfolding(crate::specs::Values::is_none))]
+pub(crate) fn is_none(word: &[u8]) -> bool
+    ensures { result ≡ is_none word.now }
+{
+    word == b"-".as_slice()
+        || word == b"none".as_slice()
+        || word == b"null".as_slice()
+        || word == b"nil".as_slice()
+        || word == b"(none)".as_slice()
+}
+
+// Likewise of a key, where this is the right one: 32 zero bytes may stand for none.
+fn logged_key(alloc: Global, right: &[u8], word: &[u8]) -> Result<Option<Vec<u8>>, AllocError>
+    ensures { IfOk result (λ value. items_of value ≡ logged_key right.now word.now) }
+{
+    if right == b"-".as_slice() && word == ZERO_DIGITS.as_slice() {
+        Ok(None)
+    } else {
+        logged_in(alloc, word)
+    }
 }
 
 // Likewise of a hash or a chaining key, where this is the right one: a line of the transport has none.
 fn logged_if_any(alloc: Global, right: &[u8], word: &[u8]) -> Result<Option<Vec<u8>>, AllocError>
     ensures { IfOk result (λ value. items_of value ≡ logged_if_any right.now word.now) }
 {
-    if right == b"-".as_slice() || word == b"-".as_slice() {
+    if right == b"-".as_slice() || is_none(word) {
         Ok(None)
     } else {
         logged_in(alloc, word)
@@ -77,13 +107,14 @@ pub(crate) fn has_bytes(expected: &Line<'_>) -> bool
     is_text(kind_in(expected)) || expected.word(7) != b"-".as_slice()
 }
 
-fn is_text(kind: Kind) -> bool
+/// Whether it is `s` or a payload.
+pub(crate) fn is_text(kind: Kind) -> bool
     ensures { result ≡ is_text kind }
 {
     matches!(kind, Kind::Text)
 }
 
-fn number_in(word: &[u8]) -> Option<u64>
+pub(crate) fn number_in(word: &[u8]) -> Option<u64>
     ensures { result ≡ word_number word.now }
 {
     if word.len() == 0 {
@@ -150,7 +181,7 @@ pub(crate) fn values_in(
     let bytes = logged_bytes(alloc, expected, line.word(7))?;
     let hash = logged_if_any(alloc, expected.word(8), line.word(8))?;
     let chaining_key = logged_if_any(alloc, expected.word(9), line.word(9))?;
-    let key = logged_in(alloc, line.word(10))?;
+    let key = logged_key(alloc, expected.word(10), line.word(10))?;
     Ok(Logged {
         bytes,
         hash,

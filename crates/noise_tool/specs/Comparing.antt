@@ -7,6 +7,7 @@ use Rattle.noise_compare.specs.Plain.{skipped_text, plain_text, written_lines}
 use Rattle.noise_compare.specs.Reading.{first_wrong, schedule_lines, views}
 use Rattle.noise_compare.specs.declared.comparison.Finding.{Finding}
 use Rattle.noise_compare.specs.declared.comparison.Finding.TheVariants.{Agrees, Ends, Differs}
+use Rattle.noise_compare.specs.declared.facts.Facts.{Facts}
 use Rattle.noise_compare.specs.declared.line.Line.{Line}
 use Rattle.noise_lines.specs.Faults.{status_of}
 use Rattle.noise_lines.specs.Prefixes.{AppendsPrefix}
@@ -52,15 +53,16 @@ finding_status Agrees = 0
 finding_status Ends = 1
 finding_status Differs = 1
 
--- This is the report on the log of this text, by the key schedule of the file of this text. It ends with the number of
--- the log's lines that were passed over.
+-- This is the report on the log of this text, by the key schedule of the file of this text and facts of its run. It ends
+-- with the number of the log's lines that were passed over.
 pub record Compares (log file : List ℕ) (report : LogReport) : Type 0 where
   pub logged : List Line
   pub logged_are : views logged ≡ schedule_lines (plain_text log)
   pub right : List Line
   pub right_are : IsScheduleOf file right
+  pub facts : Facts
   pub compared : List ℕ
-  pub reported : IsReport right logged report.finding compared
+  pub reported : IsReport facts right logged report.finding compared
   pub text_is : report.text.items ≡ compared ++ skipped_text (written_lines log - length logged)
 
 abbrev pub IfMade : Comparison → (LogReport → Type 0) → Type 0

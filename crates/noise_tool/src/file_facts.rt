@@ -8,12 +8,12 @@ use std::alloc::{AllocError, Global};
 /// The facts of a vector file.
 pub(crate) fn facts_of(alloc: Global, file: &VectorFile) -> Result<Facts, AllocError> {
     let name = file.protocol.write();
-    let mut publics = Vec::new(alloc);
-    push_publics(&file.initiator, &mut publics)?;
-    push_publics(&file.responder, &mut publics)?;
+    let mut publics = publics_of(alloc, &file.initiator)?;
+    let of_responder = publics_of(alloc, &file.responder)?;
     let mut results = Vec::new(alloc);
-    push_results(&file.initiator, &publics, &mut results)?;
+    push_results(&file.initiator, &of_responder, &mut results)?;
     push_results(&file.responder, &publics, &mut results)?;
+    publics.extend_from_slice(&of_responder)?;
     Ok(Facts {
         name: Vec::from_slice(alloc, name.as_slice())?,
         prologue: Vec::from_slice(alloc, &file.prologue)?,
@@ -23,17 +23,19 @@ pub(crate) fn facts_of(alloc: Global, file: &VectorFile) -> Result<Facts, AllocE
     })
 }
 
-fn push_publics(keys: &FileKeys, publics: &mut Vec<[u8; 32]>) -> Result<(), AllocError> {
+// The public keys of a party, as far as the file has them.
+fn publics_of(alloc: Global, keys: &FileKeys) -> Result<Vec<[u8; 32]>, AllocError> {
+    let mut publics = Vec::new(alloc);
     if let Some(key) = keys.public(Own::Ephemeral) {
         publics.push(key)?;
     }
     if let Some(key) = keys.public(Own::Static) {
         publics.push(key)?;
     }
-    Ok(())
+    Ok(publics)
 }
 
-// What DH gives for each own key and each of these public keys, as far as the file has it.
+// What DH gives for each own key and each public key of the other party, as far as the file has it.
 fn push_results(
     keys: &FileKeys,
     publics: &[[u8; 32]],

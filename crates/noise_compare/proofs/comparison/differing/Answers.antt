@@ -5,6 +5,7 @@ pub returns : goal.returns
 returns c = record {
   first = λ first. (
     c.args.found.index,
+    c.args.found.left,
     option_copied c.args.found.right,
     first,
     c.index-log-found.result,

@@ -1,34 +1,47 @@
-use Rattle.std.proofs.Common.{rules, ◌≡◌, ◌≤◌, false, List, Option, Some, length, subst, sym, take}
-use Rattle.std.specs.Prelude.{IfSome}
-use Rattle.std.proofs.lemmas.List.{take_all}
-use Rattle.noise_compare.specs.Lines.{has_values}
-use Rattle.noise_compare.specs.Walk.{left_by, left_for, left_from}
+use Rattle.std.proofs.Common.{◌≡◌, ◌<◌, ◌∙◌, ℕ, Bool, true, false, List, Option, ap, length, option_copied, subst, sym}
+use Rattle.noise_compare.specs.Differences.{IsFirstDifference, IsUnmatched, is_whole, rule_by}
+use Rattle.noise_compare.specs.declared.difference.Rule.{Rule}
+use Rattle.noise_compare.specs.declared.difference.Rule.TheVariants.{InTurn, ByValues}
 use Rattle.noise_compare.specs.declared.line.Line.{Line}
-use Rattle.noise_compare.proofs.WalkLemmas.{stopped-differs, walked-agrees, walked-left}
+use Rattle.noise_compare.proofs.WalkLemmas.{disagrees, same-line}
 use Rattle.noise_compare.proofs.difference.first_difference.Goals as goal
 
-pub returns-in-Err : goal.returns-in-Err
-returns-in-Err c =
+-- the line that is told, by the two that aren't matched
+told : (right log : List Line) (i left : ℕ) (e : Option Line) (line : Line) (j of : ℕ) (f : Option Line) (turn : Line) (whole : Bool)
+    → IsUnmatched ByValues right log i left e line → IsUnmatched InTurn right log j of f turn → is_whole right log turn ≡ whole
+    → (index from : ℕ) (expected : Option Line) (it : Line) → IsUnmatched (rule_by whole) right log index from expected it
+    → IsFirstDifference right log index from expected
+told right log i left e line j of f turn whole values in_turn is index from expected it unmatched = record {
+  differs = disagrees right log i line values.within values.line_is values.stops;
+  turn = j;
+  turn_left = of;
+  turn_expected = f;
+  turn_line = turn;
+  in_turn = in_turn;
+  line = it;
+  unmatched = subst (λ (b : Bool). IsUnmatched (rule_by b) right log index from expected it) (sym is) unmatched;
+}
+
+pub returns-then-is_whole : goal.returns-then-is_whole
+returns-then-is_whole c =
     let right = c.args.right.now in
-    let before = take c.loop-index.index c.args.log.now in
-    let left = left_from right c.loop-index.initiator c.loop-index.responder in
-    let line = c.index-log-index.result in
-    record {
-      within = c.loop-index-test.true;
-      before = walked-agrees right before left c.loop-index.invariant.2;
-      line = line;
-      line_is = c.index-log-index.is;
-      left = left_for left line;
-      left_are = walked-left right before left line c.loop-index.invariant.2;
-      expected_is = c.in-Err.ensures.value.1;
-      differs = subst (λ (expected : Option Line). IfSome expected (λ right. has_values line right ≡ false)) (sym c.in-Err.ensures.value.1)
-          (stopped-differs left line c.in-Err.ensures.value.0);
-    }
+    let log = c.args.log.now in
+    let values = c.in-Some.ensures in
+    let turn = c.in-Some-first_unmatched.ensures in
+    let same = same-line log c.in-Some-first_unmatched.in_turn.index turn.0 c.index-log-in_turn.result turn.1.within turn.1.line_is c.index-log-in_turn.is in
+    let whole : is_whole right log turn.0 ≡ true = ap (is_whole right log) same ∙ sym c.is_whole.ensures ∙ c.if-is_whole.true in
+    told right log c.in-Some.by_values.index c.in-Some.by_values.left (option_copied c.in-Some.by_values.right) values.0
+    c.in-Some-first_unmatched.in_turn.index c.in-Some-first_unmatched.in_turn.left (option_copied c.in-Some-first_unmatched.in_turn.right) turn.0
+    true values.1 turn.1 whole _ _ _ turn.0 turn.1
 
 pub returns : goal.returns
 returns c =
     let right = c.args.right.now in
     let log = c.args.log.now in
-    let past : length log ≤ c.loop-index.index = search rules in
-    let left = left_from right c.loop-index.initiator c.loop-index.responder in
-    walked-agrees right log left (subst (λ (lines : List Line). left_by right lines ≡ Some left) (take_all c.loop-index.index log past) c.loop-index.invariant.2)
+    let values = c.in-Some.ensures in
+    let turn = c.in-Some-first_unmatched.ensures in
+    let same = same-line log c.in-Some-first_unmatched.in_turn.index turn.0 c.index-log-in_turn.result turn.1.within turn.1.line_is c.index-log-in_turn.is in
+    let whole : is_whole right log turn.0 ≡ false = ap (is_whole right log) same ∙ sym c.is_whole.ensures ∙ c.if-is_whole.false in
+    told right log c.in-Some.by_values.index c.in-Some.by_values.left (option_copied c.in-Some.by_values.right) values.0
+    c.in-Some-first_unmatched.in_turn.index c.in-Some-first_unmatched.in_turn.left (option_copied c.in-Some-first_unmatched.in_turn.right) turn.0
+    false values.1 turn.1 whole _ _ _ values.0 values.1

@@ -1,17 +1,34 @@
-use Rattle.std.proofs.Common.{◌∙◌}
+use Rattle.std.proofs.Common.{◌≡◌, ◌∙◌, ◌++◌, ℕ, Bool, List, [], ap, refl}
+use Rattle.noise_compare.specs.Advice.{advice_text}
+use Rattle.noise_compare.specs.Situations.{secrets_of}
 use Rattle.noise_compare.proofs.sentences.of_values.Goals as goal
+
+said : (start first new front : List ℕ) (text : Bool → List ℕ) (gap is : Bool) → start ≡ [] → first ≡ start ++ front → new ≡ first ++ text gap
+    → gap ≡ is → new ≡ front ++ text is
+said start first new front text gap is s e f g = rw (f, e, s, g) refl
 
 pub returns : goal.returns
 returns c = record {
-  front = c.in_ok-text.text.items;
-  at = c.situation-at.result;
-  kind = c.situation-at.ensures.kind ∙ c.in_ok-parts.ensures.kind;
-  before = c.situation-at.ensures.before ∙ c.in_ok-parts.ensures.before;
-  after = c.situation-at.ensures.right ∙ c.in_ok-parts.ensures.right;
-  bytes = c.situation-at.ensures.bytes ∙ c.in_ok-parts.ensures.bytes;
-  hashes = c.situation-at.ensures.hashes ∙ c.in_ok-parts.ensures.hashes;
-  keys = c.situation-at.ensures.keys ∙ c.in_ok-parts.ensures.keys;
-  logged = c.in_ok-values.values;
-  values = c.in_ok-values.ensures;
-  text_is = c.in_ok-push_advice.ensures;
+  text = record {
+    at = c.situation-at.result;
+    step = record {
+      kind = c.situation-at.ensures.kind ∙ c.in_ok-parts.ensures.kind;
+      before = c.situation-at.ensures.before ∙ c.in_ok-parts.ensures.before;
+      agreed = c.situation-at.ensures.agreed ∙ c.in_ok-parts.ensures.agreed;
+      after = c.situation-at.ensures.right ∙ c.in_ok-parts.ensures.right;
+      bytes = c.situation-at.ensures.bytes ∙ c.in_ok-parts.ensures.bytes;
+      data_is = c.situation-at.ensures.data_is ∙ c.in_ok-parts.ensures.data_is;
+      secret = c.situation-at.ensures.secret ∙ c.in_ok-parts.ensures.secret;
+      secrets = c.situation-at.ensures.secrets ∙ ap (secrets_of c.args.facts.now) c.in_ok-parts.ensures.kind;
+      name = c.situation-at.ensures.name;
+      publics = c.situation-at.ensures.publics;
+      hashes = c.situation-at.ensures.hashes ∙ c.in_ok-parts.ensures.hashes;
+      keys = c.situation-at.ensures.keys ∙ c.in_ok-parts.ensures.keys;
+    };
+    logged = c.in_ok-values.values;
+    values = c.in_ok-values.ensures;
+    text_is = said c.new-text.result.items c.push_lacking.new.text.items c.push_advice.new.text.items _
+        (λ gap. advice_text gap c.situation-at.result c.in_ok-values.values c.args.logged.now c.args.expected.now)
+        c.has_gap-gap.result _ c.new-text.ensures.items c.in_ok-push_lacking.ensures.text c.in_ok-push_advice.ensures c.has_gap-gap.ensures.value;
+  };
 }

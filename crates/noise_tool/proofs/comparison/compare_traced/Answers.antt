@@ -17,6 +17,7 @@ returns-in-Ok-clause-made c = λ file runs. record {
     shown = runs.shown refl;
     words_are = c.in_ok-right.ensures;
   };
+  facts = c.args.facts.now;
   compared = c.in_ok-report-in-Ok.report.text.items;
   reported = rw (c.deref-in-Ok.ensures.value, c.deref-in-Ok-2.ensures.value, sym c.in_ok-with_others-in-Ok.ensures.finding) at c.in_ok-report-in-Ok.ensures;
   text_is = rw (c.saturating_sub-others.ensures, c.in_ok-written_lines-in-Ok.ensures, c.len.ensures, c.in-Ok.lines.ok.0) at c.in_ok-with_others-in-Ok.ensures.text;
