@@ -3,6 +3,7 @@ beside them are right ones, so that who refuses all of them fails, too."""
 
 from __future__ import annotations
 
+import re
 import subprocess
 from typing import Any
 
@@ -55,10 +56,11 @@ PATTERNS = (
     ("7.3", "PP:/  <- s/  .../  -> e/  <- e, es", "es, and no ee, before the responder encrypts"),
     ("7.3", "PQ:/  -> s/  <- s/  .../  -> e, es/  <- e, ee, se, ss/  -> s", "a static key that is known beforehand"),
     ("7.3", "PQQ:/  -> s/  <- s/  .../  -> e, es, ss/  <- e, ee", "ss, and no se, before the responder encrypts"),
-    ("7.3", "PRR:/  -> e/  <- e, se/  -> s, ee", "a DH before its first key"),
+    ("7.3", "PRR:/  -> e/  <- e, ee, se/  -> s", "a DH before its first key"),
     ("7.3", "PSS:/  -> s/  <- s/  .../  -> e, ss/  <- e, ee, se, es", "ss, and es later than the initiator encrypts"),
     ("9.3", "PRpsk0:/  -> psk, s/  <- e, se/  -> e, ee", "a psk, and e later than the initiator encrypts"),
     ("9.3", "PSpsk1:/  -> e, psk/  <- s", "a psk, and no e, before the responder encrypts"),
+    ("9.3", "PRSpsk0:/  -> psk, s, e/  <- e, ee, se", "a psk, and e later than the initiator's s"),
     ("9.3", "PTpsk1:/  <- s/  .../  -> e, psk/  <- ee, e", "ee before its second key"),
     ("9.4", "QApsk1:/  -> e/  <- e, ee", "a modifier, and no psk"),
     ("9.4", "QA:/  -> psk, e/  <- e, ee", "a psk, and no modifier"),
@@ -118,7 +120,7 @@ def names(command: Command, groups: dict[str, Group]) -> list[Test]:
     for name, what, flag in wrong:
         place = asked(command, "show", "", name)
         assert place, name
-        setup = base | {"protocol": name, "psks": base["psks"][: name.lower().count("psk")]}
+        setup = base | {"protocol": name, "psks": base["psks"][: len(re.findall(r"sk\d", name))]}
         made.append(with_optional(told(f"a name: {what}", flag, "invalid", "name", place, setup, "initiator")))
     for section in RIGHT_NAMES:
         group = groups[section]
