@@ -293,19 +293,19 @@ func TestInterruptedEnd(t *testing.T) {
 	must(t, soon(t, "Close", func() error { return <-closed }))
 }
 
-// waiting is a connection whose Write returns late, and that calls a function when Close begins to wait for it.
-type waiting struct {
+// hooked is a connection whose Write returns late, and that calls a function when Close begins to wait for it.
+type hooked struct {
 	net.Conn
 	waits func()
 }
 
-func (w *waiting) Write(b []byte) (int, error) {
+func (w *hooked) Write(b []byte) (int, error) {
 	n, err := w.Conn.Write(b)
 	time.Sleep(100 * time.Millisecond)
 	return n, err
 }
 
-func (w *waiting) SetWriteDeadline(at time.Time) error {
+func (w *hooked) SetWriteDeadline(at time.Time) error {
 	if at.Equal(longAgo) {
 		w.waits()
 	}
@@ -319,7 +319,7 @@ func TestWriteAfterClose(t *testing.T) {
 	a, b := tcp(t)
 	var c *Conn
 	second := make(chan error, 1)
-	c = newConn(&waiting{a, func() {
+	c = newConn(&hooked{a, func() {
 		go func() { _, err := c.Write([]byte("late")); second <- err }()
 		time.Sleep(30 * time.Millisecond) // it waits for its turn
 	}}, client, true, 0)

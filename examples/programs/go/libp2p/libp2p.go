@@ -1,40 +1,18 @@
-// Package libp2p makes a channel as libp2p's noise does, between peers with ed25519 identities: XX with an empty
-// prologue, each message after its length in two bytes, and in messages 2 and 3 a payload with the identity and its
-// signature of the static key.
+// Package libp2p makes a channel as libp2p's noise does, between peers with identities of Ed25519, ECDSA or RSA: XX
+// with an empty prologue, each message after its length in two bytes, and in messages 2 and 3 a payload with the
+// identity and its signature of the static key.
 package libp2p
 
 import (
 	"context"
-	"crypto/ed25519"
+	"crypto"
 	"encoding/binary"
-	"errors"
 	"io"
 	"net"
 	"sync"
 
 	"example.org/yulimosar/noise"
 )
-
-const signedPrefix = "noise-libp2p-static-key:"
-
-// The fields of the payload and of a key, and ed25519 as the type of a key.
-const (
-	payloadKey, payloadSignature = 1, 2
-	keyType, keyData             = 1, 2
-	typeEd25519                  = 1
-)
-
-var (
-	errPayload  = errors.New("not a payload of libp2p's")
-	errIdentity = errors.New("the identity hasn't signed the static key, or isn't ed25519")
-)
-
-// payload returns the payload of a party: its identity, and the signature of its static key.
-func payload(identity ed25519.PrivateKey, static noise.PublicKey) []byte {
-	key := append([]byte{keyType << 3, typeEd25519}, field(keyData, identity.Public().(ed25519.PublicKey))...)
-	signature := ed25519.Sign(identity, append([]byte(signedPrefix), static[:]...))
-	return append(field(payloadKey, key), field(payloadSignature, signature)...)
-}
 
 // field is a field of a protocol buffer that has bytes.
 func field(tag byte, value []byte) []byte {
@@ -67,48 +45,67 @@ func fields(b []byte) (numbers map[uint64]uint64, values map[uint64][]byte, err 
 	return numbers, values, nil
 }
 
-// identityOf returns the identity of a party, if it has signed the static key.
-func identityOf(payload []byte, static noise.PublicKey) (ed25519.PublicKey, error) {
-	_, outer, err := fields(payload)
-	if err != nil {
-		return nil, err
-	}
-	kind, inner, err := fields(outer[payloadKey])
-	if err != nil {
-		return nil, err
-	}
-	key := inner[keyData]
-	if kind[keyType] != typeEd25519 || len(key) != ed25519.PublicKeySize ||
-		!ed25519.Verify(key, append([]byte(signedPrefix), static[:]...), outer[payloadSignature]) {
-		return nil, errIdentity
-	}
-	return append(ed25519.PublicKey(nil), key...), nil
-}
-
-// Channel is a secured connection. It has no end of its own: that the other party has sent all, a
-// protocol above has to say.
+// Channel is a secured connection, and a net.Conn. It has no end of its own: that the other party has sent all, a
+// protocol above has to say. After a deadline that has passed in Read, a later Read goes on; after any error of Write
+// nothing more can be written.
 type Channel struct {
-	Remote  ed25519.PublicKey // the other party's identity
-	conn    net.Conn
-	sender  *noise.Sender
-	in      *noise.Receiver
-	rest    []byte
-	writing sync.Mutex
+	net.Conn
+	Remote   crypto.PublicKey // the other party's identity
+	sender   *noise.Sender
+	receiver *noise.Receiver
+
+	in   sync.Mutex
+	came []byte // what has come of a message, with its length
+	rest []byte // what wasn't read yet of one
+
+	out      sync.Mutex
+	writeErr error
 }
 
-// Secure runs the handshake over conn. It calls verify, which decides on the other party, with that party's identity.
+// Secure runs the handshake over conn, which it closes at an error, and when the context ends first. It calls verify,
+// which decides on the other party, with that party's identity: an ed25519.PublicKey, *ecdsa.PublicKey or
+// *rsa.PublicKey. This party's is a private key of these kinds, or a device's.
 func Secure(
 	ctx context.Context,
 	conn net.Conn,
-	identity ed25519.PrivateKey,
+	identity crypto.Signer,
 	initiator bool,
-	verify func(ed25519.PublicKey) error,
+	verify func(crypto.PublicKey) error,
 ) (*Channel, error) {
-	static, err := noise.GenerateKeyPair()
+	c := &Channel{Conn: conn}
+	stop, ended := make(chan struct{}), make(chan bool)
+	go func() {
+		select {
+		case <-ctx.Done():
+			conn.Close()
+			ended <- true
+		case <-stop:
+			ended <- false
+		}
+	}()
+	err := c.shake(ctx, identity, initiator, verify)
+	close(stop)
+	if <-ended {
+		err = ctx.Err()
+	}
 	if err != nil {
+		conn.Close()
 		return nil, err
 	}
-	c := &Channel{conn: conn}
+	return c, nil
+}
+
+func (c *Channel) shake(
+	ctx context.Context, identity crypto.Signer, initiator bool, verify func(crypto.PublicKey) error,
+) error {
+	static, err := noise.GenerateKeyPair()
+	if err != nil {
+		return err
+	}
+	own, err := payload(identity, static.Public())
+	if err != nil {
+		return err
+	}
 	h, err := noise.NewHandshakeState(&noise.Config{
 		Pattern: "XX",
 		Static:  static,
@@ -120,16 +117,16 @@ func Secure(
 		},
 	}, initiator)
 	if err != nil {
-		return nil, err
+		return err
 	}
 	defer h.Close()
 	for !h.Done() {
-		if err := c.pass(ctx, h, payload(identity, static.Public())); err != nil {
-			return nil, err
+		if err := c.pass(ctx, h, own); err != nil {
+			return err
 		}
 	}
-	c.sender, c.in, err = h.Split()
-	return c, err
+	c.sender, c.receiver, err = h.Split()
+	return err
 }
 
 // pass passes one message of the handshake. The first has no payload, since nothing of it is encrypted.
@@ -149,32 +146,46 @@ func (c *Channel) pass(ctx context.Context, h *noise.HandshakeState, payload []b
 		return err
 	}
 	binary.BigEndian.PutUint16(message, uint16(len(message)-2))
-	_, err = c.conn.Write(message)
+	_, err = c.Conn.Write(message)
 	return err
 }
 
 // frame receives a message. io.EOF says that the connection has ended before it, and io.ErrUnexpectedEOF within it.
+// What has come of one before another error is kept.
 func (c *Channel) frame() ([]byte, error) {
-	var length [2]byte
-	if _, err := io.ReadFull(c.conn, length[:]); err != nil {
-		return nil, err
+	for {
+		wanted := 2 - len(c.came)
+		if len(c.came) >= 2 {
+			wanted = 2 + int(binary.BigEndian.Uint16(c.came)) - len(c.came)
+		}
+		if wanted == 0 {
+			message := c.came[2:]
+			c.came = nil
+			return message, nil
+		}
+		room := make([]byte, wanted)
+		n, err := io.ReadAtLeast(c.Conn, room, 1)
+		c.came = append(c.came, room[:n]...)
+		switch {
+		case err == io.EOF && len(c.came) > 0:
+			return nil, io.ErrUnexpectedEOF
+		case err != nil:
+			return nil, err
+		}
 	}
-	message := make([]byte, binary.BigEndian.Uint16(length[:]))
-	if _, err := io.ReadFull(c.conn, message); err != nil {
-		return nil, io.ErrUnexpectedEOF
-	}
-	return message, nil
 }
 
 // Read reads what the other party has written.
 func (c *Channel) Read(b []byte) (int, error) {
-	for len(c.rest) == 0 {
+	c.in.Lock()
+	defer c.in.Unlock()
+	for len(c.rest) == 0 && len(b) > 0 {
 		message, err := c.frame()
 		if err != nil {
 			return 0, err
 		}
-		if c.rest, err = c.in.Open(message[:0], message); err != nil {
-			c.conn.Close()
+		if c.rest, err = c.receiver.Open(message[:0], message); err != nil {
+			c.Conn.Close()
 			return 0, err
 		}
 	}
@@ -185,9 +196,9 @@ func (c *Channel) Read(b []byte) (int, error) {
 
 // Write writes b, in messages of at most 65519 bytes.
 func (c *Channel) Write(b []byte) (int, error) {
-	c.writing.Lock()
-	defer c.writing.Unlock()
-	for sent := 0; ; {
+	c.out.Lock()
+	defer c.out.Unlock()
+	for sent := 0; c.writeErr == nil; {
 		n := len(b) - sent
 		if most := noise.MaxMessage - noise.TagLen; n > most {
 			n = most
@@ -195,16 +206,14 @@ func (c *Channel) Write(b []byte) (int, error) {
 		frame, err := c.sender.Seal(make([]byte, 2, 2+n+noise.TagLen), b[sent:sent+n])
 		if err == nil {
 			binary.BigEndian.PutUint16(frame, uint16(len(frame)-2))
-			_, err = c.conn.Write(frame)
+			_, err = c.Conn.Write(frame)
 		}
-		if err != nil {
+		if c.writeErr = err; err != nil {
 			return sent, err
 		}
 		if sent += n; sent == len(b) {
 			return sent, nil
 		}
 	}
+	return 0, c.writeErr
 }
-
-// Close closes the connection.
-func (c *Channel) Close() error { return c.conn.Close() }

@@ -3,6 +3,7 @@ package libp2p
 import (
 	"bytes"
 	"context"
+	"crypto"
 	"crypto/ed25519"
 	"crypto/rand"
 	"encoding/binary"
@@ -108,8 +109,8 @@ func TestWithFlynn(t *testing.T) {
 		a, b := net.Pipe()
 		o, shaken := &other{conn: b, identity: theirs, signed: "noise-libp2p-static-key:"}, make(chan error, 1)
 		go func() { shaken <- o.shake(!initiator) }()
-		c, err := Secure(context.Background(), a, mine, initiator, func(key ed25519.PublicKey) error {
-			if !key.Equal(public) {
+		c, err := Secure(context.Background(), a, mine, initiator, func(key crypto.PublicKey) error {
+			if !public.Equal(key) {
 				t.Error("another identity")
 			}
 			return nil
@@ -130,7 +131,7 @@ func TestWithFlynn(t *testing.T) {
 			must(t, err)
 			got = append(got, text...)
 		}
-		if !bytes.Equal(got, long) || !c.Remote.Equal(public) {
+		if !bytes.Equal(got, long) || !public.Equal(c.Remote) {
 			t.Error("other bytes came than were sent")
 		}
 		sealed, err := o.send.Encrypt(nil, nil, []byte("pong"))
@@ -167,7 +168,7 @@ func TestIdentities(t *testing.T) {
 			a, b := net.Pipe()
 			o := &other{conn: b, identity: theirs, signed: it.signed}
 			go o.shake(!initiator)
-			refuse := func(ed25519.PublicKey) error { return unwanted }
+			refuse := func(crypto.PublicKey) error { return unwanted }
 			if _, err := Secure(context.Background(), a, mine, initiator, refuse); !errors.Is(err, it.want) {
 				t.Error(err)
 			}

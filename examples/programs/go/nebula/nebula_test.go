@@ -81,26 +81,29 @@ func node(t *testing.T) (room, address string, said *nodeLog) {
 	return room, fmt.Sprintf("127.0.0.1:%d", port), started(t, exec.Command("nebula", "-config", room+"/node.yml"))
 }
 
-// nodeLog is what a node says.
+// nodeLog is what a node says. The buffer isn't embedded: os/exec would copy by its ReadFrom, past the mutex.
 type nodeLog struct {
 	mutex sync.Mutex
-	bytes.Buffer
+	text  bytes.Buffer
 }
 
 func (l *nodeLog) Write(b []byte) (int, error) {
 	l.mutex.Lock()
 	defer l.mutex.Unlock()
-	return l.Buffer.Write(b)
+	return l.text.Write(b)
+}
+
+func (l *nodeLog) String() string {
+	l.mutex.Lock()
+	defer l.mutex.Unlock()
+	return l.text.String()
 }
 
 // says waits for words in the log.
 func (l *nodeLog) says(t *testing.T, words string) {
 	t.Helper()
 	for end := time.Now().Add(10 * time.Second); ; time.Sleep(20 * time.Millisecond) {
-		l.mutex.Lock()
-		isSaid := strings.Contains(l.String(), words)
-		l.mutex.Unlock()
-		if isSaid {
+		if strings.Contains(l.String(), words) {
 			return
 		}
 		if time.Now().After(end) {
