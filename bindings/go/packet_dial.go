@@ -24,7 +24,12 @@ func (p PacketConfig) Dial(ctx context.Context, network, address string) (*Packe
 	if err != nil {
 		return nil, err
 	}
-	if network = "udp6"; to.IP.To4() != nil || to.IP == nil {
+	if to.IP == nil || to.IP.Equal(net.IPv4zero) {
+		to.IP = net.IPv4(127, 0, 0, 1) // this system, as net.Dial has it: its answers come from there
+	} else if to.IP.IsUnspecified() {
+		to.IP = net.IPv6loopback
+	}
+	if network = "udp6"; to.IP.To4() != nil {
 		network = "udp4"
 	}
 	conn, err := net.ListenPacket(network, ":0")

@@ -294,11 +294,11 @@ func (l *PacketListener) begin(key begunKey, message []byte, from net.Addr, came
 }
 
 func (l *PacketListener) givingWay() *begunPackets {
-	var all []waiting
+	var all []halfDone
 	var listed []*begunPackets
 	for e := l.order.Front(); e != nil; e = e.Next() {
 		b := e.Value.(*begunPackets)
-		all, listed = append(all, waiting{b.host, b.isDone}), append(listed, b)
+		all, listed = append(all, halfDone{b.host, b.isDone}), append(listed, b)
 	}
 	return listed[givesWay(all)]
 }

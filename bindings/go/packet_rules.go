@@ -66,9 +66,9 @@ const (
 
 // decideFirst decides what is done at a first message in a datagram of `came` bytes, to which `answer` bytes would be
 // sent. isShown is whether a right cookie came with it.
-func decideFirst(halfDone, busy int, isShown bool, came, answer int) firstAnswer {
+func decideFirst(count, busy int, isShown bool, came, answer int) firstAnswer {
 	switch {
-	case isShown || halfDone < busy && maySend(came, 0, answer, false):
+	case isShown || count < busy && maySend(came, 0, answer, false):
 		return answerMessage
 	case maySend(came, 0, cookieReplyLen, false):
 		return answerCookie
@@ -81,14 +81,14 @@ func maySend(came, sent, length int, isShown bool) bool {
 	return isShown || sent+length <= mostTimes*came
 }
 
-// waiting is a handshake that isn't established: its host, and whether all its messages have passed.
-type waiting struct {
+// halfDone is a handshake that isn't established: its host, and whether all its messages have passed.
+type halfDone struct {
 	host   string
 	isDone bool
 }
 
 // givesWay returns which handshake is closed where there are too many: its place in the list, the oldest first.
-func givesWay(begun []waiting) int {
+func givesWay(begun []halfDone) int {
 	isAllDone := true
 	for _, it := range begun {
 		isAllDone = isAllDone && it.isDone

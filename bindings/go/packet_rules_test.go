@@ -200,9 +200,9 @@ func TestPacketRulesOfFirstMessages(t *testing.T) {
 		same(t, fmt.Sprintf("%+v", it), begun, it.Begin)
 	}
 	for _, it := range cases.GivesWay {
-		var begun []waiting
+		var begun []halfDone
 		for _, one := range it.Begun {
-			begun = append(begun, waiting{one.Host, one.Done})
+			begun = append(begun, halfDone{one.Host, one.Done})
 		}
 		same(t, fmt.Sprintf("%+v", it), givesWay(begun), it.Place)
 	}

@@ -426,6 +426,34 @@ func TestPacketFaults(t *testing.T) {
 	}
 }
 
+// TestPacketAddresses dials what net.Dial takes.
+func TestPacketAddresses(t *testing.T) {
+	initiator, responder := packetConfigs(t, "NNpsk0")
+	l, err := ListenPacket("udp", ":0", responder)
+	if err != nil {
+		t.Fatal(err)
+	}
+	defer l.Close()
+	echoPackets(l)
+	port := l.Addr().(*net.UDPAddr).Port
+	for _, host := range []string{"", "0.0.0.0", "127.0.0.1", "localhost", "[::1]", "[::]"} {
+		if probe, err := net.ListenPacket("udp6", "[::1]:0"); err == nil {
+			probe.Close()
+		} else if strings.HasPrefix(host, "[") {
+			continue // no IPv6 here
+		}
+		s, err := DialPacket("udp", fmt.Sprintf("%s:%d", host, port), initiator)
+		if err != nil {
+			t.Errorf("%q: %v", host, err)
+			continue
+		}
+		if err := getBack(s, "text"); err != nil {
+			t.Errorf("%q: %v", host, err)
+		}
+		s.Close()
+	}
+}
+
 // TestPacketVerifyWaits has a VerifyPeer that waits for one client, and no other client waits for it.
 func TestPacketVerifyWaits(t *testing.T) {
 	initiator, responder := packetConfigs(t, "IK")

@@ -222,3 +222,27 @@ def test_a_session_of_another_key_at_the_address_does_not_replace(each_loop):
             for channel in channels:
                 channel.close()
     run(main)
+
+
+def test_a_peer_that_is_closed_as_it_connects_gets_no_payload(each_loop, monkeypatch):
+    closed = []
+
+    def close(_protocol, peer):
+        closed.append(peer)
+        peer.close()
+
+    async def main(_result):
+        first, second = configs("XX")
+        async with server_behind(second) as (server, address), raw_at(address) as raw:
+            monkeypatch.setattr(type(server), "peer_connected", close)
+            channel = DatagramChannel(first, True)
+            while channel.agreed is None:
+                for datagram in channel.datagrams_to_send():
+                    raw.transport.sendto(datagram)
+                channel.receive(await raw.next())
+            channel.send(b"text")
+            raw.transport.sendto(channel.datagrams_to_send()[-1])    # the first that opens has a payload
+            await until(lambda: closed)
+            assert server.came.empty() and not server._peers and not server._firsts
+            channel.close()
+    run(main)

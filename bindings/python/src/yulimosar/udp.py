@@ -159,7 +159,7 @@ class DatagramProtocol(asyncio.DatagramProtocol):
             return
         peer.heard = self.loop.time()
         self._flush(channel, peer.address)
-        if payload is not None:
+        if payload is not None and self._peers.get(index) is peer:    # `peer_connected` may have closed it
             self.payload_received(peer, payload)
 
     # An initiator.
