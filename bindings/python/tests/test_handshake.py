@@ -581,3 +581,25 @@ def test_a_psk_is_taken_back_by_a_call():
     responder.close()
     with pytest.raises(CallError):
         responder.unset_psk()
+
+
+def test_bytes_of_two_arguments_may_overlap():
+    """No call writes from one buffer of the caller's to another: what has to be worked on in place is copied first."""
+    initiator, responder = pair("NN")
+    shake(initiator, responder)
+    send, receive = initiator.ciphers()[0], responder.ciphers()[1]
+    room = memoryview(bytearray(os.urandom(128)))
+    for place in range(0, 97):
+        ad, text = room[place:place + 16], room[40:72]
+        message = send.encrypt_with_ad(ad, text)
+        opened = memoryview(bytearray(message + bytes(64)))
+        assert receive.decrypt_with_ad(bytes(ad), opened[:len(message)]) == bytes(text)
+    for place in range(0, 49):
+        whole = bytearray(64)
+        whole[place:place + 16] = b"sixteen bytes ad"
+        message = send.encrypt_with_ad(b"sixteen bytes ad", b"")
+        whole[48:64] = message
+        if place <= 32:
+            assert receive.decrypt_with_ad(memoryview(whole)[place:place + 16], memoryview(whole)[48:]) == b""
+        else:
+            assert receive.decrypt_with_ad(b"sixteen bytes ad", memoryview(whole)[48:]) == b""
