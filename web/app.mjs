@@ -5,6 +5,7 @@ import { element, refocus, speak } from './element.mjs';
 import * as link from './link.mjs';
 import { MOST } from './own.mjs';
 import { textOf } from './patterns.mjs';
+import { SAYS, hasSecret } from './secret.mjs';
 
 const at = (id) => document.getElementById(id);
 const STARTED = { text: textOf('XX'), prologue: 'my protocol 1', interval: 0 };
@@ -86,7 +87,7 @@ function showRun() {
 
 /** The page's address has the set-up, and this tab alone keeps the run that belongs to it. */
 function keepNow() {
-  const steps = page.run && !page.isStale ? page.run.steps : [];
+  const steps = page.run && !page.isStale && !hasSecret(page.setup.text) ? page.run.steps : [];
   entry = late.kept(history.state, link.write(page.setup), link.written(steps));
   history.replaceState(entry, '', link.address(page.setup));
 }
@@ -119,7 +120,14 @@ function changed(isTyped = false) {
   showRun();
 }
 
+/** Says that a text isn't kept, as long as that is so. */
+function tellSecret(text, before) {
+  if (hasSecret(text) === hasSecret(before)) return;
+  notice(hasSecret(text) ? [SAYS, 'It goes into no address, and the page doesn’t keep it.'] : []);
+}
+
 function patternChanged(text, plan, isTyped) {
+  tellSecret(text, page.setup.text);
   page.setup.text = text;
   page.plan = plan;
   page.shape?.show();

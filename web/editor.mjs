@@ -8,6 +8,7 @@ import * as own from './own.mjs';
 import { DEFERRED, FUNDAMENTAL, textOf } from './patterns.mjs';
 import { layout, linesOf } from './plan.mjs';
 import { faultsOf } from './reading.mjs';
+import { hasSecret } from './secret.mjs';
 
 /** How long after the last key the verdict is said, in milliseconds. */
 const QUIET = 600;
@@ -140,7 +141,8 @@ export class Editor {
       });
       this.#places.append(element('label', '', box, String(place)));
     }
-    this.#text.addEventListener('input', () => this.judge());
+    // A text that is put in comes in one event for each line: it is judged once, when all is there.
+    this.#text.addEventListener('input', () => { if (!this.#isReplacing) this.judge(); });
     this.#text.addEventListener('scroll', () => {
       this.#marks.scrollTop = this.#text.scrollTop;
       this.#marks.scrollLeft = this.#text.scrollLeft;
@@ -176,7 +178,7 @@ export class Editor {
   /** Keeps a design of one's own: in the place of what it was typed out of, if that has its name. */
   remember() {
     const { text } = this;
-    if (standardOf(text) || text.trim() === '') return;
+    if (standardOf(text) || text.trim() === '' || hasSecret(text)) return;
     const former =
       this.#former !== undefined && own.nameOf(this.#former) === own.nameOf(text) ? this.#former : undefined;
     if (own.remember(text, former)) this.#former = text;
@@ -243,6 +245,7 @@ export class Editor {
     this.#text.focus({ preventScroll: true });
     this.#text.setSelectionRange(from, to);
     const isDone = middle === '' ? document.execCommand('delete') : document.execCommand('insertText', false, middle);
+    if (isDone) this.judge();
     this.#text.inputMode = '';
     if (activeElement === document.body) this.#text.blur();
     else activeElement?.focus({ preventScroll: true });

@@ -2,9 +2,16 @@
 // of this page. There is no DOM here.
 import { unhex } from './bytes.mjs';
 import { textOfName } from './patterns.mjs';
+import { SAYS, hasSecret } from './secret.mjs';
 
 /** How many bytes a file may have that is opened. */
 export const MOST = 4194304;
+
+/** What isn't taken, since it may have keys. */
+const REFUSED = {
+  says: `${SAYS} It isn’t taken. A vector file begins with its line “vector 1” or “vector 2”; `
+    + 'the page “Check your own implementation” says what to do with a log.',
+};
 
 const withoutComments = (text) =>
   text
@@ -29,6 +36,7 @@ function ofVector(text) {
   const end = lines.indexOf('end');
   const pattern = end > 2 ? `${lines.slice(2, end).join('\n')}\n` : textOfName(word('protocol') ?? '');
   if (!pattern) return { says: 'This vector file has no pattern that the page knows.' };
+  if (hasSecret(pattern)) return REFUSED;
   const prologue = prologueOf(word('prologue') ?? '-');
   const setup = {
     text: pattern,
@@ -51,14 +59,16 @@ export function intake(given) {
   const text = given.replace(/^\ufeff/, '').replaceAll('\r\n', '\n');
   const word = text.trim();
   if (/^\S+#\S*\bpattern=\S*$/.test(word) || /^#pattern=\S*$/.test(word)) {
-    return { fragment: word.slice(word.indexOf('#')), says: 'The link is followed.' };
+    const fragment = word.slice(word.indexOf('#'));
+    if (hasSecret(new URLSearchParams(fragment.slice(1)).get('pattern') ?? '')) return REFUSED;
+    return { fragment, says: 'The link is followed.' };
   }
   if (/^vector [12]\n/.test(text)) return ofVector(text);
   const named = /^Noise_\S+$/.test(word) ? textOfName(word) : undefined;
   if (named) return { setup: { text: named }, says: 'The pattern of this name is taken.' };
   const bare = withoutComments(text);
-  if (/#/.test(text) && /^\S+:\n/.test(bare)) {
+  if (/#/.test(text) && /^\S+:\n/.test(bare) && !hasSecret(bare)) {
     return { setup: { text: bare }, says: 'The pattern is taken, without its comments.' };
   }
-  return undefined;
+  return hasSecret(text) ? REFUSED : undefined;
 }

@@ -1,5 +1,6 @@
 // The set-up in the fragment of the page's address, and a run's steps. No keys are in it; payloads are in the steps.
 import { hex, unhex } from './bytes.mjs';
+import { hasSecret } from './secret.mjs';
 
 const MODES = ['transport', 'stream', 'datagrams'];
 /** How many steps of a run a link has at most. */
@@ -112,6 +113,7 @@ export function write({ text, prologue, interval, mode, window, ownPsks, beside 
 
 /** Why no link can have a set-up and these steps, or ''. */
 export function whyNot(setup, steps = []) {
+  if (hasSecret(setup.text)) return 'the text has 32 hex digits in a row, as a key has';
   if (setup.text.length > MOST_TEXT || setup.prologue.length > MOST_TEXT) {
     return `a link has at most ${MOST_TEXT} characters of a pattern, and as many of a prologue`;
   }

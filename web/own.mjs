@@ -2,6 +2,7 @@
 // last as long as the page. None is left out for another: two with one name are both kept, and what is over the most is
 // said.
 import { visible } from './bytes.mjs';
+import { hasSecret } from './secret.mjs';
 
 const PLACE = 'noise-patterns';
 /** How many are kept, and how long one may be. */
@@ -9,13 +10,15 @@ export const MOST = 200;
 export const LONGEST = 2000;
 let kept = [];
 
-const isText = (text) => typeof text === 'string' && text.length <= LONGEST;
+/** Whether a text may be kept. */
+export const isText = (text) => typeof text === 'string' && text.length <= LONGEST && !hasSecret(text);
 
 /** Takes what is kept: another page of this browser may have kept more since. */
 function read() {
   try {
     const found = JSON.parse(localStorage.getItem(PLACE) ?? '[]');
     kept = Array.isArray(found) ? found.filter(isText) : [];
+    if (kept.length < found.length) write();    // what may not be kept was, by an earlier page
   } catch { /* nothing is kept here */ }
 }
 

@@ -5,6 +5,7 @@ import { before, test } from 'node:test';
 import { load } from '../../bindings/js/module.mjs';
 import { visible } from '../../web/bytes.mjs';
 import { intake } from '../../web/intake.mjs';
+import * as own from '../../web/own.mjs';
 import { MOST_TEXT, address, faultOf, isLocal, isSetup, read, readRun, whyNot, write } from '../../web/link.mjs';
 import { textOf } from '../../web/patterns.mjs';
 import { picture, words } from '../../web/picture.mjs';
@@ -81,6 +82,30 @@ test('the page’s own address has no run, and nothing too long', () => {
   const steps = Array(300).fill({ step: 'write', role: 'initiator', payload: new Uint8Array(2000) });
   assert.match(whyNot(SETUP, steps), /^it would have \d+ characters, and a link can have 60000$/);
   assert.equal(whyNot(SETUP, steps.slice(0, 14)), '');
+});
+
+test('what may have a key goes into no address and no link, isn’t kept, and isn’t taken', () => {
+  const key = '00112233445566778899aabbccddeeff'.repeat(2);
+  const vector = `vector 2\nprotocol Noise_XX_25519_ChaChaPoly_SHA256\ninitiator keys ${key} -\n`;
+  for (const text of [key, key.toUpperCase(), `k ${key.slice(0, 32)}\n`, `M:\n  -> e\n${key}\n`, vector]) {
+    assert.equal(address({ ...SETUP, text }), '#', text);
+    assert.match(whyNot({ ...SETUP, text }), /32 hex digits/);
+    assert.equal(own.remember(text), false);
+    assert.equal(own.has(text), false);
+  }
+  const given = [
+    ` ${vector}`, `\n${vector}`, `# of ours\n${vector}`, vector.replaceAll('\n', '\r'), `initiator k1 ${key}\n`, key,
+    `M:\n  -> e   # a comment\n${key}\n`, `vector 2\nprotocol none\nk ${key}\nend\n`,
+    `https://example.org/#pattern=${key}&mode=stream`,
+  ];
+  for (const text of given) {
+    const found = intake(text);
+    assert.match(found?.says ?? '', /^This text has 32 hex digits in a row/, text);
+    assert.deepEqual([found.setup, found.fragment], [undefined, undefined]);
+  }
+  assert.deepEqual(intake(`# ${key}\nM:\n  -> e\n`).setup, { text: 'M:\n  -> e\n' });
+  assert.ok(intake(vector).setup, 'a vector file, of which no key is taken');
+  assert.equal(intake('0123456789abcdef0123456789abcde'), undefined);
 });
 
 test('a link that the page makes can be read', () => {
