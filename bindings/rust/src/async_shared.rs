@@ -41,6 +41,10 @@ impl<T: AsyncRead + AsyncWrite + Unpin> AsyncStream<T> {
     /// Runs the handshake over `below`, with empty payloads. `accept` is called with the other party's static key as
     /// soon as that is known, and waited for before anything else is read or written. A pattern without such a key, as
     /// NN, is refused before anything is sent: see `anonymous`.
+    ///
+    /// # Errors
+    ///
+    /// The [`Error`] in an `io::Error`, as `Refused`, `Cut`, `Tag` or `KeyPair`, or the error of the stream below.
     pub async fn new<S: Dh, E: Ephemeral, F: Future<Output = bool>>(
         below: T,
         handshake: Handshake<S, E>,
@@ -61,12 +65,20 @@ impl<T: AsyncRead + AsyncWrite + Unpin> AsyncStream<T> {
 
     /// Runs a handshake in which the other party has no static key, or one that you don't compare: with a secret that
     /// both have (psk), or with anybody.
+    ///
+    /// # Errors
+    ///
+    /// As `new`.
     pub async fn anonymous<S: Dh, E: Ephemeral>(below: T, handshake: Handshake<S, E>) -> io::Result<AsyncStream<T>> {
         AsyncStream::open(below, Passing::new(handshake, Peer::Anybody)?, |_| ready(true), |_| ready(None)).await
     }
 
     /// Runs a handshake of [`Builder::late_psks`](crate::Builder::late_psks): at a psk token that lacks its secret
     /// `psk_for` is called and waited for, as [`Stream::with_psk_for`](crate::Stream::with_psk_for) does.
+    ///
+    /// # Errors
+    ///
+    /// As `new`; `Refused` where there is no secret.
     pub async fn with_psk_for<S: Dh, E: Ephemeral, F: Future<Output = Option<[u8; 32]>>>(
         below: T,
         handshake: Handshake<S, E>,
@@ -116,6 +128,10 @@ async fn agreed_later<S: Dh, E: Ephemeral>(passing: &mut Passing<S, E>) -> Resul
 impl<T: AsyncWrite + Unpin> AsyncStream<T> {
     /// Two halves, for two tasks, over those of the stream below: `stream.split(TcpStream::into_split).await?`. It
     /// sends the last message of the handshake, if that wasn't sent.
+    ///
+    /// # Errors
+    ///
+    /// The error of the stream below, or `Aborted`.
     pub async fn split<R, W>(
         mut self,
         split: impl FnOnce(T) -> (R, W),

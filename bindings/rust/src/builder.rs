@@ -24,6 +24,7 @@ use core::fmt;
 /// assert!(handshake.writes_next());
 /// # Ok(()) }
 /// ```
+#[must_use = "it does nothing until `initiator` or `responder` is called"]
 pub struct Builder<'a, S: Dh = NoKey> {
     pattern: &'a str,
     prologue: &'a [u8],
@@ -115,23 +116,41 @@ impl<'a, S: Dh> Builder<'a, S> {
     }
 
     /// Starts as the initiator, which writes the first message, with a new ephemeral key pair: a [`KeyPair`].
+    ///
+    /// # Errors
+    ///
+    /// What is wrong or missing, as `Name`, `StaticMissing`, `RemoteMissing` or `PskCount`; `KeyPair` if no pair is
+    /// drawn.
     #[cfg(any(feature = "x25519", feature = "openssl"))]
     pub fn initiator(self) -> Result<Handshake<S, KeyPair>, Error> {
         self.begin(0)
     }
 
     /// Starts as the responder, with a new ephemeral key pair: a [`KeyPair`].
+    ///
+    /// # Errors
+    ///
+    /// As `initiator`.
     #[cfg(any(feature = "x25519", feature = "openssl"))]
     pub fn responder(self) -> Result<Handshake<S, KeyPair>, Error> {
         self.begin(1)
     }
 
     /// Starts as the initiator, with a new ephemeral key pair of your own type.
+    ///
+    /// # Errors
+    ///
+    /// What is wrong or missing, as `Name`, `StaticMissing`, `RemoteMissing` or `PskCount`; `KeyPair` if no pair is
+    /// drawn.
     pub fn initiator_with<E: Ephemeral>(self) -> Result<Handshake<S, E>, Error> {
         self.begin(0)
     }
 
     /// Starts as the responder, with a new ephemeral key pair of your own type.
+    ///
+    /// # Errors
+    ///
+    /// As `initiator_with`.
     pub fn responder_with<E: Ephemeral>(self) -> Result<Handshake<S, E>, Error> {
         self.begin(1)
     }

@@ -224,6 +224,7 @@ impl DhError {
     /// [`Dh::agree_async`]. `Stream::new` returns `HandshakeError::Interrupted`, whose `resume` calls `agree` again.
     /// `Connecting::step`, and `read` and `write` of a `Handshake`, return this error, change nothing, and are called
     /// again.
+    #[must_use]
     pub fn later() -> DhError {
         #[cfg(feature = "std")]
         return DhError::new(Later);
@@ -232,6 +233,7 @@ impl DhError {
     }
 
     /// Whether it is [`DhError::later`].
+    #[must_use]
     pub fn is_later(&self) -> bool {
         #[cfg(feature = "std")]
         return self.0.is::<Later>();

@@ -95,6 +95,10 @@ impl<S: Dh, E: Ephemeral> Handshake<S, E> {
 
     /// Writes the next message, with this payload, to the start of `out`, and returns its length. At an error, as
     /// `WantedPsk`, nothing is changed.
+    ///
+    /// # Errors
+    ///
+    /// `Room`, `TooLong`, `NotYourTurn`, `Done`, `WantedPsk`, `KeyPair` and `Zeros`.
     pub fn write(&mut self, payload: &[u8], out: &mut [u8]) -> Result<usize, Error> {
         let mut result = CallResult::default();
         loop {
@@ -112,6 +116,10 @@ impl<S: Dh, E: Ephemeral> Handshake<S, E> {
 
     /// Reads the message that is due, in place, and returns its payload. `Short` and `Tag` end the handshake; otherwise
     /// an error, as `WantedPsk`, changes nothing.
+    ///
+    /// # Errors
+    ///
+    /// Also `NotYourTurn`, `Done`, `KeyPair` and `Zeros`.
     pub fn read<'m>(&mut self, message: &'m mut [u8]) -> Result<&'m mut [u8], Error> {
         let payload = self.read_by(raw::Handshake::read, message)?;
         Ok(&mut message[payload])
@@ -306,6 +314,10 @@ impl<S: Dh, E: Ephemeral> Handshake<S, E> {
     }
 
     /// Makes the transport, after all messages have passed.
+    ///
+    /// # Errors
+    ///
+    /// `NotDone` while messages are still due.
     pub fn finish(mut self) -> Result<Transport, Error> {
         let (mut sender, mut receiver) = (raw::Sender::new(), raw::Receiver::new());
         let code = self.memory.finish(self.options.interval, &mut sender, &mut receiver);
@@ -353,6 +365,10 @@ impl<S: Dh, E: Ephemeral> Handshake<S, E> {
     /// Makes the two cipher states of Split (Noise, 5.2), for packets of your own: the one to encrypt what this party
     /// sends, and the one to decrypt what it receives. The one for the responder's messages of a one-way pattern has no
     /// key: each call returns `OneWay` (Noise, 7.4).
+    ///
+    /// # Errors
+    ///
+    /// `NotDone` while messages are still due.
     pub fn finish_ciphers(mut self) -> Result<(SendCipherState, ReceiveCipherState), Error> {
         let (mut send, mut receive) = (raw::Cipher::new(), raw::Cipher::new());
         let code = self.memory.finish_ciphers(&mut send, &mut receive);
@@ -362,6 +378,10 @@ impl<S: Dh, E: Ephemeral> Handshake<S, E> {
 
     /// Makes the state for datagrams, after all messages have passed. A datagram may arrive after others whose numbers
     /// are less than `window` greater: 64, 256 or 1024. No direction is rekeyed: `Builder::interval` does nothing here.
+    ///
+    /// # Errors
+    ///
+    /// `NotDone` while messages are still due, and `Window`.
     pub fn finish_datagrams(mut self, window: u32) -> Result<Datagrams, Error> {
         let (mut sender, mut receiver) = (raw::DatagramSender::new(), raw::DatagramReceiver::new());
         let code = self.memory.finish_datagrams(window, &mut sender, &mut receiver);

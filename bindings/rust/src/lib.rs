@@ -52,6 +52,7 @@
 //! ```
 #![cfg_attr(not(feature = "std"), no_std)]
 #![deny(unsafe_op_in_unsafe_fn, missing_docs, missing_debug_implementations)]
+#![allow(unknown_lints, unexpected_cfgs)] // `sanitized`
 #![allow(clippy::duplicate_mod)] // the code of `AsyncStream` over tokio and over futures-io
 // Some link to what another feature adds.
 #![cfg_attr(not(feature = "tokio"), allow(rustdoc::broken_intra_doc_links))]
@@ -81,8 +82,8 @@ mod key_pair;
 mod pattern;
 #[cfg_attr(not(feature = "alloc"), allow(dead_code))] // streams
 mod raw;
-#[cfg(all(test, feature = "std", any(feature = "x25519", feature = "openssl")))]
-mod stack;
+#[cfg(all(test, not(sanitized), feature = "std", any(feature = "x25519", feature = "openssl")))]
+mod stack; // what it reads no sanitizer allows: RUSTFLAGS="--cfg sanitized"
 #[cfg(feature = "std")]
 mod stream;
 mod transport;

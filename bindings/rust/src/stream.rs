@@ -86,6 +86,11 @@ impl<T: Read + Write> Stream<T> {
     ///
     /// Where this party writes the last message, as the initiator does in XX, `Ok` comes before that message is sent:
     /// `flush` sends it. The other party may still refuse it; then `read` returns an error.
+    ///
+    /// # Errors
+    ///
+    /// `Interrupted` where the stream below or the key pair has to be waited for; `Failed` with the [`Error`], as
+    /// `Refused`, `Cut` or `Tag`, or with the error of the stream below.
     pub fn new<S: Dh, E: Ephemeral>(
         below: T,
         handshake: Handshake<S, E>,
@@ -96,6 +101,10 @@ impl<T: Read + Write> Stream<T> {
 
     /// Runs a handshake in which the other party has no static key, or one that you don't compare: with a secret that
     /// both have (psk), or with anybody.
+    ///
+    /// # Errors
+    ///
+    /// As `new`.
     pub fn anonymous<S: Dh, E: Ephemeral>(
         below: T,
         handshake: Handshake<S, E>,
@@ -194,6 +203,10 @@ impl<T: Write> Stream<T> {
     /// assert_eq!(server.join().unwrap()?, "hello");
     /// # Ok(()) }
     /// ```
+    ///
+    /// # Errors
+    ///
+    /// The error of the stream below, or of `clone`.
     pub fn split(mut self, clone: impl FnOnce(&T) -> io::Result<T>) -> io::Result<(ReadHalf<T>, WriteHalf<T>)> {
         match self.writing.before_a_wait(&mut self.below) {
             Err(error) if !is_wait(&error) => return Err(error),
@@ -208,6 +221,10 @@ impl<T: Write> Stream<T> {
     /// read, and should be, up to its end: a `TcpStream` that is dropped with bytes that were not read
     /// resets the connection, and what the other party hasn't read is lost. After `WouldBlock` or
     /// `TimedOut` a later call continues.
+    ///
+    /// # Errors
+    ///
+    /// `WouldBlock` and `TimedOut` of the stream below: nothing is lost. Its other errors, and `Aborted`, are final.
     pub fn close_write(&mut self) -> io::Result<()> {
         self.writing.end(&mut self.below)
     }
@@ -298,6 +315,7 @@ macro_rules! wants {
     ($($stream:ident: $direction:ident, $wants:ident, $text:literal;)*) => {
         $(impl<T> $stream<T> {
             #[doc = $text]
+            #[must_use]
             pub fn $wants(&self) -> bool {
                 self.$direction.wants()
             }

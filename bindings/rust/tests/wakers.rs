@@ -151,7 +151,7 @@ mod by_events {
         half.with(|below| below.poll_writable(context)).is_ready()
     }
 
-    // What a loop of events does before it calls again: it sends what waits, and reads if it came to read.
+    // Whether a loop of events has to call again.
     trait Events {
         fn is_due(&mut self, reads: bool, context: &mut Context<'_>) -> bool;
     }
@@ -159,9 +159,6 @@ mod by_events {
     impl Events for Stream<Nonblocking> {
         fn is_due(&mut self, reads: bool, context: &mut Context<'_>) -> bool {
             let sends = self.wants_write() && is_writable(self.get_mut(), context);
-            if sends && reads {
-                let _ = self.flush(); // the next call says why it fails
-            }
             sends | (reads && self.wants_read() && is_readable(self.get_mut(), context))
         }
     }
@@ -179,17 +176,20 @@ mod by_events {
     }
 
     macro_rules! polled {
-        ($stream:ident, $context:ident, $reads:literal, $call:expr) => {
+        ($stream:ident, $context:ident, $reads:literal, $call:expr) => {{
+            let mut tries = 0;
             loop {
+                tries += 1;
                 match $call {
                     Err(error) if error.kind() == ErrorKind::WouldBlock => {}
                     answer => break Poll::Ready(answer),
                 }
-                if !$stream.is_due($reads, $context) {
+                // What another call of this task has begun to send that call goes on with.
+                if !$stream.is_due($reads, $context) || $reads && tries == 20 {
                     break Poll::Pending;
                 }
             }
-        };
+        }};
     }
 
     macro_rules! polls {

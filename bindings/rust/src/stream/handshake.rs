@@ -47,6 +47,7 @@ pub enum HandshakeError<T, S: Dh, E: Ephemeral> {
 /// assert_eq!(client.hash(), &server.join().unwrap()?);
 /// # Ok(()) }
 /// ```
+#[must_use = "`resume` continues it"]
 pub struct MidHandshake<T, S: Dh, E: Ephemeral>(Box<Parts<T, S, E>>);
 
 type Passed<T, S, E> = Result<Stream<T>, HandshakeError<T, S, E>>;
@@ -66,17 +67,29 @@ impl<T: Read + Write, S: Dh, E: Ephemeral> MidHandshake<T, S, E> {
     }
 
     /// Continues a handshake of [`Stream::new`]. `accept` isn't called again if it was called before.
+    ///
+    /// # Errors
+    ///
+    /// As [`Stream::new`]; `Refused` where the handshake began by another call.
     pub fn resume(self, accept: impl FnOnce(&[u8; 32]) -> bool) -> Passed<T, S, E> {
         let mut accept = Some(accept);
         self.pass(Peer::Verified, &mut |key| accept.take().map_or(false, |accept| accept(key)), &mut |_| None)
     }
 
     /// Continues a handshake of [`Stream::anonymous`].
+    ///
+    /// # Errors
+    ///
+    /// As `resume`.
     pub fn resume_anonymous(self) -> Passed<T, S, E> {
         self.pass(Peer::Anybody, &mut |_| true, &mut |_| None)
     }
 
     /// Continues a handshake of [`Stream::with_psk_for`].
+    ///
+    /// # Errors
+    ///
+    /// As `resume`; `Refused` where there is no secret.
     pub fn resume_with_psk_for(self, mut psk_for: impl FnMut(&[u8; 32]) -> Option<[u8; 32]>) -> Passed<T, S, E> {
         self.pass(Peer::Chosen, &mut |_| true, &mut psk_for)
     }
@@ -123,11 +136,13 @@ impl<T, S: Dh, E: Ephemeral> MidHandshake<T, S, E> {
 
     /// Whether it waits until the stream below has bytes. Where `wants_write` and this are both false it waits for its
     /// key pair, which has said [`DhError::later`](crate::DhError::later).
+    #[must_use]
     pub fn wants_read(&self) -> bool {
         !self.wants_write() && !is_later(&self.0.error)
     }
 
     /// Whether it waits until the stream below takes bytes.
+    #[must_use]
     pub fn wants_write(&self) -> bool {
         self.0.passing.wants_write()
     }
