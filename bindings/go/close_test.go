@@ -150,7 +150,7 @@ func TestUnreadAtClose(t *testing.T) {
 	client, server := configs(t, "NN")
 	answer := bytes.Repeat([]byte("0123456789"), 300_000)
 	cut := 0
-	for i := 0; i < 20; i++ {
+	for i := 0; i < 4; i++ {
 		c, s := connected(t, client, server)
 		errC, errS := both(c, s)
 		must(t, errC, errS)
@@ -178,7 +178,7 @@ func TestUnreadAtClose(t *testing.T) {
 		must(t, <-served)
 	}
 	if cut > 0 {
-		t.Errorf("%d of 20 answers were cut", cut)
+		t.Errorf("%d of 4 answers were cut", cut)
 	}
 }
 
