@@ -23,7 +23,7 @@ def constants():
     """The parameters `const` of each call of the header, by their places."""
     text = re.sub(r"/\*.*?\*/", " ", text_of(HEADER), flags=re.S)
     found = {}
-    for name, params in re.findall(r"\b(noise_\w+)\(([^;{()]*)\)\s*[,;]", text):
+    for name, params in re.findall(r"\b(noise_\w+)\(([^;{()]*)\)[\sA-Z_]*(?:\([\d, ]*\)\s*)?[,;]", text):
         found[name] = [it.strip().startswith("const ") for it in params.split(",")]
     return found
 
