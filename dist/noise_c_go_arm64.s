@@ -4776,8 +4776,8 @@
 	ldr	w8, [x0]
 	cmp	w8, w17
 	b.ne	.Lnoise_BB11_40
-	adrp	x2, .Lnoise_static.95
-	add	x2, x2, :lo12:.Lnoise_static.95
+	adrp	x2, .Lnoise_static.96
+	add	x2, x2, :lo12:.Lnoise_static.96
 	mov	w1, #5
 	bl	"core::cmp::slices::groups_equal::<i8,31'core::cmp::numbers::U8PartialEq{}>"
 	mov	w17, #8224
@@ -4996,8 +4996,8 @@
 	cmp	w8, w17
 	b.ne	.Lnoise_BB11_81
 	stp	x3, x1, [sp, #24]
-	adrp	x2, .Lnoise_static.95
-	add	x2, x2, :lo12:.Lnoise_static.95
+	adrp	x2, .Lnoise_static.96
+	add	x2, x2, :lo12:.Lnoise_static.96
 	str	x0, [sp, #40]
 	mov	x0, x25
 	mov	w1, #5
@@ -7689,8 +7689,8 @@
 	b.hi	.Lnoise_BB18_28
 	add	x8, sp, #1088
 	add	x10, x8, x21
-	adrp	x8, .Lnoise_static.50
-	add	x8, x8, :lo12:.Lnoise_static.50
+	adrp	x8, .Lnoise_static.51
+	add	x8, x8, :lo12:.Lnoise_static.51
 	sub	x11, x10, x8
 	cmp	x11, #3
 	b.hs	.Lnoise_BB18_11
@@ -7803,8 +7803,8 @@
 	cmp	x9, #6
 	b.lo	.Lnoise_BB18_28
 	add	x9, sp, #536
-	adrp	x10, .Lnoise_static.81
-	add	x10, x10, :lo12:.Lnoise_static.81
+	adrp	x10, .Lnoise_static.82
+	add	x10, x10, :lo12:.Lnoise_static.82
 	add	x9, x9, x8
 	sub	x10, x9, x10
 	cmp	x10, #5
@@ -7896,10 +7896,10 @@
 	and	x10, x8, #0xfffffffffffffffe
 	cmp	x10, #540
 	b.eq	.Lnoise_BB19_23
-	adrp	x9, .Lnoise_static.87
-	add	x9, x9, :lo12:.Lnoise_static.87
-	adrp	x11, .Lnoise_static.88
-	add	x11, x11, :lo12:.Lnoise_static.88
+	adrp	x9, .Lnoise_static.88
+	add	x9, x9, :lo12:.Lnoise_static.88
+	adrp	x11, .Lnoise_static.89
+	add	x11, x11, :lo12:.Lnoise_static.89
 	tst	w1, #0x1
 	mov	x19, x0
 	csel	x9, x11, x9, ne
@@ -7982,8 +7982,8 @@
 	cmp	x8, #540
 	b.eq	.Lnoise_BB19_23
 	add	x8, x19, x25
-	adrp	x9, .Lnoise_static.84
-	add	x9, x9, :lo12:.Lnoise_static.84
+	adrp	x9, .Lnoise_static.85
+	add	x9, x9, :lo12:.Lnoise_static.85
 	sub	x9, x8, x9
 	add	x27, x25, #2
 	cmp	x9, #1
@@ -8938,8 +8938,8 @@
 	movk	w9, #13621, lsl #16
 	cmp	w8, w9
 	b.ne	.Lnoise_BB24_17
-	adrp	x2, .Lnoise_static.97
-	add	x2, x2, :lo12:.Lnoise_static.97
+	adrp	x2, .Lnoise_static.98
+	add	x2, x2, :lo12:.Lnoise_static.98
 	add	x0, x19, x20
 	mov	w1, #24
 	bl	"core::cmp::slices::groups_equal::<i8,31'core::cmp::numbers::U8PartialEq{}>"
@@ -11442,8 +11442,8 @@
 	sub	x1, x29, #240
 	bl	"noise_kdf::keyed::Hmac::new"
 	movi	v0.2d, #0000000000000000
-	adrp	x2, .Lnoise_static.101
-	add	x2, x2, :lo12:.Lnoise_static.101
+	adrp	x2, .Lnoise_static.102
+	add	x2, x2, :lo12:.Lnoise_static.102
 	sub	x0, x29, #176
 	add	x1, sp, #176
 	mov	w3, #1
@@ -11456,8 +11456,8 @@
 	mov	w8, #32
 	sub	x0, x29, #144
 	stur	x8, [x29, #-200]
-	adrp	x8, .Lnoise_static.102
-	add	x8, x8, :lo12:.Lnoise_static.102
+	adrp	x8, .Lnoise_static.103
+	add	x8, x8, :lo12:.Lnoise_static.103
 	add	x1, sp, #176
 	sub	x2, x29, #208
 	mov	w3, #2
@@ -11721,8 +11721,8 @@
 	add	x1, sp, #224
 	bl	"noise_kdf::keyed::Hmac::new"
 	movi	v0.2d, #0000000000000000
-	adrp	x2, .Lnoise_static.101
-	add	x2, x2, :lo12:.Lnoise_static.101
+	adrp	x2, .Lnoise_static.102
+	add	x2, x2, :lo12:.Lnoise_static.102
 	sub	x0, x29, #160
 	add	x1, sp, #16
 	mov	w3, #1
@@ -11732,8 +11732,8 @@
 	ldp	q0, q1, [x29, #-160]
 	sub	x8, x29, #96
 	stp	x8, x21, [x29, #-192]
-	adrp	x8, .Lnoise_static.102
-	add	x8, x8, :lo12:.Lnoise_static.102
+	adrp	x8, .Lnoise_static.103
+	add	x8, x8, :lo12:.Lnoise_static.103
 	sub	x0, x29, #128
 	add	x1, sp, #16
 	sub	x2, x29, #192
@@ -11825,8 +11825,8 @@
 	mov	w8, #55
 	ldr	x20, [sp, #96]
 	ldr	q2, [sp, #32]
-	adrp	x1, .Lnoise_static.99
-	add	x1, x1, :lo12:.Lnoise_static.99
+	adrp	x1, .Lnoise_static.100
+	add	x1, x1, :lo12:.Lnoise_static.100
 	add	x0, sp, #112
 	stp	q0, q1, [sp, #160]
 	ldr	q0, [sp, #80]
@@ -12604,8 +12604,8 @@
 	orr	w0, w26, w0
 	add	w12, w12, w27
 	add	w12, w12, w13
-	adrp	x26, .Lnoise_static.98+124
-	add	x26, x26, :lo12:.Lnoise_static.98+124
+	adrp	x26, .Lnoise_static.99+124
+	add	x26, x26, :lo12:.Lnoise_static.99+124
 	add	w11, w11, w0
 	add	w13, w11, w12
 	add	w12, w12, w16
@@ -13179,8 +13179,8 @@
 	sub	x1, x29, #224
 	bl	"noise_kdf::keyed::Hmac::new"
 	movi	v0.2d, #0000000000000000
-	adrp	x2, .Lnoise_static.101
-	add	x2, x2, :lo12:.Lnoise_static.101
+	adrp	x2, .Lnoise_static.102
+	add	x2, x2, :lo12:.Lnoise_static.102
 	sub	x0, x29, #160
 	add	x1, sp, #208
 	mov	w3, #1
@@ -13189,8 +13189,8 @@
 	bl	"noise_kdf::keyed::Hmac::code"
 	ldp	q0, q1, [x29, #-160]
 	sub	x22, x29, #96
-	adrp	x8, .Lnoise_static.102
-	add	x8, x8, :lo12:.Lnoise_static.102
+	adrp	x8, .Lnoise_static.103
+	add	x8, x8, :lo12:.Lnoise_static.103
 	sub	x0, x29, #128
 	add	x1, sp, #208
 	sub	x2, x29, #192
@@ -13200,8 +13200,8 @@
 	stp	x8, x20, [x29, #-176]
 	bl	"noise_kdf::keyed::Hmac::code"
 	ldp	q1, q0, [x29, #-96]
-	adrp	x8, .Lnoise_static.100
-	add	x8, x8, :lo12:.Lnoise_static.100
+	adrp	x8, .Lnoise_static.101
+	add	x8, x8, :lo12:.Lnoise_static.101
 	ldp	q2, q3, [x29, #-128]
 	add	x0, sp, #80
 	add	x1, sp, #208
@@ -13461,8 +13461,8 @@
 	str	q0, [sp, #80]
 	strb	w8, [sp]
 	ldr	x8, [x20, #200]
-	adrp	x20, .Lnoise_static.99
-	add	x20, x20, :lo12:.Lnoise_static.99
+	adrp	x20, .Lnoise_static.100
+	add	x20, x20, :lo12:.Lnoise_static.100
 	stur	q1, [sp, #17]
 	ldp	q0, q1, [x29, #-176]
 	str	x8, [sp, #96]
@@ -14889,8 +14889,8 @@
 	sub	x1, x29, #240
 	bl	"noise_kdf::keyed::Hmac::new"
 	movi	v0.2d, #0000000000000000
-	adrp	x2, .Lnoise_static.101
-	add	x2, x2, :lo12:.Lnoise_static.101
+	adrp	x2, .Lnoise_static.102
+	add	x2, x2, :lo12:.Lnoise_static.102
 	sub	x0, x29, #176
 	add	x1, sp, #1088
 	mov	w3, #1
@@ -14904,8 +14904,8 @@
 	ldr	q0, [x23, #1456]
 	ldr	q1, [x23, #1472]
 	stp	x8, x9, [x29, #-208]
-	adrp	x8, .Lnoise_static.102
-	add	x8, x8, :lo12:.Lnoise_static.102
+	adrp	x8, .Lnoise_static.103
+	add	x8, x8, :lo12:.Lnoise_static.103
 	sub	x0, x29, #144
 	add	x1, sp, #1088
 	stur	x8, [x29, #-192]
@@ -15403,8 +15403,8 @@
 	sub	x1, x29, #240
 	bl	"noise_kdf::keyed::Hmac::new"
 	movi	v0.2d, #0000000000000000
-	adrp	x2, .Lnoise_static.101
-	add	x2, x2, :lo12:.Lnoise_static.101
+	adrp	x2, .Lnoise_static.102
+	add	x2, x2, :lo12:.Lnoise_static.102
 	sub	x0, x29, #176
 	add	x1, sp, #128
 	mov	w3, #1
@@ -15414,8 +15414,8 @@
 	ldp	q0, q1, [x29, #-176]
 	sub	x8, x29, #112
 	stp	x8, x27, [x29, #-208]
-	adrp	x8, .Lnoise_static.102
-	add	x8, x8, :lo12:.Lnoise_static.102
+	adrp	x8, .Lnoise_static.103
+	add	x8, x8, :lo12:.Lnoise_static.103
 	stur	x8, [x29, #-192]
 	mov	w8, #1
 	sub	x0, x29, #144
@@ -17369,7 +17369,7 @@ noise_seal_in_place:
 	.type	noise_sentence,@function
 noise_sentence:
 	.cfi_startproc
-	cmp	w0, #44
+	cmp	w0, #45
 	b.hi	.Lnoise_BB71_2
 	adrp	x8, .Lnoise_switch.table.noise_sentence.203.rel
 	add	x8, x8, :lo12:.Lnoise_switch.table.noise_sentence.203.rel
@@ -17381,8 +17381,8 @@ noise_sentence:
 	str	x8, [x1]
 	ret
 .Lnoise_BB71_2:
-	adrp	x8, .Lnoise_static.46
-	add	x8, x8, :lo12:.Lnoise_static.46
+	adrp	x8, .Lnoise_static.47
+	add	x8, x8, :lo12:.Lnoise_static.47
 	mov	w0, #41
 	str	x8, [x1]
 	ret
@@ -18958,8 +18958,8 @@ noise_start:
 	b.hi	.Lnoise_BB79_154
 	add	x10, sp, #2688
 	add	x10, x10, x8
-	adrp	x8, .Lnoise_static.50
-	add	x8, x8, :lo12:.Lnoise_static.50
+	adrp	x8, .Lnoise_static.51
+	add	x8, x8, :lo12:.Lnoise_static.51
 	sub	x11, x10, x8
 	cmp	x11, #3
 	b.hs	.Lnoise_BB79_136
@@ -19025,8 +19025,8 @@ noise_start:
 	sub	x9, x8, #232
 	cmp	x9, #23
 	b.ls	.Lnoise_BB79_154
-	adrp	x10, .Lnoise_static.97
-	add	x10, x10, :lo12:.Lnoise_static.97
+	adrp	x10, .Lnoise_static.98
+	add	x10, x10, :lo12:.Lnoise_static.98
 	add	x9, sp, #2688
 	ldr	q0, [x10]
 	ldr	x10, [x10, #16]
@@ -19061,8 +19061,8 @@ noise_start:
 	ldur	x23, [x29, #-32]
 	ldp	q0, q1, [x29, #-80]
 	ldur	q2, [x29, #-48]
-	adrp	x1, .Lnoise_static.99
-	add	x1, x1, :lo12:.Lnoise_static.99
+	adrp	x1, .Lnoise_static.100
+	add	x1, x1, :lo12:.Lnoise_static.100
 	lsr	x8, x23, #13
 	add	x0, sp, #2688
 	lsr	x25, x23, #21
@@ -24592,125 +24592,131 @@ noise_write:
 	.type	.Lnoise_static.46,@object
 	.section	.rodata..Lnoise_static.46,"a",@progbits
 .Lnoise_static.46:
-	.asciz	"This number is not a code of the library.\000\000\000\000\000\000\000\000\000\000\000\000\000\000\000\000\000\000\000\000\000\000\000\000\000\000\000\000\000\000\000\000\000\000\000\000\000\000"
+	.asciz	"A buffer that the call writes to overlaps another of its buffers.\000\000\000\000\000\000\000\000\000\000\000\000\000\000"
 	.size	.Lnoise_static.46, 80
 
-	.type	.Lnoise_static.50,@object
-	.section	.rodata..Lnoise_static.50,"a",@progbits
-.Lnoise_static.50:
+	.type	.Lnoise_static.47,@object
+	.section	.rodata..Lnoise_static.47,"a",@progbits
+.Lnoise_static.47:
+	.asciz	"This number is not a code of the library.\000\000\000\000\000\000\000\000\000\000\000\000\000\000\000\000\000\000\000\000\000\000\000\000\000\000\000\000\000\000\000\000\000\000\000\000\000\000"
+	.size	.Lnoise_static.47, 80
+
+	.type	.Lnoise_static.51,@object
+	.section	.rodata..Lnoise_static.51,"a",@progbits
+.Lnoise_static.51:
 	.ascii	"psk"
-	.size	.Lnoise_static.50, 3
+	.size	.Lnoise_static.51, 3
 
-	.type	.Lnoise_static.81,@object
-	.section	.rodata..Lnoise_static.81,"a",@progbits
-.Lnoise_static.81:
+	.type	.Lnoise_static.82,@object
+	.section	.rodata..Lnoise_static.82,"a",@progbits
+.Lnoise_static.82:
 	.ascii	"  ...\n"
-	.size	.Lnoise_static.81, 6
+	.size	.Lnoise_static.82, 6
 
-	.type	.Lnoise_static.84,@object
-	.section	.rodata..Lnoise_static.84,"a",@progbits
-.Lnoise_static.84:
+	.type	.Lnoise_static.85,@object
+	.section	.rodata..Lnoise_static.85,"a",@progbits
+.Lnoise_static.85:
 	.ascii	", "
-	.size	.Lnoise_static.84, 2
-
-	.type	.Lnoise_static.87,@object
-	.section	.rodata..Lnoise_static.87,"a",@progbits
-.Lnoise_static.87:
-	.ascii	"->"
-	.size	.Lnoise_static.87, 2
+	.size	.Lnoise_static.85, 2
 
 	.type	.Lnoise_static.88,@object
 	.section	.rodata..Lnoise_static.88,"a",@progbits
 .Lnoise_static.88:
-	.ascii	"<-"
+	.ascii	"->"
 	.size	.Lnoise_static.88, 2
 
 	.type	.Lnoise_static.89,@object
 	.section	.rodata..Lnoise_static.89,"a",@progbits
 .Lnoise_static.89:
-	.byte	101
-	.size	.Lnoise_static.89, 1
+	.ascii	"<-"
+	.size	.Lnoise_static.89, 2
 
 	.type	.Lnoise_static.90,@object
 	.section	.rodata..Lnoise_static.90,"a",@progbits
 .Lnoise_static.90:
-	.byte	115
+	.byte	101
 	.size	.Lnoise_static.90, 1
 
 	.type	.Lnoise_static.91,@object
 	.section	.rodata..Lnoise_static.91,"a",@progbits
 .Lnoise_static.91:
-	.zero	2,101
-	.size	.Lnoise_static.91, 2
+	.byte	115
+	.size	.Lnoise_static.91, 1
 
 	.type	.Lnoise_static.92,@object
 	.section	.rodata..Lnoise_static.92,"a",@progbits
 .Lnoise_static.92:
-	.ascii	"es"
+	.zero	2,101
 	.size	.Lnoise_static.92, 2
 
 	.type	.Lnoise_static.93,@object
 	.section	.rodata..Lnoise_static.93,"a",@progbits
 .Lnoise_static.93:
-	.ascii	"se"
+	.ascii	"es"
 	.size	.Lnoise_static.93, 2
 
 	.type	.Lnoise_static.94,@object
 	.section	.rodata..Lnoise_static.94,"a",@progbits
 .Lnoise_static.94:
-	.zero	2,115
+	.ascii	"se"
 	.size	.Lnoise_static.94, 2
 
 	.type	.Lnoise_static.95,@object
 	.section	.rodata..Lnoise_static.95,"a",@progbits
 .Lnoise_static.95:
-	.ascii	"  ..."
-	.size	.Lnoise_static.95, 5
+	.zero	2,115
+	.size	.Lnoise_static.95, 2
 
 	.type	.Lnoise_static.96,@object
 	.section	.rodata..Lnoise_static.96,"a",@progbits
 .Lnoise_static.96:
-	.ascii	"Noise_"
-	.size	.Lnoise_static.96, 6
+	.ascii	"  ..."
+	.size	.Lnoise_static.96, 5
 
 	.type	.Lnoise_static.97,@object
 	.section	.rodata..Lnoise_static.97,"a",@progbits
 .Lnoise_static.97:
-	.ascii	"_25519_ChaChaPoly_SHA256"
-	.size	.Lnoise_static.97, 24
+	.ascii	"Noise_"
+	.size	.Lnoise_static.97, 6
 
 	.type	.Lnoise_static.98,@object
 	.section	.rodata..Lnoise_static.98,"a",@progbits
-	.p2align	2, 0x0
 .Lnoise_static.98:
-	.ascii	"\230/\212B\221D7q\317\373\300\265\245\333\265\351[\302V9\361\021\361Y\244\202?\222\325^\034\253\230\252\007\330\001[\203\022\276\2051$\303}\fUt]\276r\376\261\336\200\247\006\334\233t\361\233\301\301i\233\344\206G\276\357\306\235\301\017\314\241\f$o,\351-\252\204tJ\334\251\260\\\332\210\371vRQ>\230m\3061\250\310'\003\260\307\177Y\277\363\013\340\306G\221\247\325Qc\312\006g))\024\205\n\267'8!\033.\374m,M\023\r8STs\ne\273\njv.\311\302\201\205,r\222\241\350\277\242Kf\032\250p\213K\302\243Ql\307\031\350\222\321$\006\231\326\2055\016\364p\240j\020\026\301\244\031\bl7\036LwH'\265\274\2604\263\f\0349J\252\330NO\312\234[\363o.h\356\202\217toc\245x\024x\310\204\b\002\307\214\372\377\276\220\353lP\244\367\243\371\276\362xq\306"
-	.size	.Lnoise_static.98, 256
+	.ascii	"_25519_ChaChaPoly_SHA256"
+	.size	.Lnoise_static.98, 24
 
 	.type	.Lnoise_static.99,@object
 	.section	.rodata..Lnoise_static.99,"a",@progbits
+	.p2align	2, 0x0
 .Lnoise_static.99:
-	.asciz	"\200\000\000\000\000\000\000\000\000\000\000\000\000\000\000\000\000\000\000\000\000\000\000\000\000\000\000\000\000\000\000\000\000\000\000\000\000\000\000\000\000\000\000\000\000\000\000\000\000\000\000\000\000\000\000\000\000\000\000\000\000\000\000"
-	.size	.Lnoise_static.99, 64
+	.ascii	"\230/\212B\221D7q\317\373\300\265\245\333\265\351[\302V9\361\021\361Y\244\202?\222\325^\034\253\230\252\007\330\001[\203\022\276\2051$\303}\fUt]\276r\376\261\336\200\247\006\334\233t\361\233\301\301i\233\344\206G\276\357\306\235\301\017\314\241\f$o,\351-\252\204tJ\334\251\260\\\332\210\371vRQ>\230m\3061\250\310'\003\260\307\177Y\277\363\013\340\306G\221\247\325Qc\312\006g))\024\205\n\267'8!\033.\374m,M\023\r8STs\ne\273\njv.\311\302\201\205,r\222\241\350\277\242Kf\032\250p\213K\302\243Ql\307\031\350\222\321$\006\231\326\2055\016\364p\240j\020\026\301\244\031\bl7\036LwH'\265\274\2604\263\f\0349J\252\330NO\312\234[\363o.h\356\202\217toc\245x\024x\310\204\b\002\307\214\372\377\276\220\353lP\244\367\243\371\276\362xq\306"
+	.size	.Lnoise_static.99, 256
 
 	.type	.Lnoise_static.100,@object
 	.section	.rodata..Lnoise_static.100,"a",@progbits
 .Lnoise_static.100:
-	.byte	3
-	.size	.Lnoise_static.100, 1
+	.asciz	"\200\000\000\000\000\000\000\000\000\000\000\000\000\000\000\000\000\000\000\000\000\000\000\000\000\000\000\000\000\000\000\000\000\000\000\000\000\000\000\000\000\000\000\000\000\000\000\000\000\000\000\000\000\000\000\000\000\000\000\000\000\000\000"
+	.size	.Lnoise_static.100, 64
 
 	.type	.Lnoise_static.101,@object
-	.section	.data.rel.ro..Lnoise_static.101,"aw",@progbits
-	.p2align	3, 0x0
+	.section	.rodata..Lnoise_static.101,"a",@progbits
 .Lnoise_static.101:
-	.xword	.Lnoise_static.101+16
-	.asciz	"\001\000\000\000\000\000\000\000\001\000\000\000\000\000\000"
-	.size	.Lnoise_static.101, 24
+	.byte	3
+	.size	.Lnoise_static.101, 1
 
 	.type	.Lnoise_static.102,@object
-	.section	.rodata..Lnoise_static.102,"a",@progbits
+	.section	.data.rel.ro..Lnoise_static.102,"aw",@progbits
+	.p2align	3, 0x0
 .Lnoise_static.102:
+	.xword	.Lnoise_static.102+16
+	.asciz	"\001\000\000\000\000\000\000\000\001\000\000\000\000\000\000"
+	.size	.Lnoise_static.102, 24
+
+	.type	.Lnoise_static.103,@object
+	.section	.rodata..Lnoise_static.103,"a",@progbits
+.Lnoise_static.103:
 	.byte	2
-	.size	.Lnoise_static.102, 1
+	.size	.Lnoise_static.103, 1
 
 	.type	".Lnoise_switch.table.noise_names::text::write::push_token_line.201",@object
 	.section	".rodata..Lnoise_switch.table.noise_names::text::write::push_token_line.201","a",@progbits
@@ -24729,13 +24735,13 @@ noise_write:
 	.section	".data.rel.ro..Lnoise_switch.table.noise_names::text::write::push_token_line.202","aw",@progbits
 	.p2align	3, 0x0
 ".Lnoise_switch.table.noise_names::text::write::push_token_line.202":
-	.xword	.Lnoise_static.89
 	.xword	.Lnoise_static.90
 	.xword	.Lnoise_static.91
 	.xword	.Lnoise_static.92
 	.xword	.Lnoise_static.93
 	.xword	.Lnoise_static.94
-	.xword	.Lnoise_static.50
+	.xword	.Lnoise_static.95
+	.xword	.Lnoise_static.51
 	.size	".Lnoise_switch.table.noise_names::text::write::push_token_line.202", 56
 
 	.type	".Lnoise_switch.table.noise_c::messages::read_next",@object
@@ -24806,7 +24812,8 @@ noise_write:
 	.xword	26
 	.xword	39
 	.xword	43
-	.size	.Lnoise_switch.table.noise_sentence, 360
+	.xword	65
+	.size	.Lnoise_switch.table.noise_sentence, 368
 
 	.type	.Lnoise_switch.table.noise_sentence.203.rel,@object
 	.section	.rodata..Lnoise_switch.table.noise_sentence.203.rel,"a",@progbits
@@ -24815,13 +24822,13 @@ noise_write:
 	.word	.Lnoise_static.4-.Lnoise_switch.table.noise_sentence.203.rel
 	.word	.Lnoise_static.5-.Lnoise_switch.table.noise_sentence.203.rel
 	.word	.Lnoise_static.6-.Lnoise_switch.table.noise_sentence.203.rel
-	.word	.Lnoise_static.46-.Lnoise_switch.table.noise_sentence.203.rel
+	.word	.Lnoise_static.47-.Lnoise_switch.table.noise_sentence.203.rel
 	.word	.Lnoise_static.7-.Lnoise_switch.table.noise_sentence.203.rel
 	.word	.Lnoise_static.8-.Lnoise_switch.table.noise_sentence.203.rel
 	.word	.Lnoise_static.9-.Lnoise_switch.table.noise_sentence.203.rel
 	.word	.Lnoise_static.10-.Lnoise_switch.table.noise_sentence.203.rel
 	.word	.Lnoise_static.11-.Lnoise_switch.table.noise_sentence.203.rel
-	.word	.Lnoise_static.46-.Lnoise_switch.table.noise_sentence.203.rel
+	.word	.Lnoise_static.47-.Lnoise_switch.table.noise_sentence.203.rel
 	.word	.Lnoise_static.12-.Lnoise_switch.table.noise_sentence.203.rel
 	.word	.Lnoise_static.13-.Lnoise_switch.table.noise_sentence.203.rel
 	.word	.Lnoise_static.14-.Lnoise_switch.table.noise_sentence.203.rel
@@ -24833,7 +24840,7 @@ noise_write:
 	.word	.Lnoise_static.20-.Lnoise_switch.table.noise_sentence.203.rel
 	.word	.Lnoise_static.21-.Lnoise_switch.table.noise_sentence.203.rel
 	.word	.Lnoise_static.22-.Lnoise_switch.table.noise_sentence.203.rel
-	.word	.Lnoise_static.46-.Lnoise_switch.table.noise_sentence.203.rel
+	.word	.Lnoise_static.47-.Lnoise_switch.table.noise_sentence.203.rel
 	.word	.Lnoise_static.23-.Lnoise_switch.table.noise_sentence.203.rel
 	.word	.Lnoise_static.24-.Lnoise_switch.table.noise_sentence.203.rel
 	.word	.Lnoise_static.25-.Lnoise_switch.table.noise_sentence.203.rel
@@ -24857,7 +24864,8 @@ noise_write:
 	.word	.Lnoise_static.43-.Lnoise_switch.table.noise_sentence.203.rel
 	.word	.Lnoise_static.44-.Lnoise_switch.table.noise_sentence.203.rel
 	.word	.Lnoise_static.45-.Lnoise_switch.table.noise_sentence.203.rel
-	.size	.Lnoise_switch.table.noise_sentence.203.rel, 180
+	.word	.Lnoise_static.46-.Lnoise_switch.table.noise_sentence.203.rel
+	.size	.Lnoise_switch.table.noise_sentence.203.rel, 184
 
 	.type	.Lnoise_switch.table.noise_stream_read,@object
 	.section	.rodata.cst16,"aM",@progbits,16

@@ -10924,7 +10924,7 @@ noise_noise_names_pattern_Pattern_parse_text:
 	lbu	a1, 3(s4)
 	bne	a1, a0, .Lnoise_BB10_77
 .Lnoise_pcrel_hi1:
-	auipc	a2, %pcrel_hi(.Lnoise_static.95)
+	auipc	a2, %pcrel_hi(.Lnoise_static.96)
 	addi	a2, a2, %pcrel_lo(.Lnoise_pcrel_hi1)
 	li	a1, 5
 	mv	a0, s4
@@ -11019,7 +11019,7 @@ noise_noise_names_pattern_Pattern_parse_text:
 	mv	s4, a0
 	mv	s1, t1
 .Lnoise_pcrel_hi2:
-	auipc	a2, %pcrel_hi(.Lnoise_static.95)
+	auipc	a2, %pcrel_hi(.Lnoise_static.96)
 	addi	a2, a2, %pcrel_lo(.Lnoise_pcrel_hi2)
 	li	a1, 5
 	mv	a0, s10
@@ -14513,7 +14513,7 @@ noise_noise_names_text_write_text:
 	bltu	a0, s0, .Lnoise_BB17_28
 	addi	a2, sp, 1088
 .Lnoise_pcrel_hi6:
-	auipc	a0, %pcrel_hi(.Lnoise_static.50)
+	auipc	a0, %pcrel_hi(.Lnoise_static.51)
 	add	a2, a2, s0
 	addi	a0, a0, %pcrel_lo(.Lnoise_pcrel_hi6)
 	sub	a3, a2, a0
@@ -14640,7 +14640,7 @@ noise_noise_names_text_write_text:
 	bltu	a1, a2, .Lnoise_BB17_28
 	addi	a1, sp, 536
 .Lnoise_pcrel_hi7:
-	auipc	a2, %pcrel_hi(.Lnoise_static.81)
+	auipc	a2, %pcrel_hi(.Lnoise_static.82)
 	add	a1, a1, a0
 	addi	a2, a2, %pcrel_lo(.Lnoise_pcrel_hi7)
 	sub	a2, a1, a2
@@ -14753,12 +14753,12 @@ noise_noise_names_text_write_push_token_line:
 	sb	a5, 1(a2)
 	bnez	a1, .Lnoise_BB18_3
 .Lnoise_pcrel_hi9:
-	auipc	a5, %pcrel_hi(.Lnoise_static.87)
+	auipc	a5, %pcrel_hi(.Lnoise_static.88)
 	addi	a5, a5, %pcrel_lo(.Lnoise_pcrel_hi9)
 	j	.Lnoise_BB18_4
 .Lnoise_BB18_3:
 .Lnoise_pcrel_hi8:
-	auipc	a5, %pcrel_hi(.Lnoise_static.88)
+	auipc	a5, %pcrel_hi(.Lnoise_static.89)
 	addi	a5, a5, %pcrel_lo(.Lnoise_pcrel_hi8)
 .Lnoise_BB18_4:
 	li	s1, 538
@@ -14845,7 +14845,7 @@ noise_noise_names_text_write_push_token_line:
 	beq	a0, a1, .Lnoise_BB18_30
 	add	a0, s6, s8
 .Lnoise_pcrel_hi12:
-	auipc	a1, %pcrel_hi(.Lnoise_static.84)
+	auipc	a1, %pcrel_hi(.Lnoise_static.85)
 	addi	a1, a1, %pcrel_lo(.Lnoise_pcrel_hi12)
 	sub	a1, a0, a1
 	li	a2, 1
@@ -17404,7 +17404,7 @@ noise_noise_names_name_ProtocolName_parse:
 	lbu	a2, 3(a0)
 	bne	a2, a1, .Lnoise_BB23_19
 .Lnoise_pcrel_hi15:
-	auipc	a2, %pcrel_hi(.Lnoise_static.97)
+	auipc	a2, %pcrel_hi(.Lnoise_static.98)
 	addi	a2, a2, %pcrel_lo(.Lnoise_pcrel_hi15)
 	li	a1, 24
 	call	noise_core_cmp_slices_groups_equal_i8_31_core_cmp_numbers_U8PartialEq
@@ -22074,7 +22074,7 @@ noise_noise_handshake_reader_read_tokens_3dfcfe118667ed30:
 	sd	zero, 760(sp)
 	sd	zero, 768(sp)
 .Lnoise_pcrel_hi23:
-	auipc	a2, %pcrel_hi(.Lnoise_static.101)
+	auipc	a2, %pcrel_hi(.Lnoise_static.102)
 	addi	a0, sp, 744
 	addi	a1, sp, 264
 	addi	a2, a2, %pcrel_lo(.Lnoise_pcrel_hi23)
@@ -22090,7 +22090,7 @@ noise_noise_handshake_reader_read_tokens_3dfcfe118667ed30:
 	sd	a2, 824(sp)
 	sd	a3, 832(sp)
 .Lnoise_pcrel_hi24:
-	auipc	a0, %pcrel_hi(.Lnoise_static.102)
+	auipc	a0, %pcrel_hi(.Lnoise_static.103)
 	addi	a0, a0, %pcrel_lo(.Lnoise_pcrel_hi24)
 	sd	a4, 712(sp)
 	sd	s2, 720(sp)
@@ -22590,7 +22590,7 @@ noise_noise_handshake_tokens_mix_ephemeral:
 	sd	zero, 512(sp)
 	sd	zero, 520(sp)
 .Lnoise_pcrel_hi25:
-	auipc	a2, %pcrel_hi(.Lnoise_static.101)
+	auipc	a2, %pcrel_hi(.Lnoise_static.102)
 	addi	a0, sp, 496
 	addi	a1, sp, 16
 	addi	a2, a2, %pcrel_lo(.Lnoise_pcrel_hi25)
@@ -22606,7 +22606,7 @@ noise_noise_handshake_tokens_mix_ephemeral:
 	sd	a2, 576(sp)
 	sd	a3, 584(sp)
 .Lnoise_pcrel_hi26:
-	auipc	a0, %pcrel_hi(.Lnoise_static.102)
+	auipc	a0, %pcrel_hi(.Lnoise_static.103)
 	addi	a0, a0, %pcrel_lo(.Lnoise_pcrel_hi26)
 	sd	a4, 464(sp)
 	sd	s4, 472(sp)
@@ -22761,7 +22761,7 @@ noise_noise_state_symmetric_hash_of_both:
 	andi	a2, a0, 63
 	addi	a2, a2, 1
 .Lnoise_pcrel_hi31:
-	auipc	a1, %pcrel_hi(.Lnoise_static.99)
+	auipc	a1, %pcrel_hi(.Lnoise_static.100)
 	addi	a1, a1, %pcrel_lo(.Lnoise_pcrel_hi31)
 	addi	a0, sp, 112
 	call	noise_sha2_block256_Core256_update
@@ -24207,7 +24207,7 @@ noise_sha2_block256_compress:
 	add	a4, a1, a0
 	add	s1, a0, t3
 .Lnoise_pcrel_hi32:
-	auipc	a0, %pcrel_hi(.Lnoise_static.98)
+	auipc	a0, %pcrel_hi(.Lnoise_static.99)
 	addi	a0, a0, %pcrel_lo(.Lnoise_pcrel_hi32)
 	sd	a0, 96(sp)
 	addi	t0, a0, 124
@@ -25417,7 +25417,7 @@ noise_noise_state_symmetric_SymmetricState_mix_key_and_hash:
 	sd	zero, 712(sp)
 	sd	zero, 720(sp)
 .Lnoise_pcrel_hi33:
-	auipc	a2, %pcrel_hi(.Lnoise_static.101)
+	auipc	a2, %pcrel_hi(.Lnoise_static.102)
 	addi	a0, sp, 696
 	addi	a1, sp, 88
 	addi	a2, a2, %pcrel_lo(.Lnoise_pcrel_hi33)
@@ -25433,7 +25433,7 @@ noise_noise_state_symmetric_SymmetricState_mix_key_and_hash:
 	sd	a2, 776(sp)
 	sd	a3, 784(sp)
 .Lnoise_pcrel_hi34:
-	auipc	a0, %pcrel_hi(.Lnoise_static.102)
+	auipc	a0, %pcrel_hi(.Lnoise_static.103)
 	addi	a0, a0, %pcrel_lo(.Lnoise_pcrel_hi34)
 	sd	s1, 664(sp)
 	sd	s3, 672(sp)
@@ -25473,7 +25473,7 @@ noise_noise_state_symmetric_SymmetricState_mix_key_and_hash:
 	sd	a2, 776(sp)
 	sd	a3, 784(sp)
 .Lnoise_pcrel_hi35:
-	auipc	a0, %pcrel_hi(.Lnoise_static.100)
+	auipc	a0, %pcrel_hi(.Lnoise_static.101)
 	addi	a0, a0, %pcrel_lo(.Lnoise_pcrel_hi35)
 	sd	s1, 728(sp)
 	sd	s3, 736(sp)
@@ -26167,7 +26167,7 @@ noise_noise_kdf_keyed_Hmac_code:
 	andi	a2, a0, 63
 	addi	a2, a2, 1
 .Lnoise_pcrel_hi40:
-	auipc	s5, %pcrel_hi(.Lnoise_static.99)
+	auipc	s5, %pcrel_hi(.Lnoise_static.100)
 	addi	a1, s5, %pcrel_lo(.Lnoise_pcrel_hi40)
 	sd	a1, 8(sp)
 	addi	a0, sp, 416
@@ -28085,7 +28085,7 @@ noise_noise_c_split_finished:
 	sd	zero, 96(s3)
 	sd	zero, 104(s3)
 .Lnoise_pcrel_hi45:
-	auipc	a2, %pcrel_hi(.Lnoise_static.101)
+	auipc	a2, %pcrel_hi(.Lnoise_static.102)
 	addi	a0, sp, 2047
 	addi	a0, a0, 41
 	addi	a1, sp, 744
@@ -28104,7 +28104,7 @@ noise_noise_c_split_finished:
 	sd	a2, 160(s3)
 	sd	a3, 168(s3)
 .Lnoise_pcrel_hi46:
-	auipc	a0, %pcrel_hi(.Lnoise_static.102)
+	auipc	a0, %pcrel_hi(.Lnoise_static.103)
 	addi	a0, a0, %pcrel_lo(.Lnoise_pcrel_hi46)
 	sd	a4, 48(s3)
 	sd	a5, 56(s3)
@@ -30048,7 +30048,7 @@ noise_noise_handshake_writer_write_tokens_3dfcfe118667ed30:
 	sd	zero, 616(sp)
 	sd	zero, 624(sp)
 .Lnoise_pcrel_hi47:
-	auipc	a2, %pcrel_hi(.Lnoise_static.101)
+	auipc	a2, %pcrel_hi(.Lnoise_static.102)
 	addi	a0, sp, 600
 	addi	a1, sp, 120
 	addi	a2, a2, %pcrel_lo(.Lnoise_pcrel_hi47)
@@ -30064,7 +30064,7 @@ noise_noise_handshake_writer_write_tokens_3dfcfe118667ed30:
 	sd	a2, 680(sp)
 	sd	a3, 688(sp)
 .Lnoise_pcrel_hi48:
-	auipc	a0, %pcrel_hi(.Lnoise_static.102)
+	auipc	a0, %pcrel_hi(.Lnoise_static.103)
 	addi	a0, a0, %pcrel_lo(.Lnoise_pcrel_hi48)
 	sd	a4, 568(sp)
 	sd	s0, 576(sp)
@@ -32541,7 +32541,7 @@ noise_seal_in_place:
 noise_sentence:
 	.cfi_startproc
 	sext.w	a0, a0
-	li	a2, 44
+	li	a2, 45
 	bltu	a2, a0, .Lnoise_BB70_2
 	slli	a2, a0, 3
 .Lnoise_pcrel_hi57:
@@ -32560,7 +32560,7 @@ noise_sentence:
 	ret
 .Lnoise_BB70_2:
 .Lnoise_pcrel_hi56:
-	auipc	a2, %pcrel_hi(.Lnoise_static.46)
+	auipc	a2, %pcrel_hi(.Lnoise_static.47)
 	addi	a2, a2, %pcrel_lo(.Lnoise_pcrel_hi56)
 	li	a0, 41
 	sd	a2, 0(a1)
@@ -34695,7 +34695,7 @@ noise_start:
 	addi	a0, sp, 2047
 	addi	a0, a0, 729
 .Lnoise_pcrel_hi59:
-	auipc	a2, %pcrel_hi(.Lnoise_static.50)
+	auipc	a2, %pcrel_hi(.Lnoise_static.51)
 	add	s0, s0, a0
 	addi	a0, a2, %pcrel_lo(.Lnoise_pcrel_hi59)
 	sub	a2, s0, a0
@@ -34780,7 +34780,7 @@ noise_start:
 	addi	a0, a0, 729
 	add	a0, a0, s0
 .Lnoise_pcrel_hi60:
-	auipc	a1, %pcrel_hi(.Lnoise_static.97)
+	auipc	a1, %pcrel_hi(.Lnoise_static.98)
 	addi	a1, a1, %pcrel_lo(.Lnoise_pcrel_hi60)
 	li	a2, 24
 	call	memcpy
@@ -34838,7 +34838,7 @@ noise_start:
 	andi	a2, a0, 63
 	addi	a2, a2, 1
 .Lnoise_pcrel_hi65:
-	auipc	a1, %pcrel_hi(.Lnoise_static.99)
+	auipc	a1, %pcrel_hi(.Lnoise_static.100)
 	addi	a1, a1, %pcrel_lo(.Lnoise_pcrel_hi65)
 	addi	a0, sp, 2047
 	addi	a0, a0, 729
@@ -43516,125 +43516,131 @@ noise_write:
 	.type	.Lnoise_static.46,@object
 	.section	.rodata..Lnoise_static.46,"a",@progbits
 .Lnoise_static.46:
-	.asciz	"This number is not a code of the library.\000\000\000\000\000\000\000\000\000\000\000\000\000\000\000\000\000\000\000\000\000\000\000\000\000\000\000\000\000\000\000\000\000\000\000\000\000\000"
+	.asciz	"A buffer that the call writes to overlaps another of its buffers.\000\000\000\000\000\000\000\000\000\000\000\000\000\000"
 	.size	.Lnoise_static.46, 80
 
-	.type	.Lnoise_static.50,@object
-	.section	.rodata..Lnoise_static.50,"a",@progbits
-.Lnoise_static.50:
+	.type	.Lnoise_static.47,@object
+	.section	.rodata..Lnoise_static.47,"a",@progbits
+.Lnoise_static.47:
+	.asciz	"This number is not a code of the library.\000\000\000\000\000\000\000\000\000\000\000\000\000\000\000\000\000\000\000\000\000\000\000\000\000\000\000\000\000\000\000\000\000\000\000\000\000\000"
+	.size	.Lnoise_static.47, 80
+
+	.type	.Lnoise_static.51,@object
+	.section	.rodata..Lnoise_static.51,"a",@progbits
+.Lnoise_static.51:
 	.ascii	"psk"
-	.size	.Lnoise_static.50, 3
+	.size	.Lnoise_static.51, 3
 
-	.type	.Lnoise_static.81,@object
-	.section	.rodata..Lnoise_static.81,"a",@progbits
-.Lnoise_static.81:
+	.type	.Lnoise_static.82,@object
+	.section	.rodata..Lnoise_static.82,"a",@progbits
+.Lnoise_static.82:
 	.ascii	"  ...\n"
-	.size	.Lnoise_static.81, 6
+	.size	.Lnoise_static.82, 6
 
-	.type	.Lnoise_static.84,@object
-	.section	.rodata..Lnoise_static.84,"a",@progbits
-.Lnoise_static.84:
+	.type	.Lnoise_static.85,@object
+	.section	.rodata..Lnoise_static.85,"a",@progbits
+.Lnoise_static.85:
 	.ascii	", "
-	.size	.Lnoise_static.84, 2
-
-	.type	.Lnoise_static.87,@object
-	.section	.rodata..Lnoise_static.87,"a",@progbits
-.Lnoise_static.87:
-	.ascii	"->"
-	.size	.Lnoise_static.87, 2
+	.size	.Lnoise_static.85, 2
 
 	.type	.Lnoise_static.88,@object
 	.section	.rodata..Lnoise_static.88,"a",@progbits
 .Lnoise_static.88:
-	.ascii	"<-"
+	.ascii	"->"
 	.size	.Lnoise_static.88, 2
 
 	.type	.Lnoise_static.89,@object
 	.section	.rodata..Lnoise_static.89,"a",@progbits
 .Lnoise_static.89:
-	.byte	101
-	.size	.Lnoise_static.89, 1
+	.ascii	"<-"
+	.size	.Lnoise_static.89, 2
 
 	.type	.Lnoise_static.90,@object
 	.section	.rodata..Lnoise_static.90,"a",@progbits
 .Lnoise_static.90:
-	.byte	115
+	.byte	101
 	.size	.Lnoise_static.90, 1
 
 	.type	.Lnoise_static.91,@object
 	.section	.rodata..Lnoise_static.91,"a",@progbits
 .Lnoise_static.91:
-	.zero	2,101
-	.size	.Lnoise_static.91, 2
+	.byte	115
+	.size	.Lnoise_static.91, 1
 
 	.type	.Lnoise_static.92,@object
 	.section	.rodata..Lnoise_static.92,"a",@progbits
 .Lnoise_static.92:
-	.ascii	"es"
+	.zero	2,101
 	.size	.Lnoise_static.92, 2
 
 	.type	.Lnoise_static.93,@object
 	.section	.rodata..Lnoise_static.93,"a",@progbits
 .Lnoise_static.93:
-	.ascii	"se"
+	.ascii	"es"
 	.size	.Lnoise_static.93, 2
 
 	.type	.Lnoise_static.94,@object
 	.section	.rodata..Lnoise_static.94,"a",@progbits
 .Lnoise_static.94:
-	.zero	2,115
+	.ascii	"se"
 	.size	.Lnoise_static.94, 2
 
 	.type	.Lnoise_static.95,@object
 	.section	.rodata..Lnoise_static.95,"a",@progbits
 .Lnoise_static.95:
-	.ascii	"  ..."
-	.size	.Lnoise_static.95, 5
+	.zero	2,115
+	.size	.Lnoise_static.95, 2
 
 	.type	.Lnoise_static.96,@object
 	.section	.rodata..Lnoise_static.96,"a",@progbits
 .Lnoise_static.96:
-	.ascii	"Noise_"
-	.size	.Lnoise_static.96, 6
+	.ascii	"  ..."
+	.size	.Lnoise_static.96, 5
 
 	.type	.Lnoise_static.97,@object
 	.section	.rodata..Lnoise_static.97,"a",@progbits
 .Lnoise_static.97:
-	.ascii	"_25519_ChaChaPoly_SHA256"
-	.size	.Lnoise_static.97, 24
+	.ascii	"Noise_"
+	.size	.Lnoise_static.97, 6
 
 	.type	.Lnoise_static.98,@object
 	.section	.rodata..Lnoise_static.98,"a",@progbits
-	.p2align	2, 0x0
 .Lnoise_static.98:
-	.ascii	"\230/\212B\221D7q\317\373\300\265\245\333\265\351[\302V9\361\021\361Y\244\202?\222\325^\034\253\230\252\007\330\001[\203\022\276\2051$\303}\fUt]\276r\376\261\336\200\247\006\334\233t\361\233\301\301i\233\344\206G\276\357\306\235\301\017\314\241\f$o,\351-\252\204tJ\334\251\260\\\332\210\371vRQ>\230m\3061\250\310'\003\260\307\177Y\277\363\013\340\306G\221\247\325Qc\312\006g))\024\205\n\267'8!\033.\374m,M\023\r8STs\ne\273\njv.\311\302\201\205,r\222\241\350\277\242Kf\032\250p\213K\302\243Ql\307\031\350\222\321$\006\231\326\2055\016\364p\240j\020\026\301\244\031\bl7\036LwH'\265\274\2604\263\f\0349J\252\330NO\312\234[\363o.h\356\202\217toc\245x\024x\310\204\b\002\307\214\372\377\276\220\353lP\244\367\243\371\276\362xq\306"
-	.size	.Lnoise_static.98, 256
+	.ascii	"_25519_ChaChaPoly_SHA256"
+	.size	.Lnoise_static.98, 24
 
 	.type	.Lnoise_static.99,@object
 	.section	.rodata..Lnoise_static.99,"a",@progbits
+	.p2align	2, 0x0
 .Lnoise_static.99:
-	.asciz	"\200\000\000\000\000\000\000\000\000\000\000\000\000\000\000\000\000\000\000\000\000\000\000\000\000\000\000\000\000\000\000\000\000\000\000\000\000\000\000\000\000\000\000\000\000\000\000\000\000\000\000\000\000\000\000\000\000\000\000\000\000\000\000"
-	.size	.Lnoise_static.99, 64
+	.ascii	"\230/\212B\221D7q\317\373\300\265\245\333\265\351[\302V9\361\021\361Y\244\202?\222\325^\034\253\230\252\007\330\001[\203\022\276\2051$\303}\fUt]\276r\376\261\336\200\247\006\334\233t\361\233\301\301i\233\344\206G\276\357\306\235\301\017\314\241\f$o,\351-\252\204tJ\334\251\260\\\332\210\371vRQ>\230m\3061\250\310'\003\260\307\177Y\277\363\013\340\306G\221\247\325Qc\312\006g))\024\205\n\267'8!\033.\374m,M\023\r8STs\ne\273\njv.\311\302\201\205,r\222\241\350\277\242Kf\032\250p\213K\302\243Ql\307\031\350\222\321$\006\231\326\2055\016\364p\240j\020\026\301\244\031\bl7\036LwH'\265\274\2604\263\f\0349J\252\330NO\312\234[\363o.h\356\202\217toc\245x\024x\310\204\b\002\307\214\372\377\276\220\353lP\244\367\243\371\276\362xq\306"
+	.size	.Lnoise_static.99, 256
 
 	.type	.Lnoise_static.100,@object
 	.section	.rodata..Lnoise_static.100,"a",@progbits
 .Lnoise_static.100:
-	.byte	3
-	.size	.Lnoise_static.100, 1
+	.asciz	"\200\000\000\000\000\000\000\000\000\000\000\000\000\000\000\000\000\000\000\000\000\000\000\000\000\000\000\000\000\000\000\000\000\000\000\000\000\000\000\000\000\000\000\000\000\000\000\000\000\000\000\000\000\000\000\000\000\000\000\000\000\000\000"
+	.size	.Lnoise_static.100, 64
 
 	.type	.Lnoise_static.101,@object
-	.section	.data.rel.ro..Lnoise_static.101,"aw",@progbits
-	.p2align	3, 0x0
+	.section	.rodata..Lnoise_static.101,"a",@progbits
 .Lnoise_static.101:
-	.quad	.Lnoise_static.101+16
-	.asciz	"\001\000\000\000\000\000\000\000\001\000\000\000\000\000\000"
-	.size	.Lnoise_static.101, 24
+	.byte	3
+	.size	.Lnoise_static.101, 1
 
 	.type	.Lnoise_static.102,@object
-	.section	.rodata..Lnoise_static.102,"a",@progbits
+	.section	.data.rel.ro..Lnoise_static.102,"aw",@progbits
+	.p2align	3, 0x0
 .Lnoise_static.102:
+	.quad	.Lnoise_static.102+16
+	.asciz	"\001\000\000\000\000\000\000\000\001\000\000\000\000\000\000"
+	.size	.Lnoise_static.102, 24
+
+	.type	.Lnoise_static.103,@object
+	.section	.rodata..Lnoise_static.103,"a",@progbits
+.Lnoise_static.103:
 	.byte	2
-	.size	.Lnoise_static.102, 1
+	.size	.Lnoise_static.103, 1
 
 	.type	noise_Lnoise_switch_table_noise_names_text_write_push_token_line_198,@object
 	.section	".rodata..Lnoise_switch.table.noise_names::text::write::push_token_line.198","a",@progbits
@@ -43653,13 +43659,13 @@ noise_Lnoise_switch_table_noise_names_text_write_push_token_line_198:
 	.section	".data.rel.ro..Lnoise_switch.table.noise_names::text::write::push_token_line.199","aw",@progbits
 	.p2align	3, 0x0
 noise_Lnoise_switch_table_noise_names_text_write_push_token_line_199:
-	.quad	.Lnoise_static.89
 	.quad	.Lnoise_static.90
 	.quad	.Lnoise_static.91
 	.quad	.Lnoise_static.92
 	.quad	.Lnoise_static.93
 	.quad	.Lnoise_static.94
-	.quad	.Lnoise_static.50
+	.quad	.Lnoise_static.95
+	.quad	.Lnoise_static.51
 	.size	noise_Lnoise_switch_table_noise_names_text_write_push_token_line_199, 56
 
 	.type	noise_Lnoise_switch_table_noise_c_messages_read_next,@object
@@ -43730,7 +43736,8 @@ noise_Lnoise_switch_table_noise_c_messages_read_next:
 	.quad	26
 	.quad	39
 	.quad	43
-	.size	.Lnoise_switch.table.noise_sentence, 360
+	.quad	65
+	.size	.Lnoise_switch.table.noise_sentence, 368
 
 	.type	.Lnoise_switch.table.noise_sentence.200.rel,@object
 	.section	.rodata..Lnoise_switch.table.noise_sentence.200.rel,"a",@progbits
@@ -43739,13 +43746,13 @@ noise_Lnoise_switch_table_noise_c_messages_read_next:
 	.word	.Lnoise_static.4-.Lnoise_switch.table.noise_sentence.200.rel
 	.word	.Lnoise_static.5-.Lnoise_switch.table.noise_sentence.200.rel
 	.word	.Lnoise_static.6-.Lnoise_switch.table.noise_sentence.200.rel
-	.word	.Lnoise_static.46-.Lnoise_switch.table.noise_sentence.200.rel
+	.word	.Lnoise_static.47-.Lnoise_switch.table.noise_sentence.200.rel
 	.word	.Lnoise_static.7-.Lnoise_switch.table.noise_sentence.200.rel
 	.word	.Lnoise_static.8-.Lnoise_switch.table.noise_sentence.200.rel
 	.word	.Lnoise_static.9-.Lnoise_switch.table.noise_sentence.200.rel
 	.word	.Lnoise_static.10-.Lnoise_switch.table.noise_sentence.200.rel
 	.word	.Lnoise_static.11-.Lnoise_switch.table.noise_sentence.200.rel
-	.word	.Lnoise_static.46-.Lnoise_switch.table.noise_sentence.200.rel
+	.word	.Lnoise_static.47-.Lnoise_switch.table.noise_sentence.200.rel
 	.word	.Lnoise_static.12-.Lnoise_switch.table.noise_sentence.200.rel
 	.word	.Lnoise_static.13-.Lnoise_switch.table.noise_sentence.200.rel
 	.word	.Lnoise_static.14-.Lnoise_switch.table.noise_sentence.200.rel
@@ -43757,7 +43764,7 @@ noise_Lnoise_switch_table_noise_c_messages_read_next:
 	.word	.Lnoise_static.20-.Lnoise_switch.table.noise_sentence.200.rel
 	.word	.Lnoise_static.21-.Lnoise_switch.table.noise_sentence.200.rel
 	.word	.Lnoise_static.22-.Lnoise_switch.table.noise_sentence.200.rel
-	.word	.Lnoise_static.46-.Lnoise_switch.table.noise_sentence.200.rel
+	.word	.Lnoise_static.47-.Lnoise_switch.table.noise_sentence.200.rel
 	.word	.Lnoise_static.23-.Lnoise_switch.table.noise_sentence.200.rel
 	.word	.Lnoise_static.24-.Lnoise_switch.table.noise_sentence.200.rel
 	.word	.Lnoise_static.25-.Lnoise_switch.table.noise_sentence.200.rel
@@ -43781,7 +43788,8 @@ noise_Lnoise_switch_table_noise_c_messages_read_next:
 	.word	.Lnoise_static.43-.Lnoise_switch.table.noise_sentence.200.rel
 	.word	.Lnoise_static.44-.Lnoise_switch.table.noise_sentence.200.rel
 	.word	.Lnoise_static.45-.Lnoise_switch.table.noise_sentence.200.rel
-	.size	.Lnoise_switch.table.noise_sentence.200.rel, 180
+	.word	.Lnoise_static.46-.Lnoise_switch.table.noise_sentence.200.rel
+	.size	.Lnoise_switch.table.noise_sentence.200.rel, 184
 
 	.type	.Lnoise_switch.table.noise_stream_read,@object
 	.section	.rodata.cst16,"aM",@progbits,16

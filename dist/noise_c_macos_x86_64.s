@@ -5002,7 +5002,7 @@ Lnoise_BB11_37:
 	jne	Lnoise_BB11_40
 	cmpl	$774774816, (%rbp)
 	jne	Lnoise_BB11_40
-	leaq	lnoise__static.95(%rip), %rdx
+	leaq	lnoise__static.96(%rip), %rdx
 	movl	$5, %esi
 	movq	%rbp, %rdi
 	callq	"_core::cmp::slices::groups_equal::<i8,31'core::cmp::numbers::U8PartialEq{}>"
@@ -5234,7 +5234,7 @@ Lnoise_BB11_77:
 	cmpl	$774774816, (%r15)
 	jne	Lnoise_BB11_83
 	movq	%r11, %r14
-	leaq	lnoise__static.95(%rip), %rdx
+	leaq	lnoise__static.96(%rip), %rdx
 	movl	$5, %esi
 	movq	%r15, %rdi
 	callq	"_core::cmp::slices::groups_equal::<i8,31'core::cmp::numbers::U8PartialEq{}>"
@@ -8007,7 +8007,7 @@ Lnoise_BB17_19:
 	cmpq	$252, %r15
 	ja	Lnoise_BB18_23
 	leaq	(%rsp,%r15), %rdx
-	leaq	lnoise__static.50(%rip), %rcx
+	leaq	lnoise__static.51(%rip), %rcx
 	movq	%rdx, %rsi
 	subq	%rcx, %rsi
 	cmpq	$3, %rsi
@@ -8111,7 +8111,7 @@ Lnoise_BB18_20:
 	jb	Lnoise_BB18_23
 	leaq	(%rsp,%rax), %rcx
 	addq	$272, %rcx
-	leaq	lnoise__static.81(%rip), %rdx
+	leaq	lnoise__static.82(%rip), %rdx
 	movq	%rcx, %rsi
 	subq	%rdx, %rsi
 	cmpq	$5, %rsi
@@ -8191,8 +8191,8 @@ Lnoise_BB18_23:
 	movq	%rcx, %r14
 	movq	%rdi, %rbx
 	movw	$8224, (%rdi,%rax)
-	leaq	lnoise__static.88(%rip), %rdi
-	leaq	lnoise__static.87(%rip), %rcx
+	leaq	lnoise__static.89(%rip), %rdi
+	leaq	lnoise__static.88(%rip), %rcx
 	testb	$1, %sil
 	cmovneq	%rdi, %rcx
 	cmpq	$538, %rdx
@@ -8281,7 +8281,7 @@ Lnoise_BB19_15:
 	cmpq	$540, %rax
 	je	Lnoise_BB19_23
 	leaq	(%rbx,%r13), %rax
-	leaq	lnoise__static.84(%rip), %rcx
+	leaq	lnoise__static.85(%rip), %rcx
 	movq	%rax, %rdx
 	subq	%rcx, %rdx
 	cmpq	$1, %rdx
@@ -10014,7 +10014,7 @@ Lnoise_BB23_11:
 	addq	%r14, %rbx
 	cmpl	$892678751, (%rbx)
 	jne	Lnoise_BB23_14
-	leaq	lnoise__static.97(%rip), %rdx
+	leaq	lnoise__static.98(%rip), %rdx
 	movl	$24, %esi
 	movq	%rbx, %rdi
 	callq	"_core::cmp::slices::groups_equal::<i8,31'core::cmp::numbers::U8PartialEq{}>"
@@ -12578,7 +12578,7 @@ Lnoise_BB29_21:
 	movaps	%xmm0, 432(%rsp)
 	movaps	%xmm0, 384(%rsp)
 	movaps	%xmm0, 400(%rsp)
-	leaq	lnoise__static.101(%rip), %rdx
+	leaq	lnoise__static.102(%rip), %rdx
 	leaq	384(%rsp), %rdi
 	movl	$1, %ecx
 	movq	%r15, %rsi
@@ -12590,7 +12590,7 @@ Lnoise_BB29_21:
 	leaq	96(%rsp), %rax
 	movq	%rax, 448(%rsp)
 	movq	$32, 456(%rsp)
-	leaq	lnoise__static.102(%rip), %rax
+	leaq	lnoise__static.103(%rip), %rax
 	movq	%rax, 464(%rsp)
 	movq	$1, 472(%rsp)
 	leaq	416(%rsp), %rdi
@@ -12907,7 +12907,7 @@ Lnoise_JTI29_1:
 	movaps	%xmm0, 64(%rsp)
 	movaps	%xmm0, 16(%rsp)
 	movaps	%xmm0, 32(%rsp)
-	leaq	lnoise__static.101(%rip), %rdx
+	leaq	lnoise__static.102(%rip), %rdx
 	leaq	16(%rsp), %rdi
 	movl	$1, %ecx
 	movq	%r14, %rsi
@@ -12919,7 +12919,7 @@ Lnoise_JTI29_1:
 	leaq	80(%rsp), %rax
 	movq	%rax, 112(%rsp)
 	movq	$32, 120(%rsp)
-	leaq	lnoise__static.102(%rip), %rax
+	leaq	lnoise__static.103(%rip), %rax
 	movq	%rax, 128(%rsp)
 	movq	$1, 136(%rsp)
 	leaq	48(%rsp), %rdi
@@ -13021,7 +13021,7 @@ Lnoise_CPI31_1:
 	subl	%r15d, %edx
 	andl	$63, %edx
 	incq	%rdx
-	leaq	lnoise__static.99(%rip), %rsi
+	leaq	lnoise__static.100(%rip), %rsi
 	leaq	128(%rsp), %r14
 	movq	%r14, %rdi
 	callq	"_sha2::block256::Core256::update"
@@ -13969,7 +13969,7 @@ Lnoise_BB33_1:
 	andl	%r13d, %edi
 	xorl	%r15d, %edi
 	addl	%r10d, %edi
-	leaq	lnoise__static.98(%rip), %rdx
+	leaq	lnoise__static.99(%rip), %rdx
 	movq	-104(%rsp), %r10
 	addl	64(%r10,%rdx), %esi
 	addl	%ebx, %esi
@@ -14007,7 +14007,7 @@ Lnoise_BB33_1:
 	xorl	%r11d, %r8d
 	andl	%esi, %r8d
 	movq	-104(%rsp), %rsi
-	leaq	lnoise__static.98(%rip), %r10
+	leaq	lnoise__static.99(%rip), %r10
 	addl	68(%rsi,%r10), %ecx
 	xorl	%eax, %r8d
 	movl	%edi, %r10d
@@ -14058,7 +14058,7 @@ Lnoise_BB33_1:
 	andl	%ecx, %r9d
 	xorl	%r11d, %r9d
 	movl	%r11d, %ebx
-	leaq	lnoise__static.98(%rip), %r11
+	leaq	lnoise__static.99(%rip), %r11
 	addl	72(%rsi,%r11), %eax
 	movq	%rsi, %r14
 	addl	%r10d, %eax
@@ -14106,7 +14106,7 @@ Lnoise_BB33_1:
 	xorl	%r11d, %r8d
 	andl	%eax, %r8d
 	xorl	%r11d, %r8d
-	leaq	lnoise__static.98(%rip), %r10
+	leaq	lnoise__static.99(%rip), %r10
 	addl	76(%r14,%r10), %ebx
 	addl	%r12d, %ebx
 	addl	%r8d, %ebx
@@ -14158,7 +14158,7 @@ Lnoise_BB33_1:
 	andl	%r14d, %r8d
 	xorl	%ecx, %r8d
 	movl	%r11d, %ebx
-	leaq	lnoise__static.98(%rip), %r11
+	leaq	lnoise__static.99(%rip), %r11
 	movq	-104(%rsp), %rsi
 	addl	80(%rsi,%r11), %ebx
 	addl	%r10d, %ebx
@@ -14258,7 +14258,7 @@ Lnoise_BB33_1:
 	andl	%ecx, %ebx
 	xorl	%r14d, %ebx
 	movq	-104(%rsp), %rdi
-	leaq	lnoise__static.98(%rip), %rcx
+	leaq	lnoise__static.99(%rip), %rcx
 	addl	88(%rdi,%rcx), %eax
 	addl	%r8d, %eax
 	movl	%r15d, %edi
@@ -14381,7 +14381,7 @@ Lnoise_BB33_1:
 	xorl	%r9d, %edx
 	roll	$27, %edx
 	movq	-104(%rsp), %r10
-	leaq	lnoise__static.98(%rip), %rbp
+	leaq	lnoise__static.99(%rip), %rbp
 	movl	92(%r10,%rbp), %r14d
 	addl	%r13d, %r14d
 	addl	-64(%rsp), %r14d
@@ -14504,7 +14504,7 @@ Lnoise_BB33_1:
 	movl	%edx, %ecx
 	roll	$18, %ecx
 	movq	-104(%rsp), %r8
-	leaq	lnoise__static.98(%rip), %rax
+	leaq	lnoise__static.99(%rip), %rax
 	movl	104(%r8,%rax), %r10d
 	addl	%r13d, %r10d
 	addl	%r9d, %r10d
@@ -14547,7 +14547,7 @@ Lnoise_BB33_1:
 	xorl	%r10d, %eax
 	roll	$27, %eax
 	movq	-104(%rsp), %rcx
-	leaq	lnoise__static.98(%rip), %r9
+	leaq	lnoise__static.99(%rip), %r9
 	movl	108(%rcx,%r9), %r12d
 	addl	%r8d, %r12d
 	addl	%r14d, %r12d
@@ -14623,7 +14623,7 @@ Lnoise_BB33_1:
 	addl	%ecx, %r11d
 	movl	%r11d, -108(%rsp)
 	movq	-104(%rsp), %rax
-	leaq	lnoise__static.98(%rip), %rcx
+	leaq	lnoise__static.99(%rip), %rcx
 	movl	116(%rax,%rcx), %ecx
 	addl	%r11d, %ecx
 	addl	%edx, %ecx
@@ -14667,7 +14667,7 @@ Lnoise_BB33_1:
 	movl	%ecx, %edx
 	roll	$18, %edx
 	movq	-104(%rsp), %rax
-	leaq	lnoise__static.98(%rip), %rsi
+	leaq	lnoise__static.99(%rip), %rsi
 	movl	120(%rax,%rsi), %eax
 	addl	%r11d, %eax
 	addl	%r10d, %eax
@@ -14846,7 +14846,7 @@ Lnoise_BB33_1:
 	movaps	%xmm0, 16(%rsp)
 	movaps	%xmm0, 112(%rsp)
 	movaps	%xmm0, 128(%rsp)
-	leaq	lnoise__static.101(%rip), %rdx
+	leaq	lnoise__static.102(%rip), %rdx
 	leaq	112(%rsp), %rdi
 	movl	$1, %ecx
 	movq	%r14, %rsi
@@ -14858,7 +14858,7 @@ Lnoise_BB33_1:
 	leaq	32(%rsp), %r15
 	movq	%r15, 144(%rsp)
 	movq	$32, 152(%rsp)
-	leaq	lnoise__static.102(%rip), %rax
+	leaq	lnoise__static.103(%rip), %rax
 	movq	%rax, 160(%rsp)
 	movq	$1, 168(%rsp)
 	movq	%rsp, %rdi
@@ -14880,7 +14880,7 @@ Lnoise_BB33_1:
 	movaps	%xmm3, 48(%rsp)
 	movq	%r15, (%rsp)
 	movq	$32, 8(%rsp)
-	leaq	lnoise__static.100(%rip), %rax
+	leaq	lnoise__static.101(%rip), %rax
 	movq	%rax, 16(%rsp)
 	movq	$1, 24(%rsp)
 	leaq	80(%rsp), %rdi
@@ -15231,7 +15231,7 @@ Lnoise_BB36_1:
 	subl	%r13d, %edx
 	andl	$63, %edx
 	incq	%rdx
-	leaq	lnoise__static.99(%rip), %r15
+	leaq	lnoise__static.100(%rip), %r15
 	movq	%rsp, %r12
 	movq	%r12, %rdi
 	movq	%r15, %rsi
@@ -16505,7 +16505,7 @@ Lnoise_BB42_7:
 	movaps	%xmm0, 128(%rsp)
 	movaps	%xmm0, 80(%rsp)
 	movaps	%xmm0, 96(%rsp)
-	leaq	lnoise__static.101(%rip), %rdx
+	leaq	lnoise__static.102(%rip), %rdx
 	leaq	80(%rsp), %rdi
 	movl	$1, %ecx
 	movq	%r15, %rsi
@@ -16517,7 +16517,7 @@ Lnoise_BB42_7:
 	leaq	144(%rsp), %rax
 	movq	%rax, 640(%rsp)
 	movq	$32, 648(%rsp)
-	leaq	lnoise__static.102(%rip), %rax
+	leaq	lnoise__static.103(%rip), %rax
 	movq	%rax, 656(%rsp)
 	movq	$1, 664(%rsp)
 	leaq	112(%rsp), %rdi
@@ -17094,7 +17094,7 @@ Lnoise_BB44_25:
 	movaps	%xmm0, 160(%rsp)
 	movaps	%xmm0, 112(%rsp)
 	movaps	%xmm0, 128(%rsp)
-	leaq	lnoise__static.101(%rip), %rdx
+	leaq	lnoise__static.102(%rip), %rdx
 	leaq	112(%rsp), %rdi
 	movl	$1, %ecx
 	movq	%r13, %rsi
@@ -17106,7 +17106,7 @@ Lnoise_BB44_25:
 	leaq	176(%rsp), %rax
 	movq	%rax, 208(%rsp)
 	movq	$32, 216(%rsp)
-	leaq	lnoise__static.102(%rip), %rax
+	leaq	lnoise__static.103(%rip), %rax
 	movq	%rax, 224(%rsp)
 	movq	$1, 232(%rsp)
 	leaq	144(%rsp), %rdi
@@ -18811,7 +18811,7 @@ Lnoise_BB69_21:
 	.p2align	4
 _noise_sentence:
 	.cfi_startproc
-	cmpl	$44, %edi
+	cmpl	$45, %edi
 	ja	Lnoise_BB70_1
 	movl	%edi, %ecx
 	leaq	lnoise__switch.table.noise_sentence(%rip), %rax
@@ -18822,7 +18822,7 @@ _noise_sentence:
 	movq	%rcx, (%rsi)
 	retq
 Lnoise_BB70_1:
-	leaq	lnoise__static.46(%rip), %rcx
+	leaq	lnoise__static.47(%rip), %rcx
 	movl	$41, %eax
 	movq	%rcx, (%rsi)
 	retq
@@ -20534,7 +20534,7 @@ Lnoise_BB78_179:
 	ja	Lnoise_BB78_204
 	leaq	(%rsp,%rcx), %rdx
 	addq	$336, %rdx
-	leaq	lnoise__static.50(%rip), %rcx
+	leaq	lnoise__static.51(%rip), %rcx
 	movq	%rdx, %rsi
 	subq	%rcx, %rsi
 	cmpq	$3, %rsi
@@ -20590,7 +20590,7 @@ Lnoise_BB78_196:
 	leaq	-232(%rcx), %rax
 	cmpq	$23, %rax
 	jbe	Lnoise_BB78_204
-	movups	lnoise__static.97(%rip), %xmm0
+	movups	lnoise__static.98(%rip), %xmm0
 	movups	%xmm0, 336(%rsp,%rcx)
 	movabsq	$3906083507781459833, %rax
 	movq	%rax, 352(%rsp,%rcx)
@@ -20641,7 +20641,7 @@ Lnoise_BB78_196:
 	subl	%r13d, %edx
 	andl	$63, %edx
 	incq	%rdx
-	leaq	lnoise__static.99(%rip), %rsi
+	leaq	lnoise__static.100(%rip), %rsi
 	leaq	336(%rsp), %r14
 	movq	%r14, %rdi
 	callq	"_sha2::block256::Core256::update"
@@ -25978,68 +25978,71 @@ lnoise__static.45:
 	.asciz	"The connection ended before the stream did.\000\000\000\000\000\000\000\000\000\000\000\000\000\000\000\000\000\000\000\000\000\000\000\000\000\000\000\000\000\000\000\000\000\000\000\000"
 
 lnoise__static.46:
+	.asciz	"A buffer that the call writes to overlaps another of its buffers.\000\000\000\000\000\000\000\000\000\000\000\000\000\000"
+
+lnoise__static.47:
 	.asciz	"This number is not a code of the library.\000\000\000\000\000\000\000\000\000\000\000\000\000\000\000\000\000\000\000\000\000\000\000\000\000\000\000\000\000\000\000\000\000\000\000\000\000\000"
 
-lnoise__static.50:
+lnoise__static.51:
 	.ascii	"psk"
 
-lnoise__static.81:
+lnoise__static.82:
 	.ascii	"  ...\n"
 
-lnoise__static.84:
+lnoise__static.85:
 	.ascii	", "
 
-lnoise__static.87:
+lnoise__static.88:
 	.ascii	"->"
 
-lnoise__static.88:
+lnoise__static.89:
 	.ascii	"<-"
 
-lnoise__static.89:
+lnoise__static.90:
 	.byte	101
 
-lnoise__static.90:
+lnoise__static.91:
 	.byte	115
 
-lnoise__static.91:
+lnoise__static.92:
 	.space	2,101
 
-lnoise__static.92:
+lnoise__static.93:
 	.ascii	"es"
 
-lnoise__static.93:
+lnoise__static.94:
 	.ascii	"se"
 
-lnoise__static.94:
+lnoise__static.95:
 	.space	2,115
 
-lnoise__static.95:
+lnoise__static.96:
 	.ascii	"  ..."
 
-lnoise__static.96:
+lnoise__static.97:
 	.ascii	"Noise_"
 
-lnoise__static.97:
+lnoise__static.98:
 	.ascii	"_25519_ChaChaPoly_SHA256"
 
 	.p2align	2, 0x0
-lnoise__static.98:
+lnoise__static.99:
 	.ascii	"\230/\212B\221D7q\317\373\300\265\245\333\265\351[\302V9\361\021\361Y\244\202?\222\325^\034\253\230\252\007\330\001[\203\022\276\2051$\303}\fUt]\276r\376\261\336\200\247\006\334\233t\361\233\301\301i\233\344\206G\276\357\306\235\301\017\314\241\f$o,\351-\252\204tJ\334\251\260\\\332\210\371vRQ>\230m\3061\250\310'\003\260\307\177Y\277\363\013\340\306G\221\247\325Qc\312\006g))\024\205\n\267'8!\033.\374m,M\023\r8STs\ne\273\njv.\311\302\201\205,r\222\241\350\277\242Kf\032\250p\213K\302\243Ql\307\031\350\222\321$\006\231\326\2055\016\364p\240j\020\026\301\244\031\bl7\036LwH'\265\274\2604\263\f\0349J\252\330NO\312\234[\363o.h\356\202\217toc\245x\024x\310\204\b\002\307\214\372\377\276\220\353lP\244\367\243\371\276\362xq\306"
 
-lnoise__static.99:
+lnoise__static.100:
 	.asciz	"\200\000\000\000\000\000\000\000\000\000\000\000\000\000\000\000\000\000\000\000\000\000\000\000\000\000\000\000\000\000\000\000\000\000\000\000\000\000\000\000\000\000\000\000\000\000\000\000\000\000\000\000\000\000\000\000\000\000\000\000\000\000\000"
 
-lnoise__static.100:
+lnoise__static.101:
 	.byte	3
 
 	.section	__DATA,__const
 	.p2align	3, 0x0
-lnoise__static.101:
-	.quad	lnoise__static.101+16
+lnoise__static.102:
+	.quad	lnoise__static.102+16
 	.asciz	"\001\000\000\000\000\000\000\000\001\000\000\000\000\000\000"
 
 	.section	__TEXT,__const
-lnoise__static.102:
+lnoise__static.103:
 	.byte	2
 
 	.p2align	3, 0x0
@@ -26055,13 +26058,13 @@ lnoise__static.102:
 	.section	__DATA,__const
 	.p2align	3, 0x0
 "l_switch.table.noise_names::text::write::push_token_line.202":
-	.quad	lnoise__static.89
 	.quad	lnoise__static.90
 	.quad	lnoise__static.91
 	.quad	lnoise__static.92
 	.quad	lnoise__static.93
 	.quad	lnoise__static.94
-	.quad	lnoise__static.50
+	.quad	lnoise__static.95
+	.quad	lnoise__static.51
 
 	.section	__TEXT,__const
 	.p2align	2, 0x0
@@ -26126,19 +26129,20 @@ lnoise__switch.table.noise_sentence:
 	.quad	26
 	.quad	39
 	.quad	43
+	.quad	65
 
 	.p2align	2, 0x0
 lnoise__switch.table.noise_sentence.203.rel:
 	.long	lnoise__static.4-lnoise__switch.table.noise_sentence.203.rel
 	.long	lnoise__static.5-lnoise__switch.table.noise_sentence.203.rel
 	.long	lnoise__static.6-lnoise__switch.table.noise_sentence.203.rel
-	.long	lnoise__static.46-lnoise__switch.table.noise_sentence.203.rel
+	.long	lnoise__static.47-lnoise__switch.table.noise_sentence.203.rel
 	.long	lnoise__static.7-lnoise__switch.table.noise_sentence.203.rel
 	.long	lnoise__static.8-lnoise__switch.table.noise_sentence.203.rel
 	.long	lnoise__static.9-lnoise__switch.table.noise_sentence.203.rel
 	.long	lnoise__static.10-lnoise__switch.table.noise_sentence.203.rel
 	.long	lnoise__static.11-lnoise__switch.table.noise_sentence.203.rel
-	.long	lnoise__static.46-lnoise__switch.table.noise_sentence.203.rel
+	.long	lnoise__static.47-lnoise__switch.table.noise_sentence.203.rel
 	.long	lnoise__static.12-lnoise__switch.table.noise_sentence.203.rel
 	.long	lnoise__static.13-lnoise__switch.table.noise_sentence.203.rel
 	.long	lnoise__static.14-lnoise__switch.table.noise_sentence.203.rel
@@ -26150,7 +26154,7 @@ lnoise__switch.table.noise_sentence.203.rel:
 	.long	lnoise__static.20-lnoise__switch.table.noise_sentence.203.rel
 	.long	lnoise__static.21-lnoise__switch.table.noise_sentence.203.rel
 	.long	lnoise__static.22-lnoise__switch.table.noise_sentence.203.rel
-	.long	lnoise__static.46-lnoise__switch.table.noise_sentence.203.rel
+	.long	lnoise__static.47-lnoise__switch.table.noise_sentence.203.rel
 	.long	lnoise__static.23-lnoise__switch.table.noise_sentence.203.rel
 	.long	lnoise__static.24-lnoise__switch.table.noise_sentence.203.rel
 	.long	lnoise__static.25-lnoise__switch.table.noise_sentence.203.rel
@@ -26174,6 +26178,7 @@ lnoise__switch.table.noise_sentence.203.rel:
 	.long	lnoise__static.43-lnoise__switch.table.noise_sentence.203.rel
 	.long	lnoise__static.44-lnoise__switch.table.noise_sentence.203.rel
 	.long	lnoise__static.45-lnoise__switch.table.noise_sentence.203.rel
+	.long	lnoise__static.46-lnoise__switch.table.noise_sentence.203.rel
 
 	.section	__TEXT,__literal16,16byte_literals
 	.p2align	2, 0x0
@@ -28132,7 +28137,7 @@ Lnoise_BB_v3_33_1:
 	xorl	%r13d, %eax
 	rorxl	$2, %eax, %eax
 	addl	%eax, %r9d
-	leaq	lnoise__static.98(%rip), %rax
+	leaq	lnoise__static.99(%rip), %rax
 	addl	64(%rdi,%rax), %r14d
 	addl	%esi, %r14d
 	addl	%r14d, %r9d
@@ -28158,7 +28163,7 @@ Lnoise_BB_v3_33_1:
 	movl	%eax, -68(%rsp)
 	movl	%r12d, %eax
 	andl	%r14d, %eax
-	leaq	lnoise__static.98(%rip), %rcx
+	leaq	lnoise__static.99(%rip), %rcx
 	addl	68(%rdi,%rcx), %ebp
 	andnl	%r10d, %r14d, %ecx
 	orl	%ecx, %eax
@@ -28204,7 +28209,7 @@ Lnoise_BB_v3_33_1:
 	andnl	%r12d, %ebp, %ecx
 	orl	%ecx, %eax
 	movq	-104(%rsp), %rcx
-	leaq	lnoise__static.98(%rip), %rdx
+	leaq	lnoise__static.99(%rip), %rdx
 	addl	72(%rcx,%rdx), %r10d
 	addl	%r11d, %r10d
 	addl	%eax, %r10d
@@ -28250,7 +28255,7 @@ Lnoise_BB_v3_33_1:
 	andnl	%r14d, %r10d, %ecx
 	orl	%ecx, %eax
 	movq	-104(%rsp), %rcx
-	leaq	lnoise__static.98(%rip), %r15
+	leaq	lnoise__static.99(%rip), %r15
 	addl	76(%rcx,%r15), %r12d
 	addl	%edi, %r12d
 	addl	%eax, %r12d
@@ -28641,7 +28646,7 @@ Lnoise_BB_v3_33_1:
 	andnl	%ecx, %r9d, %edx
 	orl	%edx, %r11d
 	movq	-104(%rsp), %rdx
-	leaq	lnoise__static.98(%rip), %r8
+	leaq	lnoise__static.99(%rip), %r8
 	movl	108(%rdx,%r8), %edx
 	addl	%r15d, %edx
 	addl	%eax, %edx
@@ -28709,7 +28714,7 @@ Lnoise_BB_v3_33_1:
 	addl	-72(%rsp), %esi
 	addl	%r15d, %esi
 	movq	-104(%rsp), %rax
-	leaq	lnoise__static.98(%rip), %r10
+	leaq	lnoise__static.99(%rip), %r10
 	movl	116(%rax,%r10), %eax
 	addl	%esi, %eax
 	addl	%r13d, %eax
@@ -28748,7 +28753,7 @@ Lnoise_BB_v3_33_1:
 	addl	%r13d, %ecx
 	addl	%r12d, %ebx
 	movq	-104(%rsp), %r12
-	leaq	lnoise__static.98(%rip), %rsi
+	leaq	lnoise__static.99(%rip), %rsi
 	movl	120(%r12,%rsi), %r12d
 	addl	%r8d, %r12d
 	addl	%r9d, %r12d

@@ -17,7 +17,7 @@ const SCRATCH = {
 };
 const PAGE = 65536;
 /** The SHA-384 of noise_c.wasm, as `integrity` of a browser has it: `bindings/js/modules pin` writes it. */
-const INTEGRITY = 'sha384-0gkRg+W+/G66AYWhwO98sDm4xkK9XyPimPjjNsokhv0D8co5UGbsKFmzj3Ts4eAz';
+const INTEGRITY = 'sha384-L5cSjhnoE/NXE1JMBkUEAPtCAZE5x/OcMYTmS9UhDJESKqgvTKXmbAR2+Eyv5/Gf';
 /** The major version of the library. */
 const VERSION = 1;
 

@@ -189,7 +189,7 @@ static void check_answer(void) {
 // Each code has a sentence of its own, a static text.
 static void check_sentences(void) {
     const char *none = noise_text(99);
-    for (uint32_t code = 0; code <= NOISE_CUT; code++) {
+    for (uint32_t code = 0; code <= NOISE_OVERLAP; code++) {
         bool is_code = code != 3 && code != 9 && code != 21;
         const char *text = noise_text(code);
         size_t len = strlen(text);
@@ -201,7 +201,7 @@ static void check_sentences(void) {
     }
     MUST(!strcmp(noise_text(UINT32_MAX), none) && !strcmp(none, "This number is not a code of the library."));
     MUST(!strcmp(noise_text(NOISE_OK), "The call succeeded."));
-    MUST(!strcmp(noise_text(NOISE_CUT), "The connection ended before the stream did."));
+    MUST(!strcmp(noise_text(NOISE_OVERLAP), "The connection ended before the stream did."));
 }
 
 void check_once(void) {

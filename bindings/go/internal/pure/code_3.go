@@ -900,7 +900,7 @@ func f34(m *memory, l0 uint64, l1 uint64, l2 uint64, l3 uint64) uint32 {
 		}
 	L3:
 		m.put8(uint32((l3+0x10))-0xfcec0, uint8(l8))
-		t349 := m.get32(uint32(((uint64(l6) & 0xff) << 2)) + 0x40d0)
+		t349 := m.get32(uint32(((uint64(l6) & 0xff) << 2)) + 0x4120)
 		l6 = t349
 	}
 L2:
@@ -1548,9 +1548,9 @@ func f39(m *memory, l0 uint64, l1 uint64) {
 		t10 := m.at(uint32(l2) - 0xfcbe0)
 		binary.LittleEndian.PutUint64(t10[0:8], l3a)
 		binary.LittleEndian.PutUint64(t10[8:16], l3b)
-		f46(m, (l2 + 0x2d0), (l2 + 0x50), 0x100f00, 1)
+		f46(m, (l2 + 0x2d0), (l2 + 0x50), 0x100f50, 1)
 		m.put64(uint32(l2)-0xfcbf8, 1)
-		m.put64(uint32(l2)-0xfcc00, 0x100f18)
+		m.put64(uint32(l2)-0xfcc00, 0x100f68)
 		m.put64(uint32(l2)-0xfcc08, 0x20)
 		t13 := m.at(uint32(l2) - 0xfcbe0)
 		t11 := binary.LittleEndian.Uint64(t13[0:8])
@@ -1595,7 +1595,7 @@ func f39(m *memory, l0 uint64, l1 uint64) {
 		binary.LittleEndian.PutUint64(t34[0:8], l7a)
 		binary.LittleEndian.PutUint64(t34[8:16], l7b)
 		m.put64(uint32(l2)-0xfce98, 0x20)
-		m.put64(uint32(l2)-0xfce90, 0x100efc)
+		m.put64(uint32(l2)-0xfce90, 0x100f4c)
 		m.put64(uint32(l2)-0xfce88, 1)
 		t35 := m.at(uint32(l2) - 0xfcd20)
 		binary.LittleEndian.PutUint64(t35[0:8], l5a)
@@ -1879,9 +1879,9 @@ func f41(m *memory, l0 uint64, l1 uint64, l2 uint64, l3 uint64) {
 		t8 := m.at(uint32(l4) - 0xfccc0)
 		binary.LittleEndian.PutUint64(t8[0:8], l5a)
 		binary.LittleEndian.PutUint64(t8[8:16], l5b)
-		f46(m, (l4 + 0x1f0), (l4 + 0x10), 0x100f00, 1)
+		f46(m, (l4 + 0x1f0), (l4 + 0x10), 0x100f50, 1)
 		m.put64(uint32(l4)-0xfccd8, 1)
-		m.put64(uint32(l4)-0xfcce0, 0x100f18)
+		m.put64(uint32(l4)-0xfcce0, 0x100f68)
 		m.put64(uint32(l4)-0xfcce8, 0x20)
 		t11 := m.at(uint32(l4) - 0xfccc0)
 		t9 := binary.LittleEndian.Uint64(t11[0:8])
@@ -2276,7 +2276,7 @@ func f43(m *memory, l0 uint64, l1 uint64) {
 		m.copy(uint32((l2 + 8)), uint32(l1), 0x68)
 		t3 := m.get64(uint32(l2) - 0xfce58)
 		l1 = t3
-		f42(m, (l2 + 8), 0x100ebc, (((0x37 - l1) & 0x3f) + 1))
+		f42(m, (l2 + 8), 0x100f0c, (((0x37 - l1) & 0x3f) + 1))
 		t4 := (((((((l1 << 43) & 0xff000000000000) | (l1 << 59)) | ((l1 << 27) & 0xff0000000000)) | ((l1 << 11) & 0xff00000000)) | ((l1 >> 5) & 0xff000000)) | ((l1 >> 21) & 0xff0000))
 		m.put64(uint32(l2)-0xfcec0, ((t4 | ((l1 >> 37) & 0xff00)) | ((l1 >> 53) & 0xff)))
 		f42(m, (l2 + 8), l2, 8)
@@ -2467,13 +2467,13 @@ func f44(m *memory, l0 uint64, l1 uint64) {
 	L43:
 		{
 			l29 = (l24 ^ l25)
-			t44 := m.get32(uint32((l1 + 0x100dfc)) - 0xfcec0)
+			t44 := m.get32(uint32((l1 + 0x100e4c)) - 0xfcec0)
 			t45 := (((l9 + l13) + (bits.RotateLeft32((bits.RotateLeft32(l19, 30)^l19), 15) ^ (l19 >> 10))) + (bits.RotateLeft32((bits.RotateLeft32(l15, 21)^l15), 25) ^ (l15 >> 3)))
 			l9 = t45
 			l21 = ((((bits.RotateLeft32((bits.RotateLeft32((bits.RotateLeft32(l8, 18)^l8), 27)^l8), 26) + l21) + (((l23 ^ l26) & l8) ^ l23)) + t44) + l9)
 			l27 = ((bits.RotateLeft32((bits.RotateLeft32((bits.RotateLeft32(l25, 23)^l25), 21)^l25), 30) + (((l22 ^ l24) & l29) ^ l24)) + l21)
 			l30 = (l27 ^ l25)
-			t46 := m.get32(uint32((l1 + 0x100e00)) - 0xfcec0)
+			t46 := m.get32(uint32((l1 + 0x100e50)) - 0xfcec0)
 			l21 = (l21 + l28)
 			t47 := (((l16 + l15) + (bits.RotateLeft32((bits.RotateLeft32(l20, 30)^l20), 15) ^ (l20 >> 10))) + (bits.RotateLeft32((bits.RotateLeft32(l10, 21)^l10), 25) ^ (l10 >> 3)))
 			t48 := (bits.RotateLeft32((bits.RotateLeft32((bits.RotateLeft32(l27, 23)^l27), 21)^l27), 30) + ((l30 & l29) ^ l25))
@@ -2481,14 +2481,14 @@ func f44(m *memory, l0 uint64, l1 uint64) {
 			l28 = ((((t46 + l23) + ((l21 & (l26 ^ l8)) ^ l26)) + l29) + bits.RotateLeft32((bits.RotateLeft32((bits.RotateLeft32(l21, 18)^l21), 27)^l21), 26))
 			l23 = (t48 + l28)
 			l15 = (l23 ^ l27)
-			t49 := m.get32(uint32((l1 + 0x100e04)) - 0xfcec0)
+			t49 := m.get32(uint32((l1 + 0x100e54)) - 0xfcec0)
 			t50 := (((l14 + l10) + (bits.RotateLeft32((bits.RotateLeft32(l9, 30)^l9), 15) ^ (l9 >> 10))) + (bits.RotateLeft32((bits.RotateLeft32(l11, 21)^l11), 25) ^ (l11 >> 3)))
 			l10 = t50
 			l22 = (l28 + l22)
 			l28 = ((((t49 + l26) + l10) + ((l22 & (l21 ^ l8)) ^ l8)) + bits.RotateLeft32((bits.RotateLeft32((bits.RotateLeft32(l22, 18)^l22), 27)^l22), 26))
 			l26 = ((bits.RotateLeft32((bits.RotateLeft32((bits.RotateLeft32(l23, 23)^l23), 21)^l23), 30) + ((l15 & l30) ^ l27)) + l28)
 			l30 = (l26 ^ l23)
-			t51 := m.get32(uint32((l1 + 0x100e08)) - 0xfcec0)
+			t51 := m.get32(uint32((l1 + 0x100e58)) - 0xfcec0)
 			t52 := (((l17 + l11) + (bits.RotateLeft32((bits.RotateLeft32(l29, 30)^l29), 15) ^ (l29 >> 10))) + (bits.RotateLeft32((bits.RotateLeft32(l5, 21)^l5), 25) ^ (l5 >> 3)))
 			l11 = t52
 			t53 := ((t51 + l8) + l11)
@@ -2496,7 +2496,7 @@ func f44(m *memory, l0 uint64, l1 uint64) {
 			l28 = ((t53 + ((l8 & (l22 ^ l21)) ^ l21)) + bits.RotateLeft32((bits.RotateLeft32((bits.RotateLeft32(l8, 18)^l8), 27)^l8), 26))
 			l24 = ((bits.RotateLeft32((bits.RotateLeft32((bits.RotateLeft32(l26, 23)^l26), 21)^l26), 30) + ((l30 & l15) ^ l23)) + l28)
 			l15 = (l24 ^ l26)
-			t54 := m.get32(uint32((l1 + 0x100e0c)) - 0xfcec0)
+			t54 := m.get32(uint32((l1 + 0x100e5c)) - 0xfcec0)
 			t55 := (((l18 + l5) + (bits.RotateLeft32((bits.RotateLeft32(l10, 30)^l10), 15) ^ (l10 >> 10))) + (bits.RotateLeft32((bits.RotateLeft32(l6, 21)^l6), 25) ^ (l6 >> 3)))
 			l5 = t55
 			t56 := ((t54 + l21) + l5)
@@ -2504,7 +2504,7 @@ func f44(m *memory, l0 uint64, l1 uint64) {
 			l28 = ((t56 + ((l21 & (l8 ^ l22)) ^ l22)) + bits.RotateLeft32((bits.RotateLeft32((bits.RotateLeft32(l21, 18)^l21), 27)^l21), 26))
 			l25 = ((bits.RotateLeft32((bits.RotateLeft32((bits.RotateLeft32(l24, 23)^l24), 21)^l24), 30) + ((l15 & l30) ^ l26)) + l28)
 			l30 = (l25 ^ l24)
-			t57 := m.get32(uint32((l1 + 0x100e10)) - 0xfcec0)
+			t57 := m.get32(uint32((l1 + 0x100e60)) - 0xfcec0)
 			t58 := (((l6 + l19) + (bits.RotateLeft32((bits.RotateLeft32(l11, 30)^l11), 15) ^ (l11 >> 10))) + (bits.RotateLeft32((bits.RotateLeft32(l4, 21)^l4), 25) ^ (l4 >> 3)))
 			l6 = t58
 			t59 := ((t57 + l22) + l6)
@@ -2512,7 +2512,7 @@ func f44(m *memory, l0 uint64, l1 uint64) {
 			l27 = ((t59 + ((l22 & (l21 ^ l8)) ^ l8)) + bits.RotateLeft32((bits.RotateLeft32((bits.RotateLeft32(l22, 18)^l22), 27)^l22), 26))
 			l28 = ((bits.RotateLeft32((bits.RotateLeft32((bits.RotateLeft32(l25, 23)^l25), 21)^l25), 30) + ((l30 & l15) ^ l24)) + l27)
 			l15 = (l28 ^ l25)
-			t60 := m.get32(uint32((l1 + 0x100e14)) - 0xfcec0)
+			t60 := m.get32(uint32((l1 + 0x100e64)) - 0xfcec0)
 			l4 = (((l4 + l20) + (bits.RotateLeft32((bits.RotateLeft32(l5, 30)^l5), 15) ^ (l5 >> 10))) + (bits.RotateLeft32((bits.RotateLeft32(l3, 21)^l3), 25) ^ (l3 >> 3)))
 			t61 := ((l8 + t60) + l4)
 			l8 = (l27 + l23)
@@ -2521,7 +2521,7 @@ func f44(m *memory, l0 uint64, l1 uint64) {
 			l30 = (l23 ^ l28)
 			t62 := (((l3 + l9) + (bits.RotateLeft32((bits.RotateLeft32(l6, 30)^l6), 15) ^ (l6 >> 10))) + (bits.RotateLeft32((bits.RotateLeft32(l12, 21)^l12), 25) ^ (l12 >> 3)))
 			l3 = t62
-			t63 := m.get32(uint32((l1 + 0x100e18)) - 0xfcec0)
+			t63 := m.get32(uint32((l1 + 0x100e68)) - 0xfcec0)
 			t64 := ((l3 + t63) + l21)
 			l21 = (l27 + l26)
 			l27 = ((t64 + ((l21 & (l8 ^ l22)) ^ l22)) + bits.RotateLeft32((bits.RotateLeft32((bits.RotateLeft32(l21, 18)^l21), 27)^l21), 26))
@@ -2529,7 +2529,7 @@ func f44(m *memory, l0 uint64, l1 uint64) {
 			l15 = (l26 ^ l23)
 			t65 := (((l29 + (bits.RotateLeft32((bits.RotateLeft32(l13, 21)^l13), 25) ^ (l13 >> 3))) + l12) + (bits.RotateLeft32((bits.RotateLeft32(l4, 30)^l4), 15) ^ (l4 >> 10)))
 			l12 = t65
-			t66 := m.get32(uint32((l1 + 0x100e1c)) - 0xfcec0)
+			t66 := m.get32(uint32((l1 + 0x100e6c)) - 0xfcec0)
 			t67 := ((l12 + t66) + l22)
 			l22 = (l27 + l24)
 			l27 = ((t67 + ((l22 & (l21 ^ l8)) ^ l8)) + bits.RotateLeft32((bits.RotateLeft32((bits.RotateLeft32(l22, 18)^l22), 27)^l22), 26))
@@ -2537,7 +2537,7 @@ func f44(m *memory, l0 uint64, l1 uint64) {
 			l30 = (l24 ^ l26)
 			t68 := ((((bits.RotateLeft32((bits.RotateLeft32(l16, 21)^l16), 25) ^ (l16 >> 3)) + l13) + l10) + (bits.RotateLeft32((bits.RotateLeft32(l3, 30)^l3), 15) ^ (l3 >> 10)))
 			l13 = t68
-			t69 := m.get32(uint32((l1 + 0x100e20)) - 0xfcec0)
+			t69 := m.get32(uint32((l1 + 0x100e70)) - 0xfcec0)
 			t70 := ((l13 + t69) + l8)
 			l8 = (l27 + l25)
 			l27 = ((t70 + ((l8 & (l22 ^ l21)) ^ l21)) + bits.RotateLeft32((bits.RotateLeft32((bits.RotateLeft32(l8, 18)^l8), 27)^l8), 26))
@@ -2545,7 +2545,7 @@ func f44(m *memory, l0 uint64, l1 uint64) {
 			l15 = (l25 ^ l24)
 			t71 := ((((bits.RotateLeft32((bits.RotateLeft32(l14, 21)^l14), 25) ^ (l14 >> 3)) + l16) + l11) + (bits.RotateLeft32((bits.RotateLeft32(l12, 30)^l12), 15) ^ (l12 >> 10)))
 			l16 = t71
-			t72 := m.get32(uint32((l1 + 0x100e24)) - 0xfcec0)
+			t72 := m.get32(uint32((l1 + 0x100e74)) - 0xfcec0)
 			t73 := ((l16 + t72) + l21)
 			l21 = (l27 + l28)
 			l28 = ((t73 + ((l21 & (l8 ^ l22)) ^ l22)) + bits.RotateLeft32((bits.RotateLeft32((bits.RotateLeft32(l21, 18)^l21), 27)^l21), 26))
@@ -2553,14 +2553,14 @@ func f44(m *memory, l0 uint64, l1 uint64) {
 			l30 = (l27 ^ l25)
 			t74 := ((((bits.RotateLeft32((bits.RotateLeft32(l17, 21)^l17), 25) ^ (l17 >> 3)) + l14) + l5) + (bits.RotateLeft32((bits.RotateLeft32(l13, 30)^l13), 15) ^ (l13 >> 10)))
 			l14 = t74
-			t75 := m.get32(uint32((l1 + 0x100e28)) - 0xfcec0)
+			t75 := m.get32(uint32((l1 + 0x100e78)) - 0xfcec0)
 			l23 = (l28 + l23)
 			l22 = ((((l14 + t75) + l22) + ((l23 & (l21 ^ l8)) ^ l8)) + bits.RotateLeft32((bits.RotateLeft32((bits.RotateLeft32(l23, 18)^l23), 27)^l23), 26))
 			l15 = ((bits.RotateLeft32((bits.RotateLeft32((bits.RotateLeft32(l27, 23)^l27), 21)^l27), 30) + ((l30 & l15) ^ l25)) + l22)
 			l31 = (l15 ^ l27)
 			t76 := ((((bits.RotateLeft32((bits.RotateLeft32(l18, 21)^l18), 25) ^ (l18 >> 3)) + l17) + l6) + (bits.RotateLeft32((bits.RotateLeft32(l16, 30)^l16), 15) ^ (l16 >> 10)))
 			l17 = t76
-			t77 := m.get32(uint32((l1 + 0x100e2c)) - 0xfcec0)
+			t77 := m.get32(uint32((l1 + 0x100e7c)) - 0xfcec0)
 			t78 := ((l17 + t77) + l8)
 			l8 = (l22 + l26)
 			l22 = ((t78 + ((l8 & (l23 ^ l21)) ^ l21)) + bits.RotateLeft32((bits.RotateLeft32((bits.RotateLeft32(l8, 18)^l8), 27)^l8), 26))
@@ -2568,7 +2568,7 @@ func f44(m *memory, l0 uint64, l1 uint64) {
 			l26 = (l28 ^ l15)
 			t79 := (((l18 + (bits.RotateLeft32((bits.RotateLeft32(l19, 21)^l19), 25) ^ (l19 >> 3))) + l4) + (bits.RotateLeft32((bits.RotateLeft32(l14, 30)^l14), 15) ^ (l14 >> 10)))
 			l18 = t79
-			t80 := m.get32(uint32((l1 + 0x100e30)) - 0xfcec0)
+			t80 := m.get32(uint32((l1 + 0x100e80)) - 0xfcec0)
 			t81 := ((l18 + t80) + l21)
 			l21 = (l22 + l24)
 			l24 = ((t81 + ((l21 & (l8 ^ l23)) ^ l23)) + bits.RotateLeft32((bits.RotateLeft32((bits.RotateLeft32(l21, 18)^l21), 27)^l21), 26))
@@ -2576,7 +2576,7 @@ func f44(m *memory, l0 uint64, l1 uint64) {
 			l30 = (l22 ^ l28)
 			t82 := ((((bits.RotateLeft32((bits.RotateLeft32(l20, 21)^l20), 25) ^ (l20 >> 3)) + l19) + l3) + (bits.RotateLeft32((bits.RotateLeft32(l17, 30)^l17), 15) ^ (l17 >> 10)))
 			l19 = t82
-			t83 := m.get32(uint32((l1 + 0x100e34)) - 0xfcec0)
+			t83 := m.get32(uint32((l1 + 0x100e84)) - 0xfcec0)
 			t84 := ((l19 + t83) + l23)
 			l23 = (l24 + l25)
 			t85 := (bits.RotateLeft32((bits.RotateLeft32((bits.RotateLeft32(l22, 23)^l22), 21)^l22), 30) + ((l30 & l26) ^ l28))
@@ -2584,7 +2584,7 @@ func f44(m *memory, l0 uint64, l1 uint64) {
 			l24 = (t85 + l26)
 			t86 := ((((bits.RotateLeft32((bits.RotateLeft32(l9, 21)^l9), 25) ^ (l9 >> 3)) + l20) + l12) + (bits.RotateLeft32((bits.RotateLeft32(l18, 30)^l18), 15) ^ (l18 >> 10)))
 			l20 = t86
-			t87 := m.get32(uint32((l1 + 0x100e38)) - 0xfcec0)
+			t87 := m.get32(uint32((l1 + 0x100e88)) - 0xfcec0)
 			l26 = (l26 + l27)
 			l8 = ((((l20 + t87) + l8) + ((l26 & (l23 ^ l21)) ^ l21)) + bits.RotateLeft32((bits.RotateLeft32((bits.RotateLeft32(l26, 18)^l26), 27)^l26), 26))
 			l25 = ((bits.RotateLeft32((bits.RotateLeft32((bits.RotateLeft32(l24, 23)^l24), 21)^l24), 30) + (((l24 ^ l22) & l30) ^ l22)) + l8)
@@ -5381,7 +5381,7 @@ func f58(m *memory, l0 uint64, l1 uint64, l2 uint64, l3 uint64, l4 uint64, l5 ui
 		}
 	L3:
 		t27 := uint64(m.get8(uint32(l6) - 0xfcebf))
-		t28 := m.get32(uint32((t27 << 2)) + 0x40dc)
+		t28 := m.get32(uint32((t27 << 2)) + 0x412c)
 		l7 = t28
 	}
 L2:
@@ -5494,7 +5494,7 @@ func f60(m *memory, l0 uint64, l1 uint64, l2 uint64, l3 uint64, l4 uint64, l5 ui
 		}
 	L3:
 		t27 := uint64(m.get8(uint32(l7) - 0xfcebf))
-		t28 := m.get32(uint32((t27 << 2)) + 0x40dc)
+		t28 := m.get32(uint32((t27 << 2)) + 0x412c)
 		l8 = t28
 	}
 L2:

@@ -3259,9 +3259,9 @@ func f124(m *memory, l0 uint64, l1 uint64, l2 uint64, l3 uint64, l4 uint64, l5 u
 				m.put128q(uint32(l7)-0xfc7c0, t231, t232)
 				l29 = ((l7 + 0xb20) | 6)
 				m.fill(uint32(l29), 0, 0xfa)
-				t233 := uint32(m.get16(0x3ee2))
+				t233 := uint32(m.get16(0x3f32))
 				m.put16(uint32(l7)-0xfc39c, uint16(t233))
-				t234 := m.get32(0x3ede)
+				t234 := m.get32(0x3f2e)
 				m.put32(uint32(l7)-0xfc3a0, t234)
 				t235 := m.get64(uint32(l7) - 0xfc7b8)
 				l6 = t235
@@ -3288,12 +3288,12 @@ func f124(m *memory, l0 uint64, l1 uint64, l2 uint64, l3 uint64, l4 uint64, l5 u
 					{
 						{
 							l29 = ((l7 + 0xb20) + l29)
-							if (l29 - 0x100d80) < 3 {
+							if (l29 - 0x100dd0) < 3 {
 								goto L240
 							}
-							t241 := uint32(m.get8(0x3ec2))
+							t241 := uint32(m.get8(0x3f12))
 							m.put8(uint32(l29)-0xfcebe, uint8(t241))
-							t242 := uint32(m.get16(0x3ec0))
+							t242 := uint32(m.get16(0x3f10))
 							m.put16(uint32(l29)-0xfcec0, uint16(t242))
 							goto L239
 						}
@@ -3325,7 +3325,7 @@ func f124(m *memory, l0 uint64, l1 uint64, l2 uint64, l3 uint64, l4 uint64, l5 u
 						{
 							{
 								l24 = (l29 + 0xfd)
-								if (l24 - 0x100d80) > 2 {
+								if (l24 - 0x100dd0) > 2 {
 									goto L247
 								}
 								m.put8(uint32(l24)-0xfcec0, 0x70)
@@ -3333,9 +3333,9 @@ func f124(m *memory, l0 uint64, l1 uint64, l2 uint64, l3 uint64, l4 uint64, l5 u
 								goto L246
 							}
 						L247:
-							t248 := uint32(m.get8(0x3ec2))
+							t248 := uint32(m.get8(0x3f12))
 							m.put8(uint32(l24)-0xfcebe, uint8(t248))
-							t249 := uint32(m.get16(0x3ec0))
+							t249 := uint32(m.get16(0x3f10))
 							m.put16(uint32(l24)-0xfcec0, uint16(t249))
 						}
 					L246:
@@ -3355,9 +3355,9 @@ func f124(m *memory, l0 uint64, l1 uint64, l2 uint64, l3 uint64, l4 uint64, l5 u
 					goto L2
 				}
 				l6 = ((l7 + 0xb20) + l29)
-				t251 := m.get64(0x3ef4)
+				t251 := m.get64(0x3f44)
 				m.put64(uint32(l6)-0xfceb0, t251)
-				t252, t253 := m.get128q(0x3ee4)
+				t252, t253 := m.get128q(0x3f34)
 				m.put128q(uint32(l6)-0xfcec0, t252, t253)
 				m.put64(uint32(l7)-0xfc2a0, (l29 + 0x18))
 				m.copy(uint32((l7 + 0x750)), uint32((l7 + 0xb20)), 0x108)
@@ -4187,7 +4187,7 @@ func f128(m *memory, l0 uint64, l1 uint64, l2 uint64, l3 uint64) uint32 {
 				m.put64(uint32((l0+0x30))-0xfcec0, t82)
 				t83 := m.get64(uint32(l4) - 0xfceb0)
 				m.put64(uint32((l0+0x28))-0xfcec0, t83)
-				t84 := m.get32(uint32((l13 << 2)) + 0x43c0)
+				t84 := m.get32(uint32((l13 << 2)) + 0x4420)
 				l5 = t84
 				goto L2
 			}

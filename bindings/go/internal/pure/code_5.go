@@ -2962,7 +2962,7 @@ func f148(m *memory, l0 uint64, l1 uint64, l2 uint64, l3 uint64) uint32 {
 			{
 				l14 = (l11 >> 6)
 				l15 = (uint64(l7) << 3)
-				t14 := m.get64(uint32(l15) + 0x43e8)
+				t14 := m.get64(uint32(l15) + 0x4448)
 				t15 := m.get64(uint32((l12 + ((l14 % t14) << 3))) - 0xfcec0)
 				l16 = t15
 				if (l16 >> (l11 & 63)) == 1 {
@@ -2979,7 +2979,7 @@ func f148(m *memory, l0 uint64, l1 uint64, l2 uint64, l3 uint64) uint32 {
 			l16 = (l0 + 0xc)
 			l7 = b2i((l9 & 0xff) != 0)
 			l11 = (l14 + 1)
-			t18 := m.get64(uint32(l15) + 0x43e8)
+			t18 := m.get64(uint32(l15) + 0x4448)
 			l1 = t18
 			t19 := -uint64(b2i(l11 < l1))
 			t20 := (l11 & t19) | (l1 &^ t19)
@@ -3052,7 +3052,7 @@ func f148(m *memory, l0 uint64, l1 uint64, l2 uint64, l3 uint64) uint32 {
 			{
 				t34 := uint64(m.get8(uint32(l4) - 0xfce80))
 				l14 = t34
-				t35 := m.get64(uint32((l14 << 3)) + 0x43d0)
+				t35 := m.get64(uint32((l14 << 3)) + 0x4430)
 				t36 := m.get64(uint32(l4) - 0xfce78)
 				l1 = t36
 				t37 := ((((l11 << 56) | ((l11 & 0xff00) << 40)) | (((l11 & 0xff0000) << 24) | ((l11 & 0xff000000) << 8))) | ((((l11 >> 8) & 0xff000000) | ((l11 >> 24) & 0xff0000)) | (((l11 >> 40) & 0xff00) | (l11 >> 56))))
@@ -3072,7 +3072,7 @@ func f148(m *memory, l0 uint64, l1 uint64, l2 uint64, l3 uint64) uint32 {
 				if l11 > l1 {
 					goto L40
 				}
-				t41 := m.get64(uint32((l14 << 3)) + 0x43e8)
+				t41 := m.get64(uint32((l14 << 3)) + 0x4448)
 				t42 := m.get64(uint32((l4 + ((l12 % t41) << 3))) - 0xfce70)
 				if (uint32((t42 >> (l11 & 63))) & 1) == 0 {
 					goto L40
@@ -3124,7 +3124,7 @@ func f148(m *memory, l0 uint64, l1 uint64, l2 uint64, l3 uint64) uint32 {
 										if l12 == l1 {
 											goto L45
 										}
-										t57 := m.get64(uint32((l19 << 3)) + 0x43e8)
+										t57 := m.get64(uint32((l19 << 3)) + 0x4448)
 										l2 = t57
 										l1 = (l12 - l1)
 										t58 := -uint64(b2i(l2 < l1))
@@ -3322,7 +3322,7 @@ func f148(m *memory, l0 uint64, l1 uint64, l2 uint64, l3 uint64) uint32 {
 			t89, t90 := m.get128q(uint32(l11) - 0xfceb0)
 			m.put128q(uint32(l16)-0xfceb0, t89, t90)
 			m.put64(uint32((l0+0x30))-0xfcec0, l14)
-			t91 := m.get32(uint32((l19 << 2)) + 0x4400)
+			t91 := m.get32(uint32((l19 << 2)) + 0x4460)
 			m.put32(uint32((l0+8))-0xfcec0, t91)
 			m.copy(uint32(l13), uint32(l2), 0x88)
 		}
@@ -3512,7 +3512,7 @@ func f150(m *memory, l0 uint64, l1 uint32, l2 uint64, l3 uint64) uint32 {
 				t66 := m.at(uint32(l3) - 0xfcea4)
 				binary.LittleEndian.PutUint64(t66[0:8], t63)
 				binary.LittleEndian.PutUint64(t66[8:16], t64)
-				t67 := m.get32(uint32((l5 << 2)) + 0x4400)
+				t67 := m.get32(uint32((l5 << 2)) + 0x4460)
 				m.put32(uint32(l3)-0xfceb8, t67)
 				m.fill(uint32((l3 + 0x2c)), 0, 0x94)
 				goto L3

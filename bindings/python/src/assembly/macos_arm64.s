@@ -4727,9 +4727,9 @@ Lnoise_BB11_36:
 	cmp	w8, w17
 	b.ne	Lnoise_BB11_39
 Lnoise_loh12:
-	adrp	x2, lnoise__static.95@PAGE
+	adrp	x2, lnoise__static.96@PAGE
 Lnoise_loh13:
-	add	x2, x2, lnoise__static.95@PAGEOFF
+	add	x2, x2, lnoise__static.96@PAGEOFF
 	mov	w1, #5
 	bl	"_core::cmp::slices::groups_equal::<i8,31'core::cmp::numbers::U8PartialEq{}>"
 	mov	w17, #8224
@@ -4971,9 +4971,9 @@ Lnoise_BB11_75:
 	stp	x3, x1, [sp, #16]
 	str	x0, [sp, #32]
 Lnoise_loh14:
-	adrp	x2, lnoise__static.95@PAGE
+	adrp	x2, lnoise__static.96@PAGE
 Lnoise_loh15:
-	add	x2, x2, lnoise__static.95@PAGEOFF
+	add	x2, x2, lnoise__static.96@PAGEOFF
 	mov	x0, x24
 	mov	w1, #5
 	bl	"_core::cmp::slices::groups_equal::<i8,31'core::cmp::numbers::U8PartialEq{}>"
@@ -7769,9 +7769,9 @@ lnoise_CPI18_0:
 	b.hi	Lnoise_BB18_28
 	add	x10, sp, #1088
 Lnoise_loh68:
-	adrp	x8, lnoise__static.50@PAGE
+	adrp	x8, lnoise__static.51@PAGE
 Lnoise_loh69:
-	add	x8, x8, lnoise__static.50@PAGEOFF
+	add	x8, x8, lnoise__static.51@PAGEOFF
 	add	x10, x10, x21
 	sub	x11, x10, x8
 	cmp	x11, #3
@@ -7886,9 +7886,9 @@ Lnoise_BB18_19:
 	b.lo	Lnoise_BB18_28
 	add	x9, sp, #536
 Lnoise_loh70:
-	adrp	x10, lnoise__static.81@PAGE
+	adrp	x10, lnoise__static.82@PAGE
 Lnoise_loh71:
-	add	x10, x10, lnoise__static.81@PAGEOFF
+	add	x10, x10, lnoise__static.82@PAGEOFF
 	add	x9, x9, x8
 	sub	x10, x9, x10
 	cmp	x10, #5
@@ -7986,13 +7986,13 @@ Lnoise_BB18_28:
 	mov	w9, #8224
 	strh	w9, [x0, x8]
 Lnoise_loh74:
-	adrp	x9, lnoise__static.87@PAGE
+	adrp	x9, lnoise__static.88@PAGE
 Lnoise_loh75:
-	add	x9, x9, lnoise__static.87@PAGEOFF
+	add	x9, x9, lnoise__static.88@PAGEOFF
 Lnoise_loh76:
-	adrp	x11, lnoise__static.88@PAGE
+	adrp	x11, lnoise__static.89@PAGE
 Lnoise_loh77:
-	add	x11, x11, lnoise__static.88@PAGEOFF
+	add	x11, x11, lnoise__static.89@PAGEOFF
 	tst	w1, #0x1
 	csel	x9, x11, x9, ne
 	cmp	x10, #538
@@ -8076,9 +8076,9 @@ Lnoise_BB19_16:
 	cmp	x8, #540
 	b.eq	Lnoise_BB19_23
 Lnoise_loh82:
-	adrp	x9, lnoise__static.84@PAGE
+	adrp	x9, lnoise__static.85@PAGE
 Lnoise_loh83:
-	add	x9, x9, lnoise__static.84@PAGEOFF
+	add	x9, x9, lnoise__static.85@PAGEOFF
 	add	x8, x19, x25
 	sub	x9, x8, x9
 	cmp	x9, #1
@@ -9042,9 +9042,9 @@ Lnoise_BB24_12:
 	cmp	w8, w9
 	b.ne	Lnoise_BB24_16
 Lnoise_loh88:
-	adrp	x2, lnoise__static.97@PAGE
+	adrp	x2, lnoise__static.98@PAGE
 Lnoise_loh89:
-	add	x2, x2, lnoise__static.97@PAGEOFF
+	add	x2, x2, lnoise__static.98@PAGEOFF
 	add	x0, x19, x20
 	mov	w1, #24
 	bl	"_core::cmp::slices::groups_equal::<i8,31'core::cmp::numbers::U8PartialEq{}>"
@@ -11527,9 +11527,9 @@ Lnoise_BB29_25:
 	stp	q0, q0, [x29, #-224]
 	stp	q0, q0, [x29, #-256]
 Lnoise_loh100:
-	adrp	x2, lnoise__static.101@PAGE
+	adrp	x2, lnoise__static.102@PAGE
 Lnoise_loh101:
-	add	x2, x2, lnoise__static.101@PAGEOFF
+	add	x2, x2, lnoise__static.102@PAGEOFF
 	sub	x0, x29, #256
 	add	x1, sp, #176
 	mov	w3, #1
@@ -11539,9 +11539,9 @@ Lnoise_loh101:
 	sub	x8, x29, #192
 	stp	x8, x22, [sp, #416]
 Lnoise_loh102:
-	adrp	x8, lnoise__static.102@PAGE
+	adrp	x8, lnoise__static.103@PAGE
 Lnoise_loh103:
-	add	x8, x8, lnoise__static.102@PAGEOFF
+	add	x8, x8, lnoise__static.103@PAGEOFF
 	str	x8, [sp, #432]
 	mov	w8, #1
 	str	x8, [sp, #440]
@@ -11812,9 +11812,9 @@ Lnoise_BB29_46:
 	stp	q0, q0, [x29, #-160]
 	stp	q0, q0, [x29, #-192]
 Lnoise_loh106:
-	adrp	x2, lnoise__static.101@PAGE
+	adrp	x2, lnoise__static.102@PAGE
 Lnoise_loh107:
-	add	x2, x2, lnoise__static.101@PAGEOFF
+	add	x2, x2, lnoise__static.102@PAGEOFF
 	sub	x0, x29, #192
 	add	x1, sp, #16
 	mov	w3, #1
@@ -11824,9 +11824,9 @@ Lnoise_loh107:
 	sub	x8, x29, #128
 	stp	x8, x21, [x29, #-224]
 Lnoise_loh108:
-	adrp	x8, lnoise__static.102@PAGE
+	adrp	x8, lnoise__static.103@PAGE
 Lnoise_loh109:
-	add	x8, x8, lnoise__static.102@PAGEOFF
+	add	x8, x8, lnoise__static.103@PAGEOFF
 	stp	x8, x20, [x29, #-208]
 	sub	x0, x29, #160
 	add	x1, sp, #16
@@ -11931,9 +11931,9 @@ Lnoise_loh113:
 	and	x8, x8, #0x3f
 	stp	q0, q1, [sp, #112]
 Lnoise_loh114:
-	adrp	x1, lnoise__static.99@PAGE
+	adrp	x1, lnoise__static.100@PAGE
 Lnoise_loh115:
-	add	x1, x1, lnoise__static.99@PAGEOFF
+	add	x1, x1, lnoise__static.100@PAGEOFF
 	add	x0, sp, #112
 	add	x2, x8, #1
 	bl	"_sha2::block256::Core256::update"
@@ -12694,9 +12694,9 @@ Lnoise_BB32_55:
 	add	w24, w2, w0
 	add	w3, w0, w8
 Lnoise_loh116:
-	adrp	x26, lnoise__static.98@PAGE+124
+	adrp	x26, lnoise__static.99@PAGE+124
 Lnoise_loh117:
-	add	x26, x26, lnoise__static.98@PAGEOFF+124
+	add	x26, x26, lnoise__static.99@PAGEOFF+124
 	mov	w8, #3
 Lnoise_BB33_1:
 	str	w1, [sp, #40]
@@ -13273,9 +13273,9 @@ Lnoise_BB33_1:
 	stp	q0, q0, [x29, #-176]
 	stp	q0, q0, [x29, #-208]
 Lnoise_loh118:
-	adrp	x2, lnoise__static.101@PAGE
+	adrp	x2, lnoise__static.102@PAGE
 Lnoise_loh119:
-	add	x2, x2, lnoise__static.101@PAGEOFF
+	add	x2, x2, lnoise__static.102@PAGEOFF
 	sub	x0, x29, #208
 	add	x1, sp, #208
 	mov	w3, #1
@@ -13285,9 +13285,9 @@ Lnoise_loh119:
 	sub	x22, x29, #144
 	stp	x22, x21, [x29, #-240]
 Lnoise_loh120:
-	adrp	x8, lnoise__static.102@PAGE
+	adrp	x8, lnoise__static.103@PAGE
 Lnoise_loh121:
-	add	x8, x8, lnoise__static.102@PAGEOFF
+	add	x8, x8, lnoise__static.103@PAGEOFF
 	stp	x8, x20, [x29, #-224]
 	sub	x0, x29, #176
 	add	x1, sp, #208
@@ -13302,9 +13302,9 @@ Lnoise_loh121:
 	stp	q2, q3, [x29, #-144]
 	stp	x22, x21, [x29, #-176]
 Lnoise_loh122:
-	adrp	x8, lnoise__static.100@PAGE
+	adrp	x8, lnoise__static.101@PAGE
 Lnoise_loh123:
-	add	x8, x8, lnoise__static.100@PAGEOFF
+	add	x8, x8, lnoise__static.101@PAGEOFF
 	stp	x8, x20, [x29, #-160]
 	add	x0, sp, #80
 	add	x1, sp, #208
@@ -13587,9 +13587,9 @@ Lnoise_BB36_2:
 	and	x8, x8, #0x3f
 	stur	x22, [x29, #-96]
 Lnoise_loh128:
-	adrp	x20, lnoise__static.99@PAGE
+	adrp	x20, lnoise__static.100@PAGE
 Lnoise_loh129:
-	add	x20, x20, lnoise__static.99@PAGEOFF
+	add	x20, x20, lnoise__static.100@PAGEOFF
 	sub	x0, x29, #192
 	add	x2, x8, #1
 	mov	x1, x20
@@ -14949,9 +14949,9 @@ Lnoise_loh133:
 	str	q0, [x23, #1456]
 	str	q0, [x23, #1472]
 Lnoise_loh134:
-	adrp	x2, lnoise__static.101@PAGE
+	adrp	x2, lnoise__static.102@PAGE
 Lnoise_loh135:
-	add	x2, x2, lnoise__static.101@PAGEOFF
+	add	x2, x2, lnoise__static.102@PAGEOFF
 	sub	x0, x29, #256
 	add	x1, sp, #1088
 	mov	w3, #1
@@ -14964,9 +14964,9 @@ Lnoise_loh135:
 	str	x8, [sp, #2016]
 	str	x9, [sp, #2024]
 Lnoise_loh136:
-	adrp	x8, lnoise__static.102@PAGE
+	adrp	x8, lnoise__static.103@PAGE
 Lnoise_loh137:
-	add	x8, x8, lnoise__static.102@PAGEOFF
+	add	x8, x8, lnoise__static.103@PAGEOFF
 	str	x8, [sp, #2032]
 	str	x27, [sp, #2040]
 	sub	x0, x29, #224
@@ -15471,9 +15471,9 @@ Lnoise_BB45_26:
 	stp	q0, q0, [x29, #-224]
 	stp	q0, q0, [x29, #-256]
 Lnoise_loh138:
-	adrp	x2, lnoise__static.101@PAGE
+	adrp	x2, lnoise__static.102@PAGE
 Lnoise_loh139:
-	add	x2, x2, lnoise__static.101@PAGEOFF
+	add	x2, x2, lnoise__static.102@PAGEOFF
 	sub	x0, x29, #256
 	add	x1, sp, #128
 	mov	w3, #1
@@ -15483,9 +15483,9 @@ Lnoise_loh139:
 	sub	x8, x29, #192
 	stp	x8, x27, [sp, #368]
 Lnoise_loh140:
-	adrp	x8, lnoise__static.102@PAGE
+	adrp	x8, lnoise__static.103@PAGE
 Lnoise_loh141:
-	add	x8, x8, lnoise__static.102@PAGEOFF
+	add	x8, x8, lnoise__static.103@PAGEOFF
 	str	x8, [sp, #384]
 	mov	w8, #1
 	str	x8, [sp, #392]
@@ -17149,7 +17149,7 @@ Lnoise_BB70_20:
 	.p2align	2
 _noise_sentence:
 	.cfi_startproc
-	cmp	w0, #44
+	cmp	w0, #45
 	b.hi	Lnoise_BB71_2
 Lnoise_loh156:
 	adrp	x8, lnoise__switch.table.noise_sentence@PAGE
@@ -17167,9 +17167,9 @@ Lnoise_loh159:
 	ret
 Lnoise_BB71_2:
 Lnoise_loh160:
-	adrp	x8, lnoise__static.46@PAGE
+	adrp	x8, lnoise__static.47@PAGE
 Lnoise_loh161:
-	add	x8, x8, lnoise__static.46@PAGEOFF
+	add	x8, x8, lnoise__static.47@PAGEOFF
 	mov	w0, #41
 	str	x8, [x1]
 	ret
@@ -18624,9 +18624,9 @@ Lnoise_BB79_130:
 	b.hi	Lnoise_BB79_154
 	add	x11, sp, #2688
 Lnoise_loh162:
-	adrp	x8, lnoise__static.50@PAGE
+	adrp	x8, lnoise__static.51@PAGE
 Lnoise_loh163:
-	add	x8, x8, lnoise__static.50@PAGEOFF
+	add	x8, x8, lnoise__static.51@PAGEOFF
 	add	x9, x11, x9
 	sub	x11, x9, x8
 	cmp	x11, #3
@@ -18696,9 +18696,9 @@ Lnoise_BB79_146:
 	add	x8, sp, #2688
 	add	x8, x8, x9
 Lnoise_loh164:
-	adrp	x10, lnoise__static.97@PAGE
+	adrp	x10, lnoise__static.98@PAGE
 Lnoise_loh165:
-	add	x10, x10, lnoise__static.97@PAGEOFF
+	add	x10, x10, lnoise__static.98@PAGEOFF
 	ldr	q0, [x10]
 	str	q0, [x8]
 	ldr	x10, [x10, #16]
@@ -18751,9 +18751,9 @@ Lnoise_loh169:
 	str	q0, [sp, #2736]
 	str	q1, [sp, #2720]
 Lnoise_loh170:
-	adrp	x1, lnoise__static.99@PAGE
+	adrp	x1, lnoise__static.100@PAGE
 Lnoise_loh171:
-	add	x1, x1, lnoise__static.99@PAGEOFF
+	add	x1, x1, lnoise__static.100@PAGEOFF
 	add	x0, sp, #2688
 	add	x2, x8, #1
 	bl	"_sha2::block256::Core256::update"
@@ -24024,68 +24024,71 @@ lnoise__static.45:
 	.asciz	"The connection ended before the stream did.\000\000\000\000\000\000\000\000\000\000\000\000\000\000\000\000\000\000\000\000\000\000\000\000\000\000\000\000\000\000\000\000\000\000\000\000"
 
 lnoise__static.46:
+	.asciz	"A buffer that the call writes to overlaps another of its buffers.\000\000\000\000\000\000\000\000\000\000\000\000\000\000"
+
+lnoise__static.47:
 	.asciz	"This number is not a code of the library.\000\000\000\000\000\000\000\000\000\000\000\000\000\000\000\000\000\000\000\000\000\000\000\000\000\000\000\000\000\000\000\000\000\000\000\000\000\000"
 
-lnoise__static.50:
+lnoise__static.51:
 	.ascii	"psk"
 
-lnoise__static.81:
+lnoise__static.82:
 	.ascii	"  ...\n"
 
-lnoise__static.84:
+lnoise__static.85:
 	.ascii	", "
 
-lnoise__static.87:
+lnoise__static.88:
 	.ascii	"->"
 
-lnoise__static.88:
+lnoise__static.89:
 	.ascii	"<-"
 
-lnoise__static.89:
+lnoise__static.90:
 	.byte	101
 
-lnoise__static.90:
+lnoise__static.91:
 	.byte	115
 
-lnoise__static.91:
+lnoise__static.92:
 	.space	2,101
 
-lnoise__static.92:
+lnoise__static.93:
 	.ascii	"es"
 
-lnoise__static.93:
+lnoise__static.94:
 	.ascii	"se"
 
-lnoise__static.94:
+lnoise__static.95:
 	.space	2,115
 
-lnoise__static.95:
+lnoise__static.96:
 	.ascii	"  ..."
 
-lnoise__static.96:
+lnoise__static.97:
 	.ascii	"Noise_"
 
-lnoise__static.97:
+lnoise__static.98:
 	.ascii	"_25519_ChaChaPoly_SHA256"
 
 	.p2align	2, 0x0
-lnoise__static.98:
+lnoise__static.99:
 	.ascii	"\230/\212B\221D7q\317\373\300\265\245\333\265\351[\302V9\361\021\361Y\244\202?\222\325^\034\253\230\252\007\330\001[\203\022\276\2051$\303}\fUt]\276r\376\261\336\200\247\006\334\233t\361\233\301\301i\233\344\206G\276\357\306\235\301\017\314\241\f$o,\351-\252\204tJ\334\251\260\\\332\210\371vRQ>\230m\3061\250\310'\003\260\307\177Y\277\363\013\340\306G\221\247\325Qc\312\006g))\024\205\n\267'8!\033.\374m,M\023\r8STs\ne\273\njv.\311\302\201\205,r\222\241\350\277\242Kf\032\250p\213K\302\243Ql\307\031\350\222\321$\006\231\326\2055\016\364p\240j\020\026\301\244\031\bl7\036LwH'\265\274\2604\263\f\0349J\252\330NO\312\234[\363o.h\356\202\217toc\245x\024x\310\204\b\002\307\214\372\377\276\220\353lP\244\367\243\371\276\362xq\306"
 
-lnoise__static.99:
+lnoise__static.100:
 	.asciz	"\200\000\000\000\000\000\000\000\000\000\000\000\000\000\000\000\000\000\000\000\000\000\000\000\000\000\000\000\000\000\000\000\000\000\000\000\000\000\000\000\000\000\000\000\000\000\000\000\000\000\000\000\000\000\000\000\000\000\000\000\000\000\000"
 
-lnoise__static.100:
+lnoise__static.101:
 	.byte	3
 
 	.section	__DATA,__const
 	.p2align	3, 0x0
-lnoise__static.101:
-	.quad	lnoise__static.101+16
+lnoise__static.102:
+	.quad	lnoise__static.102+16
 	.asciz	"\001\000\000\000\000\000\000\000\001\000\000\000\000\000\000"
 
 	.section	__TEXT,__const
-lnoise__static.102:
+lnoise__static.103:
 	.byte	2
 
 	.p2align	3, 0x0
@@ -24101,13 +24104,13 @@ lnoise__static.102:
 	.section	__DATA,__const
 	.p2align	3, 0x0
 "l_switch.table.noise_names::text::write::push_token_line.202":
-	.quad	lnoise__static.89
 	.quad	lnoise__static.90
 	.quad	lnoise__static.91
 	.quad	lnoise__static.92
 	.quad	lnoise__static.93
 	.quad	lnoise__static.94
-	.quad	lnoise__static.50
+	.quad	lnoise__static.95
+	.quad	lnoise__static.51
 
 	.section	__TEXT,__const
 	.p2align	2, 0x0
@@ -24172,19 +24175,20 @@ lnoise__switch.table.noise_sentence:
 	.quad	26
 	.quad	39
 	.quad	43
+	.quad	65
 
 	.p2align	2, 0x0
 lnoise__switch.table.noise_sentence.203.rel:
 	.long	lnoise__static.4-lnoise__switch.table.noise_sentence.203.rel
 	.long	lnoise__static.5-lnoise__switch.table.noise_sentence.203.rel
 	.long	lnoise__static.6-lnoise__switch.table.noise_sentence.203.rel
-	.long	lnoise__static.46-lnoise__switch.table.noise_sentence.203.rel
+	.long	lnoise__static.47-lnoise__switch.table.noise_sentence.203.rel
 	.long	lnoise__static.7-lnoise__switch.table.noise_sentence.203.rel
 	.long	lnoise__static.8-lnoise__switch.table.noise_sentence.203.rel
 	.long	lnoise__static.9-lnoise__switch.table.noise_sentence.203.rel
 	.long	lnoise__static.10-lnoise__switch.table.noise_sentence.203.rel
 	.long	lnoise__static.11-lnoise__switch.table.noise_sentence.203.rel
-	.long	lnoise__static.46-lnoise__switch.table.noise_sentence.203.rel
+	.long	lnoise__static.47-lnoise__switch.table.noise_sentence.203.rel
 	.long	lnoise__static.12-lnoise__switch.table.noise_sentence.203.rel
 	.long	lnoise__static.13-lnoise__switch.table.noise_sentence.203.rel
 	.long	lnoise__static.14-lnoise__switch.table.noise_sentence.203.rel
@@ -24196,7 +24200,7 @@ lnoise__switch.table.noise_sentence.203.rel:
 	.long	lnoise__static.20-lnoise__switch.table.noise_sentence.203.rel
 	.long	lnoise__static.21-lnoise__switch.table.noise_sentence.203.rel
 	.long	lnoise__static.22-lnoise__switch.table.noise_sentence.203.rel
-	.long	lnoise__static.46-lnoise__switch.table.noise_sentence.203.rel
+	.long	lnoise__static.47-lnoise__switch.table.noise_sentence.203.rel
 	.long	lnoise__static.23-lnoise__switch.table.noise_sentence.203.rel
 	.long	lnoise__static.24-lnoise__switch.table.noise_sentence.203.rel
 	.long	lnoise__static.25-lnoise__switch.table.noise_sentence.203.rel
@@ -24220,6 +24224,7 @@ lnoise__switch.table.noise_sentence.203.rel:
 	.long	lnoise__static.43-lnoise__switch.table.noise_sentence.203.rel
 	.long	lnoise__static.44-lnoise__switch.table.noise_sentence.203.rel
 	.long	lnoise__static.45-lnoise__switch.table.noise_sentence.203.rel
+	.long	lnoise__static.46-lnoise__switch.table.noise_sentence.203.rel
 
 	.section	__TEXT,__literal16,16byte_literals
 	.p2align	2, 0x0

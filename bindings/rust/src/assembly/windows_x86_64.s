@@ -5109,7 +5109,7 @@
 	jne	.Lnoise_BB11_39
 	cmpl	$774774816, (%r12)
 	jne	.Lnoise_BB11_39
-	leaq	.Lnoise_static.95(%rip), %r8
+	leaq	.Lnoise_static.96(%rip), %r8
 	movl	$5, %edx
 	movq	%r12, %rcx
 	callq	"core::cmp::slices::groups_equal::<i8,31'core::cmp::numbers::U8PartialEq{}>"
@@ -5341,7 +5341,7 @@
 	movq	40(%rsp), %rcx
 	cmpl	$774774816, (%rcx)
 	jne	.Lnoise_BB11_82
-	leaq	.Lnoise_static.95(%rip), %r8
+	leaq	.Lnoise_static.96(%rip), %r8
 	movl	$5, %edx
 	callq	"core::cmp::slices::groups_equal::<i8,31'core::cmp::numbers::U8PartialEq{}>"
 	testb	%al, %al
@@ -8111,7 +8111,7 @@
 	ja	.Lnoise_BB18_23
 	leaq	(%rsp,%rbx), %rdx
 	addq	$32, %rdx
-	leaq	.Lnoise_static.50(%rip), %rcx
+	leaq	.Lnoise_static.51(%rip), %rcx
 	movq	%rdx, %r8
 	subq	%rcx, %r8
 	cmpq	$3, %r8
@@ -8215,7 +8215,7 @@
 	jb	.Lnoise_BB18_23
 	leaq	(%rsp,%rax), %rcx
 	addq	$296, %rcx
-	leaq	.Lnoise_static.81(%rip), %rdx
+	leaq	.Lnoise_static.82(%rip), %rdx
 	movq	%rcx, %r8
 	subq	%rdx, %r8
 	cmpq	$5, %r8
@@ -8297,8 +8297,8 @@
 	movq	%r9, %rdi
 	movq	%rcx, %rsi
 	movw	$8224, (%rcx,%rax)
-	leaq	.Lnoise_static.88(%rip), %r9
-	leaq	.Lnoise_static.87(%rip), %rcx
+	leaq	.Lnoise_static.89(%rip), %r9
+	leaq	.Lnoise_static.88(%rip), %rcx
 	testb	$1, %dl
 	cmovneq	%r9, %rcx
 	cmpq	$538, %r8
@@ -8380,7 +8380,7 @@
 	cmpq	$540, %rax
 	je	.Lnoise_BB19_23
 	leaq	(%rsi,%r15), %rax
-	leaq	.Lnoise_static.84(%rip), %rcx
+	leaq	.Lnoise_static.85(%rip), %rcx
 	movq	%rax, %rdx
 	subq	%rcx, %rdx
 	cmpq	$1, %rdx
@@ -10128,7 +10128,7 @@
 	addq	%rdi, %rsi
 	cmpl	$892678751, (%rsi)
 	jne	.Lnoise_BB23_14
-	leaq	.Lnoise_static.97(%rip), %r8
+	leaq	.Lnoise_static.98(%rip), %r8
 	movl	$24, %edx
 	movq	%rsi, %rcx
 	callq	"core::cmp::slices::groups_equal::<i8,31'core::cmp::numbers::U8PartialEq{}>"
@@ -12679,7 +12679,7 @@
 	movaps	%xmm6, 464(%rsp)
 	movaps	%xmm6, 416(%rsp)
 	movaps	%xmm6, 432(%rsp)
-	leaq	.Lnoise_static.101(%rip), %r8
+	leaq	.Lnoise_static.102(%rip), %r8
 	leaq	416(%rsp), %rcx
 	movl	$1, %r9d
 	movq	%r14, %rdx
@@ -12691,7 +12691,7 @@
 	leaq	128(%rsp), %rax
 	movq	%rax, 480(%rsp)
 	movq	$32, 488(%rsp)
-	leaq	.Lnoise_static.102(%rip), %rax
+	leaq	.Lnoise_static.103(%rip), %rax
 	movq	%rax, 496(%rsp)
 	movq	$1, 504(%rsp)
 	leaq	448(%rsp), %rcx
@@ -12993,7 +12993,7 @@
 	movaps	%xmm6, 96(%rsp)
 	movaps	%xmm6, 48(%rsp)
 	movaps	%xmm6, 64(%rsp)
-	leaq	.Lnoise_static.101(%rip), %r8
+	leaq	.Lnoise_static.102(%rip), %r8
 	leaq	48(%rsp), %rcx
 	movl	$1, %r9d
 	movq	%rdi, %rdx
@@ -13005,7 +13005,7 @@
 	leaq	112(%rsp), %rax
 	movq	%rax, 144(%rsp)
 	movq	$32, 152(%rsp)
-	leaq	.Lnoise_static.102(%rip), %rax
+	leaq	.Lnoise_static.103(%rip), %rax
 	movq	%rax, 160(%rsp)
 	movq	$1, 168(%rsp)
 	leaq	80(%rsp), %rcx
@@ -13110,7 +13110,7 @@
 	subl	%ebx, %r8d
 	andl	$63, %r8d
 	incq	%r8
-	leaq	.Lnoise_static.99(%rip), %rdx
+	leaq	.Lnoise_static.100(%rip), %rdx
 	leaq	160(%rsp), %rdi
 	movq	%rdi, %rcx
 	callq	"sha2::block256::Core256::update"
@@ -14065,7 +14065,7 @@
 	andl	%ecx, %edx
 	xorl	%r15d, %edx
 	addl	%r9d, %edx
-	leaq	.Lnoise_static.98(%rip), %r9
+	leaq	.Lnoise_static.99(%rip), %r9
 	addl	64(%rsi,%r9), %r8d
 	addl	%r14d, %r8d
 	addl	%r8d, %edx
@@ -14102,7 +14102,7 @@
 	xorl	%edi, %r10d
 	andl	%ebx, %r10d
 	movq	16(%rsp), %rsi
-	leaq	.Lnoise_static.98(%rip), %rbx
+	leaq	.Lnoise_static.99(%rip), %rbx
 	addl	68(%rsi,%rbx), %eax
 	xorl	%r13d, %r10d
 	movl	%edx, %esi
@@ -14154,7 +14154,7 @@
 	andl	%eax, %r11d
 	xorl	%edi, %r11d
 	movq	16(%rsp), %rsi
-	leaq	.Lnoise_static.98(%rip), %rdi
+	leaq	.Lnoise_static.99(%rip), %rdi
 	addl	72(%rsi,%rdi), %r13d
 	addl	%r14d, %r13d
 	movl	%ecx, 28(%rsp)
@@ -14204,7 +14204,7 @@
 	xorl	%r8d, %r10d
 	movq	16(%rsp), %rsi
 	movl	40(%rsp), %ebx
-	leaq	.Lnoise_static.98(%rip), %rdi
+	leaq	.Lnoise_static.99(%rip), %rdi
 	addl	76(%rsi,%rdi), %ebx
 	addl	%r12d, %ebx
 	addl	%r10d, %ebx
@@ -14253,7 +14253,7 @@
 	andl	%ebx, %r10d
 	xorl	%eax, %r10d
 	movq	16(%rsp), %rsi
-	leaq	.Lnoise_static.98(%rip), %rcx
+	leaq	.Lnoise_static.99(%rip), %rcx
 	addl	80(%rsi,%rcx), %r8d
 	addl	%r14d, %r8d
 	addl	%r10d, %r8d
@@ -14355,7 +14355,7 @@
 	andl	%eax, %r8d
 	xorl	%ebx, %r8d
 	movq	16(%rsp), %rdx
-	leaq	.Lnoise_static.98(%rip), %rax
+	leaq	.Lnoise_static.99(%rip), %rax
 	addl	88(%rdx,%rax), %r13d
 	addl	%r10d, %r13d
 	movl	%r15d, %edx
@@ -14478,7 +14478,7 @@
 	xorl	%r13d, %r9d
 	roll	$27, %r9d
 	movq	16(%rsp), %rsi
-	leaq	.Lnoise_static.98(%rip), %rbp
+	leaq	.Lnoise_static.99(%rip), %rbp
 	movl	92(%rsi,%rbp), %r14d
 	addl	%edi, %r14d
 	movl	%edi, %r10d
@@ -14644,7 +14644,7 @@
 	xorl	%esi, %eax
 	roll	$27, %eax
 	movq	16(%rsp), %r8
-	leaq	.Lnoise_static.98(%rip), %r12
+	leaq	.Lnoise_static.99(%rip), %r12
 	movl	108(%r8,%r12), %r12d
 	addl	%r10d, %r12d
 	addl	%r14d, %r12d
@@ -14688,7 +14688,7 @@
 	xorl	%r12d, %eax
 	roll	$26, %eax
 	movq	16(%rsp), %r8
-	leaq	.Lnoise_static.98(%rip), %rcx
+	leaq	.Lnoise_static.99(%rip), %rcx
 	movl	112(%r8,%rcx), %r14d
 	addl	%r11d, %r14d
 	addl	%r15d, %r14d
@@ -14948,7 +14948,7 @@
 	movaps	%xmm6, 48(%rsp)
 	movaps	%xmm6, 144(%rsp)
 	movaps	%xmm6, 160(%rsp)
-	leaq	.Lnoise_static.101(%rip), %r8
+	leaq	.Lnoise_static.102(%rip), %r8
 	leaq	144(%rsp), %rcx
 	movl	$1, %r9d
 	movq	%rdi, %rdx
@@ -14960,7 +14960,7 @@
 	leaq	64(%rsp), %rbx
 	movq	%rbx, 176(%rsp)
 	movq	$32, 184(%rsp)
-	leaq	.Lnoise_static.102(%rip), %rax
+	leaq	.Lnoise_static.103(%rip), %rax
 	movq	%rax, 192(%rsp)
 	movq	$1, 200(%rsp)
 	leaq	32(%rsp), %rcx
@@ -14982,7 +14982,7 @@
 	movaps	%xmm3, 80(%rsp)
 	movq	%rbx, 32(%rsp)
 	movq	$32, 40(%rsp)
-	leaq	.Lnoise_static.100(%rip), %rax
+	leaq	.Lnoise_static.101(%rip), %rax
 	movq	%rax, 48(%rsp)
 	movq	$1, 56(%rsp)
 	leaq	112(%rsp), %rcx
@@ -15345,7 +15345,7 @@
 	subl	%r15d, %r8d
 	andl	$63, %r8d
 	incq	%r8
-	leaq	.Lnoise_static.99(%rip), %rbx
+	leaq	.Lnoise_static.100(%rip), %rbx
 	leaq	32(%rsp), %r14
 	movq	%r14, %rcx
 	movq	%rbx, %rdx
@@ -16619,7 +16619,7 @@
 	movaps	%xmm6, 160(%rsp)
 	movaps	%xmm6, 112(%rsp)
 	movaps	%xmm6, 128(%rsp)
-	leaq	.Lnoise_static.101(%rip), %r8
+	leaq	.Lnoise_static.102(%rip), %r8
 	leaq	112(%rsp), %rcx
 	movl	$1, %r9d
 	movq	%rbx, %rdx
@@ -16631,7 +16631,7 @@
 	leaq	176(%rsp), %rax
 	movq	%rax, 672(%rsp)
 	movq	$32, 680(%rsp)
-	leaq	.Lnoise_static.102(%rip), %rax
+	leaq	.Lnoise_static.103(%rip), %rax
 	movq	%rax, 688(%rsp)
 	movq	$1, 696(%rsp)
 	leaq	144(%rsp), %rcx
@@ -17195,7 +17195,7 @@
 	movaps	%xmm6, 176(%rsp)
 	movaps	%xmm6, 128(%rsp)
 	movaps	%xmm6, 144(%rsp)
-	leaq	.Lnoise_static.101(%rip), %r8
+	leaq	.Lnoise_static.102(%rip), %r8
 	leaq	128(%rsp), %rcx
 	movl	$1, %r9d
 	movq	%r14, %rdx
@@ -17207,7 +17207,7 @@
 	leaq	192(%rsp), %rax
 	movq	%rax, 224(%rsp)
 	movq	$32, 232(%rsp)
-	leaq	.Lnoise_static.102(%rip), %rax
+	leaq	.Lnoise_static.103(%rip), %rax
 	movq	%rax, 240(%rsp)
 	movq	$1, 248(%rsp)
 	leaq	160(%rsp), %rcx
@@ -18954,7 +18954,7 @@ noise_seal_in_place:
 	.globl	noise_sentence
 	.p2align	4
 noise_sentence:
-	cmpl	$44, %ecx
+	cmpl	$45, %ecx
 	ja	.Lnoise_BB70_1
 	movl	%ecx, %ecx
 	leaq	.Lnoise_switch.table.noise_sentence(%rip), %rax
@@ -18965,7 +18965,7 @@ noise_sentence:
 	movq	%rcx, (%rdx)
 	retq
 .Lnoise_BB70_1:
-	leaq	.Lnoise_static.46(%rip), %rcx
+	leaq	.Lnoise_static.47(%rip), %rcx
 	movl	$41, %eax
 	movq	%rcx, (%rdx)
 	retq
@@ -20689,7 +20689,7 @@ noise_start:
 	ja	.Lnoise_BB78_204
 	leaq	(%rsp,%rcx), %rdx
 	addq	$352, %rdx
-	leaq	.Lnoise_static.50(%rip), %rcx
+	leaq	.Lnoise_static.51(%rip), %rcx
 	movq	%rdx, %r8
 	subq	%rcx, %r8
 	cmpq	$3, %r8
@@ -20746,7 +20746,7 @@ noise_start:
 	cmpq	$23, %rax
 	jbe	.Lnoise_BB78_204
 	movl	56(%rsp), %r12d
-	movups	.Lnoise_static.97(%rip), %xmm0
+	movups	.Lnoise_static.98(%rip), %xmm0
 	movups	%xmm0, 352(%rsp,%rcx)
 	movabsq	$3906083507781459833, %rax
 	movq	%rax, 368(%rsp,%rcx)
@@ -20798,7 +20798,7 @@ noise_start:
 	subl	%edi, %r8d
 	andl	$63, %r8d
 	incq	%r8
-	leaq	.Lnoise_static.99(%rip), %rdx
+	leaq	.Lnoise_static.100(%rip), %rdx
 	leaq	352(%rsp), %rbp
 	movq	%rbp, %rcx
 	callq	"sha2::block256::Core256::update"
@@ -26154,66 +26154,69 @@ noise_write:
 	.asciz	"The connection ended before the stream did.\000\000\000\000\000\000\000\000\000\000\000\000\000\000\000\000\000\000\000\000\000\000\000\000\000\000\000\000\000\000\000\000\000\000\000\000"
 
 .Lnoise_static.46:
+	.asciz	"A buffer that the call writes to overlaps another of its buffers.\000\000\000\000\000\000\000\000\000\000\000\000\000\000"
+
+.Lnoise_static.47:
 	.asciz	"This number is not a code of the library.\000\000\000\000\000\000\000\000\000\000\000\000\000\000\000\000\000\000\000\000\000\000\000\000\000\000\000\000\000\000\000\000\000\000\000\000\000\000"
 
-.Lnoise_static.50:
+.Lnoise_static.51:
 	.ascii	"psk"
 
-.Lnoise_static.81:
+.Lnoise_static.82:
 	.ascii	"  ...\n"
 
-.Lnoise_static.84:
+.Lnoise_static.85:
 	.ascii	", "
 
-.Lnoise_static.87:
+.Lnoise_static.88:
 	.ascii	"->"
 
-.Lnoise_static.88:
+.Lnoise_static.89:
 	.ascii	"<-"
 
-.Lnoise_static.89:
+.Lnoise_static.90:
 	.byte	101
 
-.Lnoise_static.90:
+.Lnoise_static.91:
 	.byte	115
 
-.Lnoise_static.91:
+.Lnoise_static.92:
 	.zero	2,101
 
-.Lnoise_static.92:
+.Lnoise_static.93:
 	.ascii	"es"
 
-.Lnoise_static.93:
+.Lnoise_static.94:
 	.ascii	"se"
 
-.Lnoise_static.94:
+.Lnoise_static.95:
 	.zero	2,115
 
-.Lnoise_static.95:
+.Lnoise_static.96:
 	.ascii	"  ..."
 
-.Lnoise_static.96:
+.Lnoise_static.97:
 	.ascii	"Noise_"
 
-.Lnoise_static.97:
+.Lnoise_static.98:
 	.ascii	"_25519_ChaChaPoly_SHA256"
 
 	.p2align	2, 0x0
-.Lnoise_static.98:
+.Lnoise_static.99:
 	.ascii	"\230/\212B\221D7q\317\373\300\265\245\333\265\351[\302V9\361\021\361Y\244\202?\222\325^\034\253\230\252\007\330\001[\203\022\276\2051$\303}\fUt]\276r\376\261\336\200\247\006\334\233t\361\233\301\301i\233\344\206G\276\357\306\235\301\017\314\241\f$o,\351-\252\204tJ\334\251\260\\\332\210\371vRQ>\230m\3061\250\310'\003\260\307\177Y\277\363\013\340\306G\221\247\325Qc\312\006g))\024\205\n\267'8!\033.\374m,M\023\r8STs\ne\273\njv.\311\302\201\205,r\222\241\350\277\242Kf\032\250p\213K\302\243Ql\307\031\350\222\321$\006\231\326\2055\016\364p\240j\020\026\301\244\031\bl7\036LwH'\265\274\2604\263\f\0349J\252\330NO\312\234[\363o.h\356\202\217toc\245x\024x\310\204\b\002\307\214\372\377\276\220\353lP\244\367\243\371\276\362xq\306"
 
-.Lnoise_static.99:
+.Lnoise_static.100:
 	.asciz	"\200\000\000\000\000\000\000\000\000\000\000\000\000\000\000\000\000\000\000\000\000\000\000\000\000\000\000\000\000\000\000\000\000\000\000\000\000\000\000\000\000\000\000\000\000\000\000\000\000\000\000\000\000\000\000\000\000\000\000\000\000\000\000"
 
-.Lnoise_static.100:
+.Lnoise_static.101:
 	.byte	3
 
 	.p2align	3, 0x0
-.Lnoise_static.101:
-	.quad	.Lnoise_static.101+16
+.Lnoise_static.102:
+	.quad	.Lnoise_static.102+16
 	.asciz	"\001\000\000\000\000\000\000\000\001\000\000\000\000\000\000"
 
-.Lnoise_static.102:
+.Lnoise_static.103:
 	.byte	2
 
 	.p2align	3, 0x0
@@ -26228,13 +26231,13 @@ noise_write:
 
 	.p2align	3, 0x0
 ".Lnoise_switch.table.noise_names::text::write::push_token_line.202":
-	.quad	.Lnoise_static.89
 	.quad	.Lnoise_static.90
 	.quad	.Lnoise_static.91
 	.quad	.Lnoise_static.92
 	.quad	.Lnoise_static.93
 	.quad	.Lnoise_static.94
-	.quad	.Lnoise_static.50
+	.quad	.Lnoise_static.95
+	.quad	.Lnoise_static.51
 
 	.p2align	2, 0x0
 ".Lnoise_switch.table.noise_c::messages::read_next":
@@ -26296,19 +26299,20 @@ noise_write:
 	.quad	26
 	.quad	39
 	.quad	43
+	.quad	65
 
 	.p2align	2, 0x0
 .Lnoise_switch.table.noise_sentence.203.rel:
 	.long	.Lnoise_static.4-.Lnoise_switch.table.noise_sentence.203.rel
 	.long	.Lnoise_static.5-.Lnoise_switch.table.noise_sentence.203.rel
 	.long	.Lnoise_static.6-.Lnoise_switch.table.noise_sentence.203.rel
-	.long	.Lnoise_static.46-.Lnoise_switch.table.noise_sentence.203.rel
+	.long	.Lnoise_static.47-.Lnoise_switch.table.noise_sentence.203.rel
 	.long	.Lnoise_static.7-.Lnoise_switch.table.noise_sentence.203.rel
 	.long	.Lnoise_static.8-.Lnoise_switch.table.noise_sentence.203.rel
 	.long	.Lnoise_static.9-.Lnoise_switch.table.noise_sentence.203.rel
 	.long	.Lnoise_static.10-.Lnoise_switch.table.noise_sentence.203.rel
 	.long	.Lnoise_static.11-.Lnoise_switch.table.noise_sentence.203.rel
-	.long	.Lnoise_static.46-.Lnoise_switch.table.noise_sentence.203.rel
+	.long	.Lnoise_static.47-.Lnoise_switch.table.noise_sentence.203.rel
 	.long	.Lnoise_static.12-.Lnoise_switch.table.noise_sentence.203.rel
 	.long	.Lnoise_static.13-.Lnoise_switch.table.noise_sentence.203.rel
 	.long	.Lnoise_static.14-.Lnoise_switch.table.noise_sentence.203.rel
@@ -26320,7 +26324,7 @@ noise_write:
 	.long	.Lnoise_static.20-.Lnoise_switch.table.noise_sentence.203.rel
 	.long	.Lnoise_static.21-.Lnoise_switch.table.noise_sentence.203.rel
 	.long	.Lnoise_static.22-.Lnoise_switch.table.noise_sentence.203.rel
-	.long	.Lnoise_static.46-.Lnoise_switch.table.noise_sentence.203.rel
+	.long	.Lnoise_static.47-.Lnoise_switch.table.noise_sentence.203.rel
 	.long	.Lnoise_static.23-.Lnoise_switch.table.noise_sentence.203.rel
 	.long	.Lnoise_static.24-.Lnoise_switch.table.noise_sentence.203.rel
 	.long	.Lnoise_static.25-.Lnoise_switch.table.noise_sentence.203.rel
@@ -26344,6 +26348,7 @@ noise_write:
 	.long	.Lnoise_static.43-.Lnoise_switch.table.noise_sentence.203.rel
 	.long	.Lnoise_static.44-.Lnoise_switch.table.noise_sentence.203.rel
 	.long	.Lnoise_static.45-.Lnoise_switch.table.noise_sentence.203.rel
+	.long	.Lnoise_static.46-.Lnoise_switch.table.noise_sentence.203.rel
 
 	.p2align	2, 0x0
 .Lnoise_switch.table.noise_stream_read:
@@ -28392,7 +28397,7 @@ noise_write:
 	xorl	%r13d, %eax
 	rorxl	$2, %eax, %eax
 	addl	%eax, %r11d
-	leaq	.Lnoise_static.98(%rip), %rax
+	leaq	.Lnoise_static.99(%rip), %rax
 	addl	64(%r12,%rax), %r14d
 	addl	%r9d, %r14d
 	addl	%r14d, %r11d
@@ -28418,7 +28423,7 @@ noise_write:
 	movl	%eax, 40(%rsp)
 	movl	%edi, %eax
 	andl	%r14d, %eax
-	leaq	.Lnoise_static.98(%rip), %rcx
+	leaq	.Lnoise_static.99(%rip), %rcx
 	addl	68(%r12,%rcx), %ebp
 	andnl	%ebx, %r14d, %ecx
 	orl	%ecx, %eax
@@ -28464,7 +28469,7 @@ noise_write:
 	andnl	%edi, %ebp, %ecx
 	orl	%ecx, %eax
 	movq	(%rsp), %rcx
-	leaq	.Lnoise_static.98(%rip), %r8
+	leaq	.Lnoise_static.99(%rip), %r8
 	addl	72(%rcx,%r8), %ebx
 	addl	%edx, %ebx
 	addl	%eax, %ebx
@@ -28509,7 +28514,7 @@ noise_write:
 	andnl	%r14d, %ebx, %ecx
 	orl	%ecx, %eax
 	movq	(%rsp), %rcx
-	leaq	.Lnoise_static.98(%rip), %r8
+	leaq	.Lnoise_static.99(%rip), %r8
 	addl	76(%rcx,%r8), %edi
 	addl	%r15d, %edi
 	addl	%eax, %edi
@@ -28554,7 +28559,7 @@ noise_write:
 	andnl	%ebp, %edi, %ecx
 	orl	%ecx, %eax
 	movq	(%rsp), %rcx
-	leaq	.Lnoise_static.98(%rip), %rdx
+	leaq	.Lnoise_static.99(%rip), %rdx
 	addl	80(%rcx,%rdx), %r14d
 	addl	%r9d, %r14d
 	addl	%eax, %r14d
@@ -28597,7 +28602,7 @@ noise_write:
 	movl	%edi, 84(%rsp)
 	andl	%r14d, %eax
 	movq	(%rsp), %rcx
-	leaq	.Lnoise_static.98(%rip), %rdx
+	leaq	.Lnoise_static.99(%rip), %rdx
 	addl	84(%rcx,%rdx), %ebp
 	andnl	%ebx, %r14d, %ecx
 	orl	%ecx, %eax
@@ -28647,7 +28652,7 @@ noise_write:
 	andnl	%edi, %ebp, %ecx
 	orl	%ecx, %eax
 	movq	(%rsp), %rcx
-	leaq	.Lnoise_static.98(%rip), %rdx
+	leaq	.Lnoise_static.99(%rip), %rdx
 	addl	88(%rcx,%rdx), %ebx
 	addl	%r12d, %ebx
 	addl	%eax, %ebx
@@ -28758,7 +28763,7 @@ noise_write:
 	andnl	%r11d, %ebx, %eax
 	orl	%eax, %ecx
 	movq	(%rsp), %rax
-	leaq	.Lnoise_static.98(%rip), %rsi
+	leaq	.Lnoise_static.99(%rip), %rsi
 	movl	92(%rax,%rsi), %eax
 	addl	%r9d, %eax
 	addl	84(%rsp), %eax
@@ -29014,7 +29019,7 @@ noise_write:
 	addl	%r13d, %ecx
 	addl	%r12d, %esi
 	movq	(%rsp), %r12
-	leaq	.Lnoise_static.98(%rip), %rdi
+	leaq	.Lnoise_static.99(%rip), %rdi
 	movl	120(%r12,%rdi), %r12d
 	addl	%r10d, %r12d
 	addl	%r11d, %r12d
