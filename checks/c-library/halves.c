@@ -125,7 +125,7 @@ static void check_words(void) {
         count++;
         for (uint32_t other = 0; other < code; other++) MUST(strcmp(noise_text(other), text));
     }
-    MUST(count == 42);
+    MUST(count == 43);
 }
 
 void check_halves(void) {

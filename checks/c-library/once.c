@@ -201,7 +201,7 @@ static void check_sentences(void) {
     }
     MUST(!strcmp(noise_text(UINT32_MAX), none) && !strcmp(none, "This number is not a code of the library."));
     MUST(!strcmp(noise_text(NOISE_OK), "The call succeeded."));
-    MUST(!strcmp(noise_text(NOISE_OVERLAP), "The connection ended before the stream did."));
+    MUST(!strcmp(noise_text(NOISE_CUT), "The connection ended before the stream did."));
 }
 
 void check_once(void) {
