@@ -313,7 +313,8 @@ def shared_format(groups: list[dict[str, Any]]) -> dict[str, Any]:
         is_plain = (
             group["type"] == "NoiseHandshake"
             and tests
-            and not flags & {"OwnPattern", "Rekey", "LongestPayload", "TransportSizes", "LongPrologue"}
+            and not any(flag.startswith("Rekey") for flag in flags)
+            and not flags & {"OwnPattern", "LongestPayload", "TransportSizes", "LongPrologue"}
         )
         if (
             is_plain
