@@ -105,7 +105,7 @@ def is_consistent(test: dict) -> bool:
 def main(words: list[str]) -> int:
     folder = Path(words[0])
     schema = json.loads((folder / "schema.json").read_text("ascii"))
-    files = sorted(folder.glob("*_*.json"))
+    files = sorted(folder.glob("*_*_*.json"))  # as 25519_ChaChaPoly_SHA256.json
     sizes = sum(it.stat().st_size for it in files), sum(len(gzip.compress(it.read_bytes())) for it in files)
     faults, tests = [], 0
     for path in files:
