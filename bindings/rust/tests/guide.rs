@@ -317,9 +317,12 @@ mod by_tokio {
         }
     }
 
+    // What an agent is asked: another party's key, and where the DH result goes.
+    type Ask = ([u8; 32], oneshot::Sender<Result<[u8; 32], DhError>>);
+
     // An agent: a task that has the secret key.
     #[derive(Clone)]
-    struct Keeper(mpsc::Sender<([u8; 32], oneshot::Sender<Result<[u8; 32], DhError>>)>);
+    struct Keeper(mpsc::Sender<Ask>);
 
     impl Keeper {
         fn start(key: KeyPair) -> Keeper {
