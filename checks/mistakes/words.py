@@ -92,8 +92,8 @@ def right_faults(program: str, pattern: str, seed: int) -> tuple[int, list[str]]
 
 
 def wrong_faults(program: str, seed: int) -> tuple[int, list[str]]:
-    """Of logs of parties with a mistake, with a word for no key in each line: how many, and of which neither the mistake
-    nor the form of the word is told."""
+    """Of logs of parties with a mistake, with a word for no key in each line: how many, and of which neither the
+    mistake nor the form of the word is told."""
     faults = []
     mistakes = ("prologue-left-out", "hkdf-inputs-exchanged", "name-hashed", "written-ephemeral-not-hashed")
     for mistake in mistakes:

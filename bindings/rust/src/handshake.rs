@@ -1,7 +1,5 @@
 use crate::header::{OK, WANTED, WANTED_PSK};
 use crate::raw::{self, CallResult, Held, Stage};
-#[cfg(feature = "std")]
-use crate::DhFuture;
 use crate::{Datagrams, Dh, Ephemeral, Error, ReceiveCipherState, SendCipherState, Transport};
 use core::fmt;
 use core::ops::Range;
@@ -224,8 +222,8 @@ impl<S: Dh, E: Ephemeral> Handshake<S, E> {
     }
 
     // The result that comes later, and how it is passed.
-    #[cfg(feature = "std")]
-    pub(crate) fn agree_async(&self) -> Option<DhFuture> {
+    #[cfg(any(feature = "tokio", feature = "futures-io"))]
+    pub(crate) fn agree_async(&self) -> Option<crate::DhFuture> {
         let (of_static, remote) = self.later.as_ref()?;
         match &self.static_key {
             Some(key) if *of_static != 0 => Some(key.agree_async(remote)),
@@ -233,7 +231,7 @@ impl<S: Dh, E: Ephemeral> Handshake<S, E> {
         }
     }
 
-    #[cfg(feature = "std")]
+    #[cfg(any(feature = "tokio", feature = "futures-io"))]
     pub(crate) fn answer_later(&mut self, dh_result: &[u8; 32]) -> Result<(), Error> {
         match self.later.take() {
             Some((of_static, remote)) => self.agreed(of_static, &remote, *dh_result),

@@ -73,8 +73,9 @@ static int answer(party *p, const noise_result *result) {
 static void passed(party *p) {
     noise_stage_result stage;
     if (noise_stage(&p->handshake, &stage) != NOISE_OK || stage.passed != stage.messages) return;
-    noise_hash(&p->handshake, p->hash);
-    noise_remote_static(&p->handshake, &p->remote);
+    // (without a static key of the other party, `remote` says so)
+    if (noise_hash(&p->handshake, p->hash) != NOISE_OK || noise_remote_static(&p->handshake, &p->remote) != NOISE_OK)
+        return;
     p->is_open = noise_finish_ciphers(&p->handshake, &p->ciphers[0], &p->ciphers[1]) == NOISE_OK;
 }
 
