@@ -12,6 +12,7 @@ mod strict;
 mod toy;
 
 // The local traits for the types of one library.
+#[cfg(any(feature = "tokio", feature = "futures-io"))]
 macro_rules! channels {
     ($poll_read:ident, $poll_end:ident, $read:expr) => {
         fn take(filled: Poll<io::Result<&[u8]>>, into: &mut [u8]) -> Poll<io::Result<usize>> {
