@@ -1,0 +1,133 @@
+"""What the prover says of a function whose text an edit has changed: over the proved libraries of the crates below its
+own (crates/NAME/out/rlib), that function and those that it calls are checked, and none of the others. What was refused
+is kept on this machine by a checksum of all that was read: the toolchain's name, the edited crate, the sources of those
+below it, and this file."""
+
+import hashlib
+import os
+import pathlib
+import re
+import shutil
+import subprocess
+import tempfile
+
+ROOT = pathlib.Path(__file__).resolve().parent.parent.parent
+PARTS = ("src", "specs", "proofs")
+FUNCTION = re.compile(r"^( *)(?:pub(?:\([^)]*\))? )?(?:unsafe )?(?:extern \"C\" )?fn (\w+)", re.MULTILINE)
+IMPL = re.compile(r"^impl(?:<[^{]*?>)? (?:(?:\w+::)*(\w+)(?:<[^{]*?>)? for )?(?:\w+::)*(\w+)", re.MULTILINE)
+GOAL = re.compile(r"^note: (src/[\w/]+\.rt):(\d+):\d+: (.*(?:not proved|did not prove).*)$", re.MULTILINE)
+
+
+KEPT = pathlib.Path(os.environ.get("XDG_CACHE_HOME") or pathlib.Path.home() / ".cache") / "yulimosar" / "mutants"
+
+
+class NotRefused(Exception):
+    """Why it isn't known that the prover refuses an edit."""
+
+
+def toolchain():
+    """The folder of the toolchain that `rt` is of."""
+    page = subprocess.run(["rt", "doc"], stdout=subprocess.PIPE, text=True, check=True).stdout.strip()
+    return pathlib.Path(page).parent
+
+
+def libraries():
+    """For each crate the words after its name in crates.txt: the libraries below it."""
+    lines = [line.partition("#")[0].partition(":") for line in (ROOT / "crates.txt").read_text().splitlines()]
+    return {name.split()[0]: words.split() for name, colon, words in lines if colon}
+
+
+def rlib(name):
+    """The proved library of a crate, as `rt ci` leaves it."""
+    return ROOT / "crates" / name / "out" / "rlib" / f"{name}.rlib"
+
+
+def lacking(name):
+    """The libraries below a crate that aren't there."""
+    every = libraries()
+    return [it for it in every[name] if it in every and not rlib(it).exists()]
+
+
+def words(name, base):
+    """The call of the prover that checks a crate."""
+    every = libraries()
+    below = [(it, rlib(it) if it in every else base / "rlibs" / f"{it}.rlib") for it in ["std", *every[name]]]
+    found = [str(base / "bin/rattle"), "check", "--crate-name", name, "src/lib.rt", "--jobs", "1"]
+    found += [word for it, path in below for word in ("--extern", f"{it}={path}")]
+    found += [word for it in every[name] if it in every for word in ("-L", f"dependency={rlib(it).parent}")]
+    found += ["-L", f"dependency={base}/rlibs", "--links", f"{name}="]
+    found += ["--antt-project", f"{base}/rattle/logic/antt-project.json", "--logic-built", f"{base}/logic_built"]
+    text = (ROOT / "crates.txt").read_text()
+    return found + (["--crate-type", "staticlib"] if re.search(rf"^{name} staticlib:", text, re.MULTILINE) else [])
+
+
+def sources(name):
+    """A checksum of the sources of a crate and of those below it, and of the toolchain's name."""
+    every, text = libraries(), hashlib.sha256((toolchain() / "KIT-ID").read_bytes())
+    text.update(pathlib.Path(__file__).read_bytes())
+    for crate in [name, *(it for it in every[name] if it in every)]:
+        for part in PARTS:
+            for file in sorted((ROOT / "crates" / crate / part).rglob("*")):
+                if file.is_file():
+                    text.update(f"{file.relative_to(ROOT)}\n".encode() + hashlib.sha256(file.read_bytes()).digest())
+    return text.hexdigest()
+
+
+def kept_verdict(sum_of_sources, edit, find):
+    """What an earlier run on this machine found of this edit over these sources, or else what is found now, which is
+    kept."""
+    file = KEPT / hashlib.sha256(sum_of_sources.encode() + edit.name.encode() + edit.read_bytes()).hexdigest()
+    if file.is_file() and file.stat().st_uid == os.getuid():
+        return file.read_text(encoding="utf-8")
+    found = find()
+    KEPT.mkdir(parents=True, exist_ok=True, mode=0o700)
+    file.write_text(found, encoding="utf-8")
+    return found
+
+
+def function_at(file, text, at):
+    """The path of the function of a file in whose text a place lies, and the lines from its contract to its end."""
+    before = list(FUNCTION.finditer(text, 0, at))
+    if not before:
+        raise NotRefused(f"its text stands in no function of {file}")
+    found = before[-1]
+    inside = [it for it in IMPL.finditer(text, 0, found.start())] if found[1] else []
+    path = file.removeprefix("src/").removesuffix(".rt").replace("/", "::")
+    # (a method of a trait's impl has the name of the type and of the trait in its path)
+    of_impl = inside[-1][2] + (inside[-1][1] or "") if inside else ""
+    parts = [it for it in (of_impl or (path if path != "lib" else ""), found[2]) if it]
+    end = text.find(f"\n{found[1]}}}", found.start())
+    first = text.rfind("\n\n", 0, found.start())
+    return "::".join(parts), range(text.count("\n", 0, first) + 1, text.count("\n", 0, end) + 3)
+
+
+def goals(said, file, lines):
+    """The open goals that the prover reports at these lines of a file."""
+    return [it[3] for it in GOAL.finditer(said) if it[1] == file and int(it[2]) in lines]
+
+
+def verdict(name, texts, changed, kept, call):
+    """The first open goal of a changed function, where a crate has these texts in place of its own. `changed` has a
+    file and a place in its text for each change; the functions below it that stay as they are are kept in a folder."""
+    functions = {function_at(file, texts[file], at) + (file,) for file, at in changed}
+    with tempfile.TemporaryDirectory(prefix="mutant-") as room:
+        for part in PARTS:
+            if (ROOT / "crates" / name / part).is_dir():
+                shutil.copytree(ROOT / "crates" / name / part, f"{room}/{part}")
+        for file, text in texts.items():
+            pathlib.Path(room, file).write_text(text, encoding="utf-8")
+        only = [word for path, _, _ in sorted(functions, key=str) for word in ("--only", path)]
+        ran = subprocess.run(
+            [*call, "--incremental", kept, *only], cwd=room, stdin=subprocess.DEVNULL, stdout=subprocess.PIPE,
+            stderr=subprocess.STDOUT, text=True, errors="replace", check=False,
+            env={**os.environ, "TMPDIR": room},
+        )
+    last = ran.stdout.rstrip().split("\n")[-1]
+    count = re.fullmatch(r"only=(\d+) proved=(\d+)", last)
+    if ran.returncode == 0 and count:
+        raise NotRefused("not refused: " + ", ".join(path for path, _, _ in functions) + " still meets its contract")
+    found = [goal for _, lines, file in functions for goal in goals(ran.stdout, file, lines)]
+    if ran.returncode != 1 or not count or not found:
+        told = [it for it in ran.stdout.split("\n") if re.match(r"(note: )?\S+:\d+:\d+: ", it)] or [last]
+        raise NotRefused(f"no open goal of its function (status {ran.returncode}): {told[0][:200]}")
+    return found[0]
