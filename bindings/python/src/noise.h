@@ -58,11 +58,10 @@ extern "C" {
 #endif
 
 /* What a call returns; noise_text says what each code means. A call's comment ends with its
-   codes but OK. If several apply, the call returns the first. After any code but OK everything
-   except `result` is as it was, but:
+   codes but OK. If several apply, the call returns the first. None returns AGREEMENT. After any
+   code but OK everything except `result` is as it was, but:
    - SHORT and TAG of noise_read end the handshake.
-   - END of noise_stream_read, and its refusals, end the stream.
-   - AGREEMENT comes only of a struct that something else has changed, maybe with other changes. */
+   - END of noise_stream_read, and its refusals, end the stream. */
 enum noise_code {
     NOISE_OK = 0, NOISE_NAME = 1, NOISE_PATTERN = 2, NOISE_EPHEMERAL_MISSING = 4,
     NOISE_STATIC_MISSING = 5, NOISE_REMOTE_MISSING = 6, NOISE_REMOTE_UNEXPECTED = 7,

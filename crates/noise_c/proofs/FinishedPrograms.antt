@@ -22,7 +22,7 @@ use Rattle.noise_c.specs.CipherStructs.{begun_cipher, receiving_cipher, sending_
 use Rattle.noise_c.specs.DatagramStructs.{datagram_receiver_from_c, datagram_sender_from_c, window_in}
 use Rattle.noise_c.specs.HalfStructs.{half_from_c}
 use Rattle.noise_c.specs.HandedIn.{dh_results_in}
-use Rattle.noise_c.specs.TwoPrograms.{Passed, Program, HaveTalked, start_by}
+use Rattle.noise_c.specs.TwoPrograms.{Passed, Program, HaveTalked, program_start}
 use Rattle.noise_c.specs.FinishedPrograms.{CipherFace, DatagramFace, IsDone, ProgramsFinish, ProgramsFinishFacing}
 use Rattle.noise_c.specs.Finishing.{Finishes}
 use Rattle.noise_c.proofs.Talking.{Laws, Talk, silent, speaks, hears}
@@ -165,13 +165,13 @@ finish-both met p g h t set_up set_up_too keys done done_too =
     let w : Party = m.right.party in
     let here = m.left.stands.keeps in
     let there = m.right.stands.keeps in
-    let ps = exchanged (begun_as p Initiator (start_by g)) v g.written g.read m.left.talk in
-    let qs = exchanged (begun_as p Responder (start_by h)) w h.written h.read m.right.talk in
+    let ps = exchanged (begun_as p Initiator (program_start g)) v g.written g.read m.left.talk in
+    let qs = exchanged (begun_as p Responder (program_start h)) w h.written h.read m.right.talk in
     let all : g.last.passed ≡ length p.messages = done.passed p here.pattern in
     record {
       pattern = p;
-      left = start_by g;
-      right = start_by h;
+      left = program_start g;
+      right = program_start h;
       messages = ps.0;
       messages_too = qs.0;
       party = v;
@@ -194,7 +194,7 @@ finish-both met p g h t set_up set_up_too keys done done_too =
       stands_too = there;
       facing = done-alike p g h m (at-end g.last done) (at-end h.last done_too);
       finishes = finishes g.last p (with_dh_results v (dh_results_in g.last)) m.left.stands.usable here
-          (kept-going (begun_as p Initiator (start_by g)) v ps.0 ps.1) done;
+          (kept-going (begun_as p Initiator (program_start g)) v ps.0 ps.1) done;
       finishes_too = finishes h.last p (with_dh_results w (dh_results_in h.last)) m.right.stands.usable there
-          (kept-going (begun_as p Responder (start_by h)) w qs.0 qs.1) done_too;
+          (kept-going (begun_as p Responder (program_start h)) w qs.0 qs.1) done_too;
     }

@@ -1,13 +1,13 @@
 -- A psk that is stored after the others.
-use Rattle.std.proofs.Common.{◌≡◌, ◌≤◌, ◌<◌, ◌+◌, ◌-◌, ◌++◌, ◌∷◌, [], ℕ, List, length, drop, slice_set, drop-drop, length-drop, length-append, refl, ap, sym, subst, ◌∙◌, arith}
+use Rattle.std.proofs.Common.{true, ◌≡◌, ◌≤◌, ◌<◌, ◌+◌, ◌-◌, ◌++◌, ◌∷◌, [], ℕ, List, length, drop, slice_set, drop-drop, length-drop, length-append, refl, ap, sym, subst, ◌∙◌, arith}
 use Rattle.std.proofs.lemmas.List.{append_assoc, append_cancel_left, drop-append-le, set-append_right}
 use Rattle.std.proofs.lemmas.List.Edits.{paste_all}
 use Rattle.std.specs.List.{copy_within}
 use Rattle.std.specs.Prelude.{map, take}
 use Rattle.std.proofs.lemmas.List.{map-append, take_all}
-use Rattle.noise_c.specs.HandshakeStructs.{entry_in}
+use Rattle.noise_c.specs.HandshakeStructs.{entry_in, supplied}
 use Rattle.noise_c.specs.declared.structs.NoiseAnswer.{NoiseAnswer}
-use Rattle.noise_c.proofs.Common.{Plan, HandshakeValue, with_later, IsLateWhole, Party, Table, NoiseHandshake, psks_of, IsParty, IsValid, pairs_in, text_from_c, handshake_from_c, IsGiven, IsPatternOf, IsUsable, KeepsParty}
+use Rattle.noise_c.proofs.Common.{◌==◌, nat_tests, Plan, HandshakeValue, with_later, IsLateWhole, Party, Table, NoiseHandshake, psks_of, IsParty, IsValid, pairs_in, text_from_c, handshake_from_c, IsGiven, IsPatternOf, IsUsable, KeepsParty}
 use Rattle.noise_handshake.specs.Parts.{IsWholeValue}
 
 set-first : {X : Type 0} (ws : List X) (y : X) → length ws ≡ 1 → slice_set ws 0 y ≡ y ∷ []
@@ -102,6 +102,10 @@ results-moved k y new long full e =
     ap (map entry_in) (ap (take k.answer_count) e ∙ take_all k.answer_count (drop 1 k.answers ++ y ∷ []) (omega (arith, eight, full)))
     ∙ entries-moved k.answers y
     ∙ ap (λ (z : List NoiseAnswer). drop 1 (map entry_in z) ++ entry_in y ∷ []) (sym (take_all k.answer_count k.answers (omega (arith, long, full))))
+
+-- what a DH result makes of a struct with eight
+pub supplied-full : (k : NoiseHandshake) (last : NoiseAnswer) → k.answer_count ≡ 8 → record k { answers = drop 1 k.answers ++ last ∷ [] } ≡ supplied k last
+supplied-full k last full = let e : (k.answer_count == 8) ≡ true = grind (arith, nat_tests) in rw e refl
 
 -- a struct whose DH results alone change is still what a call has left
 pub usable-results : (old new : NoiseHandshake) → (new ≡ record old { answers = new.answers; answer_count = new.answer_count }) → new.answer_count ≤ 8 → IsUsable old → IsUsable new

@@ -19,9 +19,9 @@ use Rattle.noise_c.specs.HandedIn.{dh_results_in}
 use Rattle.noise_c.specs.HandshakeStructs.{ForParty, Supplies}
 use Rattle.noise_c.specs.HalfStructs.{half_from_c}
 use Rattle.noise_c.specs.Outcomes.{WriteOutcome, ReadOutcome}
-use Rattle.noise_c.specs.Outcomes.WriteOutcome.{written, wants_dh_result as write_wants, wants_psk as write_wants_psk, withheld, no_dh_result as write_fails, no_room, unusable as write_unusable}
+use Rattle.noise_c.specs.Outcomes.WriteOutcome.{written, wants_dh_result as write_wants, wants_psk as write_wants_psk, withheld, no_room, unusable as write_unusable}
 use Rattle.noise_c.specs.Outcomes.ReadOutcome.{accepted, wants_dh_result as read_wants, wants_psk as read_wants_psk, declined, refused, too_long, unusable as read_unusable}
-use Rattle.noise_c.specs.TwoPrograms.{Secrets, Passed, Calls, Program, HasRun, HaveTalked, TwoProgramsAgree, start_by}
+use Rattle.noise_c.specs.TwoPrograms.{Secrets, Passed, Calls, Program, HasRun, HaveTalked, TwoProgramsAgree, program_start}
 use Rattle.noise_c.specs.TwoPrograms.Calls.{none, wrote, took, answered, set_psk, kept}
 use Rattle.noise_c.proofs.Runs.{either, only-one, keeps-next, keeps-with}
 use Rattle.noise_duel.specs.SetUpAlike.{material_of}
@@ -37,7 +37,6 @@ written-of k next payload out after results new _ (written u m r l d f) e = (u, 
 written-of k next payload out after results new _ (write_wants a b c f) e = absurd (omega (arith, e))
 written-of k next payload out after results new _ (write_wants_psk a b c f) e = absurd (omega (arith, e))
 written-of k next payload out after results new _ (withheld code low high a b c f) e = absurd (omega (arith, e, low))
-written-of k next payload out after results new _ (write_fails a b c f) e = absurd (omega (arith, e))
 written-of k next payload out after results new _ (no_room a b c d g) e = absurd (omega (arith, e))
 written-of k next payload out after results new _ (write_unusable a b c d) e = absurd (omega (arith, e))
 
@@ -188,9 +187,9 @@ IsAtEnd k = ForParty k (λ _ v. v.passed ≡ length v.pattern.messages)
 no-dh-result : (setup : NoiseSetup) (all : DhResults) → AreAmong (agreement_in (table_of setup)) all
 no-dh-result setup all o k y e = cc
 
-pub begins : (p : Plan) (role : Role) (g : Program) → HasRun p role g → Stands p g.secrets (begun_as p role (start_by g)) g.begun
+pub begins : (p : Plan) (role : Role) (g : Program) → HasRun p role g → Stands p g.secrets (begun_as p role (program_start g)) g.begun
 begins p role g h =
-    let v : Party = begun_as p role (start_by g) in
+    let v : Party = begun_as p role (program_start g) in
     let none_yet : DhResults = agreement_in (table_of g.setup) in
     let kept0 : KeepsParty g.begun p (begun_in p g.prologue g.setup h.later) = h.started.begun_is p h.named h.later in
     let as_role : KeepsParty g.begun p (party_at_start p role g.prologue (public_in (table_of g.setup)) none_yet (remote_of g.setup)
@@ -265,10 +264,9 @@ module _ (laws : Reading) (p : Plan) (s : Secrets) (v : Party) (k : NoiseHandsha
       absurd (not-declined now m.message m.payload c (record { going = l.going; more = l.more; turn = l.turn }) w.fault code low w.code_is w.declines)
   taken ends next after results new _ (refused code low high a b d e f) =
       let w = f p now st.keeps in
-      let r = w.1 in
-      absurd (laws.apart v m.message c m.payload new.token r.cause accepts
-      ((laws.whole v (dh_results_in k) v.agree st.among).refuses m.message new.token r.cause
-      (λ is. w.0 (agreement-code r.cause code r.code_is is)) r.refuses))
+      absurd (laws.apart v m.message c m.payload new.token w.cause accepts
+      ((laws.whole v (dh_results_in k) v.agree st.among).refuses m.message new.token w.cause
+      (λ is. omega (arith, low, agreement-code w.cause code w.code_is is)) w.refuses))
   taken ends next after results new _ (too_long a b d e) = absurd (omega (arith, a, accepts.fits))
   taken ends next after results new _ (read_unusable a b d) = absurd (a st.usable)
 
@@ -306,9 +304,9 @@ module _ (v w : Party) (h : Counterparts v w) (interval : ℕ) where
 
 -- the parties of two programs that have talked
 pub record Met (p : Plan) (g h : Program) : Type 0 where
-  pub left : Walked p g.secrets (begun_as p Initiator (start_by g)) g.last g.written g.read
-  pub right : Walked p h.secrets (begun_as p Responder (start_by h)) h.last h.written h.read
-  pub facing : Counterparts (begun_as p Initiator (start_by g)) (begun_as p Responder (start_by h))
+  pub left : Walked p g.secrets (begun_as p Initiator (program_start g)) g.last g.written g.read
+  pub right : Walked p h.secrets (begun_as p Responder (program_start h)) h.last h.written h.read
+  pub facing : Counterparts (begun_as p Initiator (program_start g)) (begun_as p Responder (program_start h))
   pub both : Together left.party right.party g.written g.read h.written h.read
 
 -- both parties have come to the end, and so equally far
@@ -330,8 +328,8 @@ module _ (laws : Laws) (reading : Reading) (showing : Showing)
     → StartAsCounterparts p prologue psks own theirs agree their_agree known their_known) where
   pub met : (p : Plan) (g h : Program) → HaveTalked p g h → Met p g h
   met p g h t =
-      let a : Start = start_by g in
-      let b : Start = start_by h in
+      let a : Start = program_start g in
+      let b : Start = program_start h in
       let v0 : Party = begun_as p Initiator a in
       let w0 : Party = begun_as p Responder b in
       let faced0 : Counterparts v0 (party_at_start p Responder a.prologue b.own b.agree b.remote a.psks) =
@@ -351,8 +349,8 @@ module _ (laws : Laws) (reading : Reading) (showing : Showing)
 
   pub agree-both : TwoProgramsAgree
   agree-both p g h t =
-      let a : Start = start_by g in
-      let b : Start = start_by h in
+      let a : Start = program_start g in
+      let b : Start = program_start h in
       let v0 : Party = begun_as p Initiator a in
       let w0 : Party = begun_as p Responder b in
       let m = met p g h t in

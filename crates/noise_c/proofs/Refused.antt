@@ -25,7 +25,7 @@ ends-refused old mid p v m code token same w = record {
 }
 
 abbrev IsRefusalCode : ℕ → Type 0
-IsRefusalCode code = (14 ≤ code) × (code ≤ 16)
+IsRefusalCode code = (15 ≤ code) × (code ≤ 16)
 
 -- one of the other numbers
 outside : (code : ℕ) → (code ≡ 10) ⊎ ((12 ≤ code) × (code ≤ 13)) → IsRefusalCode code → ⊥
@@ -44,6 +44,6 @@ module _ (old mid new : NoiseHandshake) (m after : List ℕ) (r next : NoiseResu
   ends code (refused n low high e s u a f) is same =
       subst (λ (z : NoiseHandshake). ReadOutcome true old m r z after next n) (sym (is (low, high)))
       (refused n low high e (ap (λ (z : NoiseHandshake). record z { ended = 1 }) s) (λ o. usable-ended mid (u o)) a
-      (λ p v k. let w = f p v k in (w.0, ends-refused old mid p v m n next.token s w.1)))
+      (λ p v k. ends-refused old mid p v m n next.token s (f p v k)))
   ends code (too_long n u e a) is same = too_long n u e a
   ends code (unusable n e a) is same = unusable n e a

@@ -7,6 +7,7 @@ use Rattle.noise_handshake.specs.Calls.{HasRead, HasWritten}
 use Rattle.noise_handshake.specs.HandshakeValue.{HasPsks, after_read, after_written, gone_on, tokens_due}
 use Rattle.noise_handshake.specs.Matching.{party_of}
 use Rattle.noise_handshake.specs.Opening.{IsOpenedOf, OpenedValue}
+use Rattle.noise_c.specs.HandshakeStructs.{KeepsPsks, held_psks, psks_due}
 use Rattle.noise_c.specs.declared.codes.numbers.TheConstants.{HANDSHAKE}
 
 module _ (old new : NoiseHandshake) (h h2 : HandshakeValue Table) (p : Plan) (v : Party) (one : (q : Plan) → IsPatternOf (text_from_c old) q → q ≡ h.pattern) (same : h ≡ handshake_from_c h.pattern old)
@@ -158,3 +159,16 @@ pub psks-left : (old : NoiseHandshake) (h h2 : HandshakeValue Table) (state : Sy
 psks-left old h h2 state remote left few count same after e =
     psks-after old h h2 _ few count same (psks-taken h h2 state remote after)
     ∙ ap (λ (z : List (List ℕ)). drop (9 - length z) old.psks) (sym e)
+
+-- a message leaves all psks but those of its own tokens
+pub keeps-psks : (old new : NoiseHandshake) (h h2 : HandshakeValue Table) (state : SymmetricState) (remote : Remote)
+    → ((q : Plan) → IsPatternOf (text_from_c old) q → q ≡ h.pattern) → h ≡ handshake_from_c h.pattern old
+    → HasPsks h → h2 ≡ gone_on h state remote → handshake_from_c h2.pattern new ≡ h2 → KeepsPsks old new
+keeps-psks old new h h2 state remote one same few after stored p named = (
+  subst (λ (q : Plan). psks_due q old ≤ length (held_psks old)) (sym (one p named))
+      (subst (λ (z : HandshakeValue Table). count_by is_psk (tokens_due z) ≤ length z.psks) same few),
+  ap (λ (z : HandshakeValue Table). z.psks) stored
+      ∙ ap (λ (z : HandshakeValue Table). z.psks) after
+      ∙ ap (λ (z : HandshakeValue Table). drop (count_by is_psk (tokens_due z)) z.psks) same
+      ∙ ap (λ (q : Plan). drop (psks_due q old) (held_psks old)) (sym (one p named)),
+)

@@ -13,9 +13,9 @@ use Rattle.noise_handshake.specs.Setup.{has_before}
 use Rattle.noise_handshake.specs.Counterparts.{DhResultsAgree, keys_if, xor_agreement, xor_public}
 use Rattle.noise_c.specs.HandshakeStructs.{IsStarted, Supplies, key_from_c, key_to_c}
 use Rattle.noise_c.specs.Outcomes.{ReadOutcome, WriteOutcome}
-use Rattle.noise_c.specs.Outcomes.WriteOutcome.{written, wants_dh_result as write_wants, wants_psk as write_wants_psk, withheld, no_dh_result as write_fails, no_room, unusable as write_unusable}
+use Rattle.noise_c.specs.Outcomes.WriteOutcome.{written, wants_dh_result as write_wants, wants_psk as write_wants_psk, withheld, no_room, unusable as write_unusable}
 use Rattle.noise_c.specs.Outcomes.ReadOutcome.{accepted, wants_dh_result as read_wants, wants_psk as read_wants_psk, declined, refused, too_long, unusable as read_unusable}
-use Rattle.noise_c.specs.TwoPrograms.{Agree, Calls, HaveTalked, Passed, Program, TwoProgramsAgree, start_by}
+use Rattle.noise_c.specs.TwoPrograms.{Agree, Calls, HaveTalked, Passed, Program, TwoProgramsAgree, program_start}
 use Rattle.noise_c.specs.TwoPrograms.Calls.{none, wrote, took, answered}
 use Rattle.noise_c.specs.FinishedPrograms.{HaveBothFinished, IsDone, ProgramsFinish}
 use Rattle.noise_c.specs.Toys.{Leads, Passes, toy_secrets, toy_setup}
@@ -55,7 +55,6 @@ written-fits k next payload out after results new _ (written u m r l d f) e = l
 written-fits k next payload out after results new _ (write_wants a b c f) e = absurd (omega (arith, e))
 written-fits k next payload out after results new _ (write_wants_psk a b c f) e = absurd (omega (arith, e))
 written-fits k next payload out after results new _ (withheld code low high a b c f) e = absurd (omega (arith, e, low))
-written-fits k next payload out after results new _ (write_fails a b c f) e = absurd (omega (arith, e))
 written-fits k next payload out after results new _ (no_room a b c d g) e = absurd (omega (arith, e))
 written-fits k next payload out after results new _ (write_unusable a b c d) e = absurd (omega (arith, e))
 
@@ -66,7 +65,6 @@ write-wants k next payload out after results new _ (written u m r l d f) e = abs
 write-wants k next payload out after results new _ (write_wants a b c f) e = b
 write-wants k next payload out after results new _ (write_wants_psk a b c f) e = b
 write-wants k next payload out after results new _ (withheld code low high a b c f) e = b
-write-wants k next payload out after results new _ (write_fails a b c f) e = b
 write-wants k next payload out after results new _ (no_room a b c d g) e = d
 write-wants k next payload out after results new _ (write_unusable a b c d) e = c
 
@@ -158,9 +156,9 @@ module _ (law : TwoProgramsAgree) (shown : RemoteIsShown) (xor : XorKeysAgree) (
   calls_too = m1.reads p (of m2.message payload ∷ []) (of m3.message three ∷ []) l3
       (m2.writes p [] (of m3.message three ∷ []) l3 (m3.reads p [] [] l3 (none l3)))
 
-  dh_results : DhResultsAgree p Initiator (start_by left).own (xor_agreement a) (start_by right).own (xor_agreement b)
+  dh_results : DhResultsAgree p Initiator (program_start left).own (xor_agreement a) (program_start right).own (xor_agreement b)
   dh_results =
-      subst (λ (z : Own → Option (List ℕ)). DhResultsAgree p Initiator z (xor_agreement a) (start_by right).own (xor_agreement b)) (sym (public-is 0 a))
+      subst (λ (z : Own → Option (List ℕ)). DhResultsAgree p Initiator z (xor_agreement a) (program_start right).own (xor_agreement b)) (sym (public-is 0 a))
       (subst (λ (z : Own → Option (List ℕ)). DhResultsAgree p Initiator (xor_public a) (xor_agreement a) z (xor_agreement b)) (sym (public-is 1 b))
       (xor a b p Initiator (remote_of (toy_setup 0 a)) (remote_of (toy_setup 1 b)) (max 0 (psks_of p.messages)) (max 0 (psks_of p.messages)) valid
       (subst (λ (z : Own → Option (List ℕ)). setup_fault p Initiator z (remote_of (toy_setup 0 a)) (max 0 (psks_of p.messages)) ≡ None) (public-is 0 a)
@@ -178,8 +176,8 @@ module _ (law : TwoProgramsAgree) (shown : RemoteIsShown) (xor : XorKeysAgree) (
         responder = record { named = named; role_is = refl; later = []; psks = refl; started = started_too; calls = calls_too };
         prologue = refl;
         psks = refl;
-        known = none-shown (has_before p Responder E) (has_before p Responder S) (start_by right).own mine.0 mine.1;
-        known_too = none-shown (has_before p Initiator E) (has_before p Initiator S) (start_by left).own theirs.0 theirs.1;
+        known = none-shown (has_before p Responder E) (has_before p Responder S) (program_start right).own mine.0 mine.1;
+        known_too = none-shown (has_before p Initiator E) (has_before p Initiator S) (program_start left).own theirs.0 theirs.1;
         dh_results = dh_results;
         there = ([], refl);
         back = ([], refl);
@@ -196,8 +194,8 @@ module _ (law : TwoProgramsAgree) (shown : RemoteIsShown) (xor : XorKeysAgree) (
   pub finished : ProgramsFinish → psks_of p.messages ≡ 0 → IsDone k3 → IsDone l3 → HaveBothFinished k3 l3
   finished finish none_due done done_too =
       finish p left right talked
-      (subst (λ (n : ℕ). setup_fault p Initiator (start_by left).own (start_by left).remote (max 0 n) ≡ None) none_due (fault p named valid))
-      (subst (λ (n : ℕ). setup_fault p Responder (start_by right).own (start_by right).remote (max 0 n) ≡ None) none_due (fault_too p named valid))
+      (subst (λ (n : ℕ). setup_fault p Initiator (program_start left).own (program_start left).remote (max 0 n) ≡ None) none_due (fault p named valid))
+      (subst (λ (n : ℕ). setup_fault p Responder (program_start right).own (program_start right).remote (max 0 n) ≡ None) none_due (fault_too p named valid))
       (λ x y k l r s own theirs gives gives_too.
       xor_dh_result-same (key_of x a.e a.s) (key_of y b.e b.s) k l r s (sym (ap (λ (f : Own → Option (List ℕ)). f x) (public-is 0 a)) ∙ own)
       (sym (ap (λ (f : Own → Option (List ℕ)). f y) (public-is 1 b)) ∙ theirs) gives gives_too)

@@ -58,12 +58,12 @@ encrypt_code k ad text room =
 -- the number of a message of this length that isn't looked into, by that of the associated data too
 abbrev pub decrypt_refusal : NoiseCipher → ℕ → ℕ → Option ℕ
 decrypt_refusal k ad message =
-    if not (k.mark == RECEIVING_CIPHER) then Some 23
-    else if not (k.one_way == 0) then Some 22
-    else if nat_lt 65535 ad then Some 24
-    else if k.nonce == last_nonce then Some 17
-    else if nat_lt 65535 message then Some 11
-    else if nat_lt message 16 then Some 15
+    if not (k.mark == RECEIVING_CIPHER) then Some STRUCT
+    else if not (k.one_way == 0) then Some ONE_WAY
+    else if nat_lt 65535 ad then Some LENGTH
+    else if k.nonce == last_nonce then Some EXHAUSTED
+    else if nat_lt 65535 message then Some TOO_LONG
+    else if nat_lt message 16 then Some SHORT
     else None
 
 -- it is no text's, with this associated data

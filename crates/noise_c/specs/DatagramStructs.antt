@@ -75,7 +75,7 @@ pub record SealsInto (n : ℕ) (payload : List ℕ) (old new : NoiseDatagramSend
 -- the number of a datagram that isn't looked into
 abbrev pub datagram_open_refusal : NoiseDatagramReceiver → List ℕ → Option ℕ
 datagram_open_refusal k bytes =
-    if not (is_datagram_receiver k) then Some 23
+    if not (is_datagram_receiver k) then Some STRUCT
     else option_map datagram_code (datagram_receiver_fault (datagram_receiver_from_c k) bytes)
 
 -- The bytes after the nonce are the message of the payload, under the struct's key and at the nonce that they name.

@@ -30,7 +30,7 @@ use Rattle.noise_c.specs.DhResults.{DhResults, with_dh_results}
 use Rattle.noise_c.specs.Finishing.{AreCiphersOf, AreDatagramHalvesOf, AreStreamHalvesOf, Finishes}
 use Rattle.noise_c.specs.HalfStructs.{party_in}
 use Rattle.noise_c.specs.HandshakeStructs.{ForParty, ForPattern, KeepsParty}
-use Rattle.noise_c.specs.TwoPrograms.{Face, HaveTalked, Program, start_by}
+use Rattle.noise_c.specs.TwoPrograms.{Face, HaveTalked, Program, program_start}
 
 -- ---- what faces each other
 
@@ -89,7 +89,7 @@ pub record HaveBothFinished (k l : NoiseHandshake) : Type 0 where
 -- So it is of two programs, both made without a fault, whose keys agree.
 abbrev pub ProgramsFinish : Type 0
 ProgramsFinish = (p : Plan) (g h : Program) → HaveTalked p g h
-    → IsSetUp p Initiator (start_by g) → IsSetUp p Responder (start_by h) → KeysAgree (start_by g) (start_by h)
+    → IsSetUp p Initiator (program_start g) → IsSetUp p Responder (program_start h) → KeysAgree (program_start g) (program_start h)
     → IsDone g.last → IsDone h.last → HaveBothFinished g.last h.last
 
 -- ---- what one of them reads

@@ -55,8 +55,8 @@ sender_seal_code k payload room =
 -- the number of a message of this length that isn't looked into
 abbrev pub receiver_open_refusal : NoiseHalf → ℕ → Option ℕ
 receiver_open_refusal k message =
-    if not (is_half RECEIVER k) then Some 23
-    else if nat_lt 65535 message then Some 24
+    if not (is_half RECEIVER k) then Some STRUCT
+    else if nat_lt 65535 message then Some LENGTH
     else option_map open_code (receiver_fault (half_from_c k))
 
 -- one message more, which may have changed the key

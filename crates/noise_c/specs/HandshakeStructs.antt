@@ -1,10 +1,11 @@
 -- What the struct of a handshake matches.
-use Rattle.std.specs.Prelude.{◌≡◌, ◌⊎◌, ◌↔◌, ◌<◌, ℕ, ◌≤◌, ◌==◌, nat_eq, nat_lt, Bool, true, false, not, List, [], ◌∷◌, ◌++◌, length, take, map, Option, Some, None, Result, IfOk, IfErr, IsOk, if◌then◌else◌, replicate, drop, ◌-◌}
+use Rattle.std.specs.Prelude.{◌≡◌, ◌⊎◌, ◌↔◌, ◌<◌, ℕ, ◌≤◌, ◌==◌, nat_eq, nat_lt, Bool, true, false, not, List, [], ◌∷◌, ◌++◌, length, take, map, Option, Some, None, Result, IfOk, IfErr, IsOk, if◌then◌else◌, replicate, drop, ◌-◌, ◌+◌, count_by, slice_set}
 use Rattle.std.specs.List.{ends_with}
 use Rattle.noise_names.specs.declared.token.Role.{Role}
 use Rattle.noise_names.specs.declared.token.Role.TheVariants.{Initiator, Responder}
 use Rattle.noise_names.specs.Names.{Section, Names}
 use Rattle.noise_names.specs.Plan.{Plan}
+use Rattle.noise_names.specs.Tokens.{is_psk}
 use Rattle.noise_names.specs.Text.{Spells}
 use Rattle.noise_names.specs.Fundamental.{fundamental_of}
 use Rattle.noise_names.specs.Limits.{Placed}
@@ -26,7 +27,7 @@ use Rattle.noise_handshake.specs.Parts.{HasProgress}
 use Rattle.noise_handshake.specs.declared.parts.Progress.{Progress}
 use Rattle.noise_handshake.specs.Late.{with_later, late_fault, IsLateWhole}
 use Rattle.noise_handshake.specs.Setup.{party_at_start, psks_of}
-use Rattle.noise_handshake.specs.Party.{Party, Accepts, Refuses}
+use Rattle.noise_handshake.specs.Party.{Party, Accepts, Refuses, tokens_at}
 use Rattle.noise_handshake.specs.Writing.{Writes}
 use Rattle.noise_handshake.specs.Matching.{IsParty, after_message, after_own, DoesNotRead, ended_party, DoesNotWrite}
 use Rattle.noise_c.specs.declared.structs.NoiseKey.{NoiseKey}
@@ -141,6 +142,10 @@ pub record FindsPattern (IsOf : Plan → Type 0) (longest len : ℕ) (IsFault : 
   pub found : (q : Plan) → IsOf q → IsValid q → IsOk r
   pub fault : IfErr r (λ code. IsFault code)
 
+-- the psks that were handed in and that no message has used yet
+abbrev pub held_psks : NoiseHandshake → List (List ℕ)
+held_psks k = drop (9 - k.psk_count) k.psks
+
 -- the handshake
 abbrev pub handshake_from_c : Plan → NoiseHandshake → HandshakeValue Table
 handshake_from_c p k = record {
@@ -148,7 +153,7 @@ handshake_from_c p k = record {
   role = role_in k.responder;
   keys = table_in k;
   remote = record { e = key_from_c k.remote_e; s = key_from_c k.remote_s };
-  psks = drop (9 - k.psk_count) k.psks;
+  psks = held_psks k;
   passed = k.passed;
   ended = not (k.ended == 0);
   state = state_of
@@ -181,6 +186,30 @@ ForParty k P = (p : Plan) (v : Party) → KeepsParty k p v → P p v
 abbrev pub ForPattern : NoiseHandshake → (Plan → Type 0) → Type 0
 ForPattern k P = (p : Plan) → IsPatternOf (text_from_c k) p → P p
 
+-- how many psk tokens its next message has
+abbrev pub psks_due : Plan → NoiseHandshake → ℕ
+psks_due p k = count_by is_psk (tokens_at p.messages k.passed)
+
+-- A message has used a psk for each of its psk tokens. All the others are held, for the psk tokens that are to come.
+abbrev pub KeepsPsks : NoiseHandshake → NoiseHandshake → Type 0
+KeepsPsks old new = ForPattern old (λ p. (psks_due p old ≤ length (held_psks old))
+    × (held_psks new ≡ drop (psks_due p old) (held_psks old)))
+
+-- What no message changes is as it was: the text, the role, the own public keys, the DH results and the bytes of the
+-- psks. Where there is no key there are zeros.
+abbrev pub KeepsRest : NoiseHandshake → NoiseHandshake → Type 0
+KeepsRest old new = new ≡ record old {
+  remote_e = key_to_c (key_from_c new.remote_e);
+  remote_s = key_to_c (key_from_c new.remote_s);
+  psk_count = new.psk_count;
+  passed = new.passed;
+  ended = new.ended;
+  chaining_key = new.chaining_key;
+  hash = new.hash;
+  cipher = key_to_c (key_from_c new.cipher);
+  nonce = new.nonce;
+}
+
 -- the length of its next message with a payload of this length, if one is due
 abbrev pub HasMessageLen : NoiseHandshake → ℕ → Option ℕ → Type 0
 HasMessageLen k payload len = ForPattern k (λ p. message_len_of (handshake_from_c p k) payload ≡ len)
@@ -205,6 +234,7 @@ pub record StoresProgress (progress : Progress) (left : ℕ) (old new : NoiseHan
   pub answers : new.answer_count ≡ old.answer_count
   pub psks : new.psk_count ≡ left
   pub rest : (new.psks ≡ old.psks) × (new.answers ≡ old.answers)
+  pub only : KeepsRest old new
 
 -- The payload was accepted, and the struct matches the state after the message.
 pub record WasRead (p : Plan) (v : Party) (message payload : List ℕ) (k : NoiseHandshake) : Type 0 where
@@ -267,6 +297,12 @@ pub record IsAddedForFirst (old new : NoiseHandshake) (entry : TableEntry) : Typ
       ≡ record (handshake_from_c p old) {
         keys = record (table_in old) { entries = drop 1 (table_in old).entries ++ entry ∷ [] };
       }
+
+-- The struct has this DH result behind the others, and the ninth in place of the first. All else is as it was.
+abbrev pub supplied : NoiseHandshake → NoiseAnswer → NoiseHandshake
+supplied k last =
+    if k.answer_count == 8 then record k { answers = drop 1 k.answers ++ last ∷ [] }
+    else record k { answers = slice_set k.answers k.answer_count last; answer_count = k.answer_count + 1 }
 
 -- A DH result is supplied to a struct with the mark of a handshake; the ninth takes the place of the first. A struct
 -- that a call has left remains one.

@@ -1,11 +1,11 @@
 -- What writing and reading a message come to.
-use Rattle.std.specs.Prelude.{◌≡◌, Bool, ℕ, ◌+◌, ◌<◌, ◌≤◌, ◌⊎◌, List, Option, length, take, drop, replicate, slice_range, Some}
+use Rattle.std.specs.Prelude.{◌≡◌, Bool, ℕ, ◌+◌, ◌<◌, ◌≤◌, ◌⊎◌, List, Option, length, take, drop, slice_range, Some}
 use Rattle.noise_names.specs.Plan.{Plan}
 use Rattle.noise_handshake.specs.HandshakeValue.{message_len_of}
 use Rattle.noise_handshake.specs.Asking.{WantsPskToRead, WantsPskToWrite}
 use Rattle.noise_handshake.specs.Party.{Party}
 use Rattle.noise_handshake.specs.Wanting.{WantsToRead, WantsToWrite}
-use Rattle.noise_c.specs.declared.codes.numbers.TheConstants.{AGREEMENT, DONE, ENDED, LENGTH, NOT_YOUR_TURN, OK, ROOM, STRUCT, TAG, WANTED, WANTED_PSK}
+use Rattle.noise_c.specs.declared.codes.numbers.TheConstants.{DONE, ENDED, LENGTH, NOT_YOUR_TURN, OK, ROOM, SHORT, STRUCT, TAG, WANTED, WANTED_PSK}
 use Rattle.noise_c.specs.declared.structs.NoiseHandshake.{NoiseHandshake}
 use Rattle.noise_c.specs.declared.structs.NoiseResult.{NoiseResult}
 use Rattle.noise_c.specs.HalfStructs.{IsAround}
@@ -29,9 +29,6 @@ pub data WriteOutcome (old : NoiseHandshake) (payload out : List ℕ) (results :
   withheld : (code : ℕ) → NOT_YOUR_TURN ≤ code → code ≤ ENDED → next ≡ results → new ≡ old → after ≡ out
       → ForParty old (λ _ v. WasWithheld v (length payload) code)
       → WriteOutcome old payload out results new after next code
-  -- of a struct that matches no state, which no call leaves: the buffer is zeros
-  no_dh_result : next ≡ results → new ≡ old → after ≡ replicate (length out) 0 → ForParty old (λ _ _. ⊥)
-      → WriteOutcome old payload out results new after next AGREEMENT
   no_room : HasMessageLen old (length payload) (Some next.len) → length out < next.len
       → next ≡ record results { len = next.len } → new ≡ old → after ≡ out
       → WriteOutcome old payload out results new after next ROOM
@@ -54,10 +51,10 @@ pub data ReadOutcome (ends : Bool) (old : NoiseHandshake) (message : List ℕ) (
   declined : (code : ℕ) → (code ≡ NOT_YOUR_TURN) ⊎ ((DONE ≤ code) × (code ≤ ENDED))
       → next ≡ results → new ≡ old → after ≡ message → ForParty old (λ _ v. WasDeclined v message code)
       → ReadOutcome ends old message results new after next code
-  refused : (code : ℕ) → AGREEMENT ≤ code → code ≤ TAG
+  refused : (code : ℕ) → SHORT ≤ code → code ≤ TAG
       → next ≡ record results { token = next.token } → new ≡ struct_left ends old → (IsUsable old → IsUsable new)
       → after ≡ message
-      → ForParty old (λ p v. (code ≡ AGREEMENT → ⊥) × WasRefused ends p v message code next.token new)
+      → ForParty old (λ p v. WasRefused ends p v message code next.token new)
       → ReadOutcome ends old message results new after next code
   too_long : 65535 < length message → IsUsable old → next ≡ results → after ≡ message
       → ReadOutcome ends old message results new after next LENGTH

@@ -79,8 +79,8 @@ pub record Program : Type 0 where
   pub last : NoiseHandshake
 
 -- what it started from, as both parties of a handshake are described
-abbrev pub start_by : Program → Start
-start_by g = record {
+abbrev pub program_start : Program → Start
+program_start g = record {
   prologue = g.prologue;
   own = public_in (table_of g.setup);
   agree = g.secrets.dh_results;
@@ -112,9 +112,9 @@ pub record HaveTalked (p : Plan) (g h : Program) : Type 0 where
   pub responder : HasRun p Responder h
   pub prologue : h.prologue ≡ g.prologue
   pub psks : h.secrets.psks ≡ g.secrets.psks
-  pub known : remote_of g.setup ≡ shown_before p Responder (start_by h).own
-  pub known_too : remote_of h.setup ≡ shown_before p Initiator (start_by g).own
-  pub dh_results : DhResultsAgree p Initiator (start_by g).own (start_by g).agree (start_by h).own (start_by h).agree
+  pub known : remote_of g.setup ≡ shown_before p Responder (program_start h).own
+  pub known_too : remote_of h.setup ≡ shown_before p Initiator (program_start g).own
+  pub dh_results : DhResultsAgree p Initiator (program_start g).own (program_start g).agree (program_start h).own (program_start h).agree
   pub there : IsFront (messages_in h.read) (messages_in g.written)
   pub back : IsFront (messages_in g.read) (messages_in h.written)
 
@@ -125,10 +125,10 @@ those_by role n (m ∷ ms) =
     (if same_role (turn_from Initiator n) role then m ∷ [] else []) ++ those_by role (n + 1) ms
 
 -- the transcript's messages with these payloads, which both programs' keys and psks determine (Noise 5.3)
-abbrev pub transcript_of : Plan → Program → Program → List (List ℕ) → List Passed
-transcript_of p g h payloads =
+abbrev pub transcript_between : Plan → Program → Program → List (List ℕ) → List Passed
+transcript_between p g h payloads =
     map (λ m. record { message = m.message; payload = m.payload })
-    (conversation (material_of (start_by g) (start_by h)) p 0 g.secrets.psks (begun_as p Initiator (start_by g)).state
+    (conversation (material_of (program_start g) (program_start h)) p 0 g.secrets.psks (begun_as p Initiator (program_start g)).state
     payloads)
 
 -- Each half of one party is the counterpart of the other's: it has the same key, nonce and interval, and the other
@@ -158,8 +158,8 @@ pub record Agree (p : Plan) (g h : Program) : Type 0 where
   pub there : IsFront h.read g.written
   pub back : IsFront g.read h.written
   pub payloads : List (List ℕ)
-  pub by_initiator : g.written ≡ those_by Initiator 0 (transcript_of p g h payloads)
-  pub by_responder : h.written ≡ those_by Responder 0 (transcript_of p g h payloads)
+  pub by_initiator : g.written ≡ those_by Initiator 0 (transcript_between p g h payloads)
+  pub by_responder : h.written ≡ those_by Responder 0 (transcript_between p g h payloads)
   pub next_there : TakesNext g.written h.read h.last
   pub next_back : TakesNext h.written g.read g.last
   pub hash : g.last.passed ≡ h.last.passed → g.last.hash ≡ h.last.hash

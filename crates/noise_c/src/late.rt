@@ -3,7 +3,7 @@
 ghost use Rattle.std.specs.Prelude.{◌≡◌, ◌<◌, ◌≤◌, ◌∷◌, ◌++◌, [], drop, replicate, take};
 ghost use Rattle.noise_names.specs.Plan.{Plan};
 ghost use Rattle.noise_handshake.specs.Party.{Party};
-ghost use Rattle.noise_c.specs.HandshakeStructs.{own_in, GoesOn, IsUsable, KeepsParty, SetsPsk, StoresPsk, Supplies, TakesPskBack, UnsetsPsk};
+ghost use Rattle.noise_c.specs.HandshakeStructs.{own_in, supplied, GoesOn, IsUsable, KeepsParty, SetsPsk, StoresPsk, Supplies, TakesPskBack, UnsetsPsk};
 ghost use Rattle.noise_c.specs.declared.codes.numbers.TheConstants.{OK};
 
 use crate::codes::numbers::{HANDSHAKE, OK, PSK_COUNT, STRUCT};
@@ -21,8 +21,10 @@ pub extern "C" fn noise_answer(
     remote: &[u8; 32],
     answer: &[u8; 32],
 ) -> u32
-    ensures { Supplies handshake.old handshake.new
+    ensures supplies { Supplies handshake.old handshake.new
         (record { own = own_in of_static; remote = remote.now; answer = answer.now }) result }
+    ensures value { result ≡ OK → handshake.new
+        ≡ supplied handshake.old (record { of_static = of_static; remote = remote.now; answer = answer.now }) }
 {
     if handshake.mark != HANDSHAKE || handshake.answer_count > 8 {
         return STRUCT;

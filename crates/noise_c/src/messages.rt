@@ -1,18 +1,16 @@
 //! Exports: writing and reading the messages of a handshake.
 
-ghost use Rattle.std.specs.Prelude.{◌≡◌, ◌≤◌, ◌<◌, ◌⊎◌, ◌↔◌, length, replicate, true, false};
-ghost use Rattle.noise_handshake.specs.HandshakeValue.{IsAgreement};
-ghost use Rattle.noise_c.specs.Codes.{write_code};
-ghost use Rattle.noise_c.specs.HandshakeStructs.{IsUsable, ReportsDhResult, ReportsRemote, ReportsWant};
+ghost use Rattle.std.specs.Prelude.{◌≡◌, ◌≤◌, ◌<◌, ◌⊎◌, ◌↔◌, length, true, false};
+ghost use Rattle.noise_c.specs.HandshakeStructs.{IsUsable, KeepsPsks, KeepsRest, ReportsDhResult, ReportsRemote, ReportsWant};
 ghost use Rattle.noise_c.specs.Outcomes.{AsksToRead, AsksToWrite, ReadOutcome, RefusesRoom, WriteOutcome};
 ghost use Rattle.noise_c.specs.declared.codes.numbers.TheConstants.{ENDED, LENGTH, OK, STRUCT, WANTED, WANTED_PSK};
 
-use crate::codes::numbers::{AGREEMENT, LENGTH, OK, ROOM, STRUCT, TAG, WANTED, WANTED_PSK};
+use crate::codes::numbers::{LENGTH, OK, ROOM, SHORT, STRUCT, TAG, WANTED, WANTED_PSK};
 use crate::codes::{read_code, some_or, write_code};
 use crate::from_c::{handshake_from_c, store_progress};
 use crate::structs::{NoiseHandshake, NoiseResult};
 use crate::supplied_keys::{key_to_c, own_to_c};
-use noise_handshake::{ReadFault, Unread, Unwritten, Want, WriteFault};
+use noise_handshake::{ReadFault, Unread, Unwritten, Want};
 use noise_state::limits::MAX_LEN;
 
 // Reports what is wanted, and returns the number of that.
@@ -37,23 +35,9 @@ fn report_want(want: Want, results: &mut NoiseResult) -> u32
     }
 }
 
-// The number of a fault of writing. Only where a DH result is lacking something may be written by then, and the buffer
-// is set to zeros.
-fn withhold(fault: WriteFault, out: &mut [u8]) -> u32
-    ensures code { result ≡ write_code fault }
-    ensures zeros { IsAgreement fault → out.new ≡ replicate (length out.old) 0 }
-    ensures unchanged { (IsAgreement fault → ⊥) → out.new ≡ out.old }
-{
-    if let WriteFault::Agreement { .. } = fault {
-        out.fill(0);
-    }
-    write_code(fault)
-}
-
 /// Writes a message to the front of `out`, and reports its length. ROOM reports the length that `out` is too short for,
 /// WANTED the DH result that is lacking, and WANTED_PSK the other party's static key where a psk is lacking: hand in
-/// what is wanted, and call again. AGREEMENT can only come of memory that no call has left, and sets `out` to zeros.
-/// After each other number but OK it is as it was.
+/// what is wanted, and call again. After each number but OK `out` is as it was.
 #[unsafe(no_mangle)]
 pub extern "C" fn noise_write(
     handshake: &mut NoiseHandshake,
@@ -64,6 +48,8 @@ pub extern "C" fn noise_write(
     ensures unusable { result ≡ STRUCT ↔ (IsUsable handshake.old → ⊥) }
     ensures outcome { WriteOutcome handshake.old payload.now out.old results.old
         handshake.new out.new results.new result }
+    ensures held { result ≡ OK → KeepsPsks handshake.old handshake.new }
+    ensures rest { result ≡ OK → KeepsRest handshake.old handshake.new }
     ensures short { RefusesRoom handshake.old (length payload.now) (length out.old) result }
     ensures asked { AsksToWrite handshake.old (length payload.now) (length out.old) result }
 {
@@ -83,13 +69,12 @@ pub extern "C" fn noise_write(
             OK
         }
         Err(Unwritten::Wants(want)) => report_want(want, results),
-        Err(Unwritten::Withheld(fault)) => withhold(fault, out),
+        Err(Unwritten::Withheld(fault)) => write_code(fault),
     }
 }
 
-/// Reads a message in place, and reports where its payload is. WANTED, WANTED_PSK and AGREEMENT are as for
-/// `noise_write`; the static key is reported as it is known before the psk token, also from this message. A refusal
-/// ends the handshake.
+/// Reads a message in place, and reports where its payload is. WANTED and WANTED_PSK are as for `noise_write`; the
+/// static key is reported as it is known before the psk token, also from this message. A refusal ends the handshake.
 #[unsafe(no_mangle)]
 pub extern "C" fn noise_read(
     handshake: &mut NoiseHandshake,
@@ -100,11 +85,13 @@ pub extern "C" fn noise_read(
     ensures length { result ≡ LENGTH ↔ ((65535 < length message.old) × IsUsable handshake.old) }
     ensures outcome { ReadOutcome true handshake.old message.old results.old
         handshake.new message.new results.new result }
+    ensures held { result ≡ OK → KeepsPsks handshake.old handshake.new }
+    ensures rest { result ≡ OK → KeepsRest handshake.old handshake.new }
     ensures left { (result ≤ ENDED) ⊎ (WANTED ≤ result) → OK < result → handshake.new ≡ handshake.old }
     ensures asked { AsksToRead handshake.old message.old results.new result }
 {
     let code = read_next(handshake, message, results);
-    if AGREEMENT <= code && code <= TAG {
+    if SHORT <= code && code <= TAG {
         handshake.ended = 1;
     }
     code
@@ -122,6 +109,8 @@ pub extern "C" fn noise_try_read(
     ensures length { result ≡ LENGTH ↔ ((65535 < length message.old) × IsUsable handshake.old) }
     ensures outcome { ReadOutcome false handshake.old message.old results.old
         handshake.new message.new results.new result }
+    ensures held { result ≡ OK → KeepsPsks handshake.old handshake.new }
+    ensures rest { result ≡ OK → KeepsRest handshake.old handshake.new }
     ensures unchanged { OK < result → (handshake.new ≡ handshake.old) × (message.new ≡ message.old) }
     ensures asked { AsksToRead handshake.old message.old results.new result }
 {
@@ -134,6 +123,8 @@ fn read_next(handshake: &mut NoiseHandshake, message: &mut [u8], results: &mut N
     ensures length { result ≡ LENGTH ↔ ((65535 < length message.old) × IsUsable handshake.old) }
     ensures outcome { ReadOutcome false handshake.old message.old results.old
         handshake.new message.new results.new result }
+    ensures held { result ≡ OK → KeepsPsks handshake.old handshake.new }
+    ensures rest { result ≡ OK → KeepsRest handshake.old handshake.new }
     ensures unchanged { OK < result → (handshake.new ≡ handshake.old) × (message.new ≡ message.old) }
     ensures asked { AsksToRead handshake.old message.old results.new result }
 {
@@ -145,8 +136,8 @@ fn read_next(handshake: &mut NoiseHandshake, message: &mut [u8], results: &mut N
         Ok((start, end)) => {
             results.from = start;
             results.len = end - start;
-            let left = state.psks().len() as u8;
-            store_progress(&state.progress(), left, handshake);
+            let held = state.psks().len() as u8;
+            store_progress(&state.progress(), held, handshake);
             OK
         }
         Err(Unread::Wants(want)) => report_want(want, results),

@@ -1,7 +1,7 @@
 //! A caller of the exports of streams, as each program has one: it reads what came, hands out the payloads, and says
 //! whether the stream is whole. No export calls it, and the static library has none of it.
 
-ghost use Rattle.std.specs.Prelude.{◌≡◌, ◌↔◌, ◌≤◌, ◌+◌, ◌-◌, ◌⊎◌, ℕ, List, length, drop, vec_len, vec_capacity, true, false, Ok, IfOk, OnErr};
+ghost use Rattle.std.specs.Prelude.{◌≡◌, ◌↔◌, ◌≤◌, ◌<◌, ◌+◌, ◌-◌, ◌⊎◌, ℕ, List, length, drop, vec_len, vec_capacity, true, false, Ok, IfOk, OnErr};
 ghost use Rattle.noise_names.specs.Plan.{Plan};
 ghost use Rattle.noise_handshake.specs.Party.{Party};
 ghost use Rattle.noise_session.specs.TransportValue.{TransportState, transport_of};
@@ -16,7 +16,7 @@ ghost use Rattle.noise_channel.specs.Receiving.{HandsOut, HandsOutAll, ReadsOnce
 ghost use Rattle.noise_channel.specs.Agreement.{IsWholeOrForged};
 ghost use Rattle.noise_c.specs.declared.codes.numbers.TheConstants.{OK};
 ghost use Rattle.noise_c.specs.DhResults.{DhResults, with_dh_results};
-ghost use Rattle.noise_c.specs.Finishing.{Finishes};
+ghost use Rattle.noise_c.specs.Finishing.{Finishes, UsesUp};
 ghost use Rattle.noise_c.specs.FinishedPrograms.{ReadsAfter};
 ghost use Rattle.noise_c.specs.HandshakeStructs.{KeepsParty};
 ghost use Rattle.noise_c.specs.StreamStructs.{is_stream_receiver, stream_receiver_from_c};
@@ -81,6 +81,7 @@ pub fn read_stream_to(
     ensures left { IfOk result (λ left. left ≤ length came.old) }
     ensures rest { IfOk result
         (λ left. drop (length came.old - left) came.new ≡ drop (length came.old - left) came.old) }
+    ensures full { OnErr result (vec_capacity out.old < vec_len out.old + length came.old) }
     ensures unchanged { OnErr result
         ((stream.new ≡ stream.old) × (came.new ≡ came.old) × (out.new.items ≡ out.old.items)) }
     ensures reads { (v : TransportState) (s : StreamReceiverState)
@@ -110,6 +111,7 @@ pub fn read_stream_to_end(
     out: &mut Vec<u8>,
 ) -> Result<bool, AllocError>
     requires known { is_stream_receiver stream.old ≡ true }
+    ensures full { OnErr result (vec_capacity out.old < vec_len out.old + length came.old) }
     ensures unchanged { OnErr result
         ((stream.new ≡ stream.old) × (came.new ≡ came.old) × (out.new.items ≡ out.old.items)) }
     ensures reads { (v : TransportState) (s : StreamReceiverState)
@@ -149,7 +151,9 @@ pub fn read_after_finish(
     came: &mut [u8],
     out: &mut Vec<u8>,
 ) -> Result<bool, AllocError>
+    ensures full { OnErr result (vec_capacity out.old < vec_len out.old + length came.old) }
     ensures unchanged { OnErr result ((came.new ≡ came.old) × (out.new.items ≡ out.old.items)) }
+    ensures uses { (code : ℕ) × UsesUp handshake.old handshake.new code }
     ensures unfinished { (Finishes handshake.old OK → ⊥) → (result ≡ Ok false) × (came.new ≡ came.old)
         × (out.new.items ≡ out.old.items) }
     ensures reads { Finishes handshake.old OK → IfOk result

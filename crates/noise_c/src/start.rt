@@ -5,7 +5,7 @@ ghost use Rattle.noise_names.specs.Plan.{Plan};
 ghost use Rattle.noise_names.specs.Validity.{IsValid};
 ghost use Rattle.noise_handshake.specs.Matching.{IsParty};
 ghost use Rattle.noise_handshake.specs.Late.{with_later};
-ghost use Rattle.noise_c.specs.HandshakeStructs.{role_in, pairs_in, table_of, psks_in, begun_in, fault_in, start_code, IsBlank, IsNoName, IsNoText, IsNotValid, IsPatternOf, IsStartCode, IsStarted, StoresStart};
+ghost use Rattle.noise_c.specs.HandshakeStructs.{role_in, pairs_in, table_of, psks_in, begun_in, fault_in, start_code, IsBlank, IsNoName, IsNoText, IsNotValid, IsPatternOf, IsStartCode, IsStarted, StoresStart, held_psks};
 ghost use Rattle.noise_c.specs.declared.codes.numbers.TheConstants.{NAME, OK, PATTERN};
 
 use crate::codes::numbers::{HANDSHAKE, LENGTH, OK, PSK_COUNT};
@@ -82,6 +82,7 @@ pub extern "C" fn noise_start(
     ensures valid { (p : Plan) → IsPatternOf pattern.now p → IsValid p
         → result ≡ start_code p prologue.now setup.now }
     ensures started { result ≡ OK → IsStarted pattern.now prologue.now setup.now handshake.new }
+    ensures held { result ≡ OK → held_psks handshake.new ≡ psks_in setup.now }
     ensures unchanged { OK < result → handshake.new ≡ handshake.old }
     ensures codes { IsStartCode result }
 {

@@ -1,7 +1,7 @@
 //! Two programs in one function, with keys for tests: after their handshake the one writes a stream, and the other reads
 //! it. So what the theorem on streams asks for can be met. No export calls it, and the static library has none of it.
 
-ghost use Rattle.std.specs.Prelude.{◌≡◌, ◌≤◌, ◌++◌, IfOk, IfSome, MatchOption, OnErr, length, take, true};
+ghost use Rattle.std.specs.Prelude.{◌≡◌, ◌≤◌, ◌<◌, ◌+◌, ◌++◌, IfOk, IfSome, MatchOption, OnErr, length, take, vec_capacity, vec_len, true};
 ghost use Rattle.noise_session.specs.TransportValue.{transport_of};
 ghost use Rattle.noise_c.specs.FinishedPrograms.{HaveBothFinished, IsDone, IsStreamOf};
 ghost use Rattle.noise_c.specs.HandshakeStructs.{ForParty};
@@ -115,6 +115,7 @@ pub fn send_stream(
 ) -> Result<Option<bool>, AllocError>
     ensures sent { IfOk result (λ o. MatchOption o (out.new.items ≡ out.old.items)
         (λ whole. (out.new.items ≡ out.old.items ++ text.now) × (whole ≡ true))) }
+    ensures full { OnErr result (vec_capacity out.old < vec_len out.old + length buffer.old) }
     ensures unchanged { OnErr result (out.new.items ≡ out.old.items) }
 {
     outgoing_is_incoming();

@@ -1,6 +1,6 @@
 //! The programs of two parties that have finished a handshake: the halves of their stream, and what one reads of it.
 
-ghost use Rattle.std.specs.Prelude.{◌≡◌, ◌↔◌, ◌⊎◌, List, length, false, Ok, IfOk, IsSome, IfSome, OnErr};
+ghost use Rattle.std.specs.Prelude.{◌≡◌, ◌<◌, ◌+◌, ◌↔◌, ◌⊎◌, List, length, vec_len, vec_capacity, false, Ok, IfOk, IsSome, IfSome, OnErr};
 ghost use Rattle.noise_names.specs.Plan.{Plan};
 ghost use Rattle.noise_handshake.specs.Matching.{Matches};
 ghost use Rattle.noise_handshake.specs.Party.{Party};
@@ -52,6 +52,7 @@ pub fn read_after<K: Keys>(
     came: &mut [u8],
     out: &mut Vec<u8>,
 ) -> Result<bool, AllocError>
+    ensures full { OnErr result (vec_capacity out.old < vec_len out.old + length came.old) }
     ensures unchanged { OnErr result ((came.new ≡ came.old) × (out.new.items ≡ out.old.items)) }
     ensures unfinished { ((handshake.ended ≡ false) × (handshake.passed ≡ length handshake.pattern.messages) → ⊥)
         → (result ≡ Ok false) × (came.new ≡ came.old) × (out.new.items ≡ out.old.items) }

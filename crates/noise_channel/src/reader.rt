@@ -1,6 +1,6 @@
 //! A caller that reads what came of a stream, hands out the payloads, and says whether the stream is whole.
 
-ghost use Rattle.std.specs.Prelude.{◌≡◌, ◌↔◌, ◌≤◌, ◌+◌, ◌-◌, ℕ, length, drop, vec_len, vec_capacity, true, IfOk, OnErr};
+ghost use Rattle.std.specs.Prelude.{◌≡◌, ◌↔◌, ◌≤◌, ◌<◌, ◌+◌, ◌-◌, ℕ, length, drop, vec_len, vec_capacity, true, IfOk, OnErr};
 ghost use Rattle.noise_session.specs.TransportValue.{TransportState};
 ghost use Rattle.noise_channel.specs.Streams.{incoming, outgoing};
 ghost use Rattle.noise_channel.specs.Reading.{StreamReceiverState};
@@ -47,6 +47,7 @@ pub fn read_to(
     ensures left { IfOk result (λ left. left ≤ length came.old) }
     ensures rest { IfOk result
         (λ left. drop (length came.old - left) came.new ≡ drop (length came.old - left) came.old) }
+    ensures full { OnErr result (vec_capacity out.old < vec_len out.old + length came.old) }
     ensures unchanged { OnErr result
         ((receiver.new ≡ receiver.old) × (came.new ≡ came.old) × (out.new.items ≡ out.old.items)) }
     ensures reads { (v : TransportState) (s : StreamReceiverState) → StreamReceiverMatches receiver.old v s
@@ -72,6 +73,7 @@ pub fn read_to_end(
     came: &mut [u8],
     out: &mut Vec<u8>,
 ) -> Result<bool, AllocError>
+    ensures full { OnErr result (vec_capacity out.old < vec_len out.old + length came.old) }
     ensures unchanged { OnErr result
         ((receiver.new ≡ receiver.old) × (came.new ≡ came.old) × (out.new.items ≡ out.old.items)) }
     ensures reads { (v : TransportState) (s : StreamReceiverState) → StreamReceiverMatches receiver.old v s

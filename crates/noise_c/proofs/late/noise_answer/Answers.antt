@@ -1,10 +1,11 @@
-use Rattle.std.proofs.Common.{◌≡◌, List, length, inl, ap, refl, arith, rules}
+use Rattle.std.proofs.Common.{◌≡◌, ◌∙◌, List, length, inl, ap, refl, arith, rules}
 use Rattle.noise_c.proofs.Common.{TableEntry, handshake_from_c, table_in}
-use Rattle.noise_c.proofs.Moved.{results-moved, usable-results}
+use Rattle.noise_c.proofs.Moved.{results-moved, supplied-full, usable-results}
+use Rattle.noise_c.specs.declared.structs.NoiseAnswer.{NoiseAnswer}
 use Rattle.noise_c.proofs.late.noise_answer.Goals as goal
 
-pub returns-then-count-eq8 : goal.returns-then-count-eq8
-returns-then-count-eq8 c =
+pub returns-then-count-eq8-clause-supplies : goal.returns-then-count-eq8-clause-supplies
+returns-then-count-eq8-clause-supplies c =
     let old = c.args.handshake.now in
     let long : length old.answers ≡ 8 = search rules in
     let full : old.answer_count ≡ 8 = omega (arith, c.if-count-eq8.true) in
@@ -21,3 +22,9 @@ returns-then-count-eq8 c =
       stays = usable-results old _ refl (omega (arith, full));
       codes = inl refl;
     }
+
+pub returns-then-count-eq8-clause-value : goal.returns-then-count-eq8-clause-value
+returns-then-count-eq8-clause-value c _ =
+    let old = c.args.handshake.now in
+    let full : old.answer_count ≡ 8 = omega (arith, c.if-count-eq8.true) in
+    ap (λ (z : List NoiseAnswer). record old { answers = z }) c.put_result_last.ensures ∙ supplied-full old _ full

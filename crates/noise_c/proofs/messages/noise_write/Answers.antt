@@ -5,9 +5,9 @@ use Rattle.noise_c.proofs.Common.{Result, Option, Some, None, false≢true, Plan
 use Rattle.noise_handshake.specs.declared.faults.WriteFault.{WriteFault}
 use Rattle.noise_handshake.specs.declared.faults.Unwritten.{Unwritten}
 use Rattle.noise_handshake.specs.declared.faults.Want.TheVariants.{Psk}
-use Rattle.noise_c.proofs.Stored.{psks-left, usable-after, was-written, matches-for, length-for}
+use Rattle.noise_c.proofs.Stored.{keeps-psks, psks-left, usable-after, was-written, matches-for, length-for}
 use Rattle.noise_c.specs.Outcomes.WriteOutcome.{written, withheld, no_room, unusable}
-use Rattle.noise_c.proofs.Numbers.{other, not-after, too-long, under, wants-other, withheld-within, withheld-agreement}
+use Rattle.noise_c.proofs.Numbers.{other, not-after, not-before, too-long, under, wants-other, withheld-within, withheld-agreement}
 use Rattle.noise_c.proofs.Wanting.{writes-outcome}
 use goal.{in-Some-message_len+else-needed-out, in_default}
 use Rattle.noise_handshake.specs.declared.faults.WriteFault.TheVariants as write
@@ -21,6 +21,8 @@ returns-in-None c =
     record {
       unusable = (λ _. none, λ _. refl);
       outcome = unusable none refl refl refl;
+      held = other 23 0 refl;
+      rest = other 23 0 refl;
       short = λ _ _ _ _ _. inr refl;
       asked = λ u _ _ _ _ _ _ _. absurd (none u);
     }
@@ -40,6 +42,8 @@ returns-then-needed-out c =
     record {
       unusable = (other 18 23 refl, λ none. absurd (none (c.in-Some.ensures.usable.0 refl)));
       outcome = no_room len c.if-needed-out.true refl refl refl;
+      held = other 18 0 refl;
+      rest = other 18 0 refl;
       short = λ _ _ _ _ _. inl refl;
       asked = λ _ p v k _ m e fits. too-long needed _ c.if-needed-out.true
           (subst (λ (z : ℕ). z ≤ length c.args.out.now) (same-len _ m needed e (len p k.pattern)) fits);
@@ -93,6 +97,8 @@ returns-in-Ok c =
           (λ p v k.
           was-written old new h h2 p v c.in-Some.ensures.one c.in-Some.ensures.value stays c.store_progress.ensures.text same k
           c.args.payload.now (take c.in-Ok.len c.write_or_ask.new.out) (c.in-Ok.ensures.writes k.later).1);
+      held = λ _. keeps-psks old new h h2 _ _ c.in-Some.ensures.one c.in-Some.ensures.value r.1.0 r.1.1.2 same;
+      rest = λ _. c.store_progress.ensures.only;
       short = λ p named m e more.
           let f : message_len_of h n ≡ Some m = sym (length-for old h p n c.in-Some.ensures.one c.in-Some.ensures.value named) ∙ e in
           too-long m (length c.args.out.now) more (elim c.match-message_len.branch [
@@ -123,6 +129,8 @@ returns-in-Err-Wants c =
       outcome = writes-outcome old _ c.args.payload.now c.args.out.now c.write_or_ask.new.out c.args.results.now (length h.psks) want results code t
           c.report_want.ensures.answer c.report_want.ensures.remote c.in-Some.ensures.count refl
           (c.in-Err-Wants.ensures.writes []).2 leaves;
+      held = wants-other want results code 0 t refl refl;
+      rest = wants-other want results code 0 t refl refl;
       short = λ p named m e more.
           let f : message_len_of h n ≡ Some m = sym (length-for old h p n c.in-Some.ensures.one c.in-Some.ensures.value named) ∙ e in
           too-long m (length c.args.out.now) more (elim c.match-message_len.branch [
@@ -157,18 +165,19 @@ returns-in-Err-Withheld c =
     let h = c.in-Some.value in
     let n : ℕ = length c.args.payload.now in
     let fault = c.in-Err-Withheld.fault in
-    let code : ℕ = c.withhold.result in
-    let is : code ≡ write_code fault = c.withhold.ensures.code ∙ ap write_code c.in-Err-Withheld.fault-is in
+    let code : ℕ = c.write_code.result in
+    let is : code ≡ write_code fault = c.write_code.ensures ∙ ap write_code c.in-Err-Withheld.fault-is in
     let within : (10 ≤ code) × (code ≤ 14) = withheld-within fault code is in
     let w = c.in-Err-Withheld.ensures.writes in
     let withheld-for = λ (later : List (List ℕ)). plain later h n fault
     (subst (λ (z : Unwritten). IsUnwritten pairs_in later h n z) c.in-Err-Withheld.field-0-is (w later).0) in
     let far : IsAgreement fault → ⊥ = (withheld-for []).0 in
     let low : code ≤ 13 = below code within.1 (λ e. far (withheld-agreement fault (sym is ∙ e))) in
-    let same = c.withhold.ensures.unchanged (λ lacks. far (subst IsAgreement c.in-Err-Withheld.fault-is lacks)) in
     record {
       unusable = (not-after code 14 23 within.1 refl, λ none. absurd (none (c.in-Some.ensures.usable.0 refl)));
-      outcome = withheld code within.0 low refl refl (same ∙ (w []).2)
+      held = not-before code 10 0 within.0 refl;
+      rest = not-before code 10 0 within.0 refl;
+      outcome = withheld code within.0 low refl refl (w []).2
           (λ p v k. record {
             fault = fault;
             code_is = is;

@@ -5,8 +5,8 @@ use Rattle.noise_handshake.specs.declared.faults.Unread.{Unread}
 use Rattle.noise_handshake.specs.declared.faults.Want.TheVariants.{Psk}
 use Rattle.noise_c.specs.HalfStructs.{IsAround}
 use Rattle.noise_c.specs.Outcomes.ReadOutcome.{accepted, declined, refused, too_long, unusable}
-use Rattle.noise_c.proofs.Stored.{psks-left, usable-after, was-read, matches-for}
-use Rattle.noise_c.proofs.Numbers.{IsPlain, other, above, not-after, too-long, wants-other, plain-among, plain-within, refused-within}
+use Rattle.noise_c.proofs.Stored.{keeps-psks, psks-left, usable-after, was-read, matches-for}
+use Rattle.noise_c.proofs.Numbers.{IsPlain, other, above, not-after, not-before, too-long, wants-other, plain-among, plain-within, refused-within}
 use Rattle.noise_c.proofs.Wanting.{reads-outcome}
 use Rattle.noise_handshake.specs.declared.faults.ReadFault.TheVariants as read
 use Rattle.noise_handshake.specs.declared.faults.Unread.TheVariants as unread
@@ -20,6 +20,8 @@ returns-in-None c =
       unusable = (λ _. none, λ _. refl);
       length = (other 23 24 refl, λ w. absurd (none w.1));
       outcome = unusable none refl refl;
+      held = other 23 0 refl;
+      rest = other 23 0 refl;
       unchanged = λ _. (refl, refl);
       asked = λ u _ _ _ _ _ _. absurd (none u);
     }
@@ -32,6 +34,8 @@ returns-then-message-gt-MAX_LEN c =
       unusable = (other 24 23 refl, λ none. absurd (none usable));
       length = (λ _. (long, usable), λ _. refl);
       outcome = too_long long usable refl refl;
+      held = other 24 0 refl;
+      rest = other 24 0 refl;
       unchanged = λ _. (refl, refl);
       asked = λ _ len _ _ _ _ _. too-long (length c.args.message.now) 65535 long len;
     }
@@ -74,6 +78,8 @@ returns-in-Ok c =
           was-read old new h h2 p v c.in-Some.ensures.one c.in-Some.ensures.value stays c.store_progress.ensures.text same k
           c.args.message.now m start end r.0.0.0 (c.in-Ok.ensures.reads k.later).1);
       unchanged = above 1 0 refl;
+      held = λ _. keeps-psks old new h h2 _ _ c.in-Some.ensures.one c.in-Some.ensures.value r.1.0 r.1.1.2 same;
+      rest = λ _. c.store_progress.ensures.only;
       asked = λ _ _ p v k remote asks.
           let s = matches-for old h p v c.in-Some.ensures.one c.in-Some.ensures.value k in
           let w = subst (λ (i : ℕ). WantsPskToRead v i c.args.message.now remote) (sym c.in-Some.ensures.count) asks in
@@ -89,6 +95,9 @@ agreement-of : (token : ℕ) (cause : Cause) → read_code (read.Refused token c
 agreement-of token Short e = other 15 14 refl e
 agreement-of token Tag e = other 16 14 refl e
 agreement-of token Agreement e = refl
+
+past : (code : ℕ) → 14 ≤ code → (code ≡ 14 → ⊥) → 15 ≤ code
+past code within other = omega (arith, within, other)
 
 -- what isn't read for a fault that is no refusal
 module _ (later : List (List ℕ)) (h : HandshakeValue Table) (m : List ℕ) where
@@ -108,25 +117,25 @@ returns-in-Refused c =
     let why : fault ≡ read.Refused c.in-Refused.token c.in-Refused.cause = sym c.in-Err-Declined.fault-is ∙ c.in-Refused.is in
     let same : c.read_or_ask.new.message ≡ c.args.message.now = (c.in-Err-Declined.ensures.reads []).2 in
     let within : (14 ≤ code) × (code ≤ 16) = refused-within fault code _ _ is why in
+    let is-cause = is ∙ ap read_code why in
+    let refusal = λ (later : List (List ℕ)).
+    subst (λ (z : ReadFault). IsUnread pairs_in later h c.args.message.now (unread.Declined z)) why
+    (subst (λ (z : Unread). IsUnread pairs_in later h c.args.message.now z) c.in-Err-Declined.field-0-is (c.in-Err-Declined.ensures.reads later).0) in
     record {
       unusable = (not-after code 16 23 within.1 refl, λ none. absurd (none (c.in-Some.ensures.usable.0 refl)));
       length = (not-after code 16 24 within.1 refl, λ w. too-long (length c.args.message.now) 65535 w.0 c.if-message-gt-MAX_LEN.false);
       unchanged = λ _. (refl, same);
-      outcome = refused code within.0 within.1 refl refl (λ u. u) same
-          (λ p v k.
-          let s = matches-for old h p v c.in-Some.ensures.one c.in-Some.ensures.value k in
-          let u = subst (λ (z : ReadFault). IsUnread pairs_in k.later h c.args.message.now (unread.Declined z)) why
-          (subst (λ (z : Unread). IsUnread pairs_in k.later h c.args.message.now z) c.in-Err-Declined.field-0-is
-          (c.in-Err-Declined.ensures.reads k.later).0) in
-          let is-cause = is ∙ ap read_code why in (
-            (λ e. u.1 (agreement-of c.in-Refused.token c.in-Refused.cause (sym is-cause ∙ e))),
-            record {
-              cause = c.in-Refused.cause;
-              code_is = is-cause;
-              refuses = subst (λ (z : Party). Refuses z c.args.message.now c.in-Refused.token c.in-Refused.cause) s u.0;
-              keeps = k;
-            },
-          ));
+      held = not-before code 14 0 within.0 refl;
+      rest = not-before code 14 0 within.0 refl;
+      outcome = refused code (past code within.0 (λ e. (refusal []).1 (agreement-of c.in-Refused.token c.in-Refused.cause (sym is-cause ∙ e)))) within.1 refl refl
+          (λ u. u) same
+          (λ p v k. record {
+            cause = c.in-Refused.cause;
+            code_is = is-cause;
+            refuses = subst (λ (z : Party). Refuses z c.args.message.now c.in-Refused.token c.in-Refused.cause)
+                (matches-for old h p v c.in-Some.ensures.one c.in-Some.ensures.value k) (refusal k.later).0;
+            keeps = k;
+          });
       asked = λ _ _ p v k remote asks.
           let s = matches-for old h p v c.in-Some.ensures.one c.in-Some.ensures.value k in
           let w = subst (λ (i : ℕ). WantsPskToRead v i c.args.message.now remote) (sym c.in-Some.ensures.count) asks in
@@ -148,6 +157,8 @@ returns-in_default c =
       unusable = (not-after code 13 23 within.1 refl, λ none. absurd (none (c.in-Some.ensures.usable.0 refl)));
       length = (not-after code 13 24 within.1 refl, λ w. too-long (length c.args.message.now) 65535 w.0 c.if-message-gt-MAX_LEN.false);
       unchanged = λ _. (refl, unchanged);
+      held = not-before code 10 0 within.0 refl;
+      rest = not-before code 10 0 within.0 refl;
       outcome = declined code among refl refl unchanged
           (λ p v k.
           let s = matches-for old h p v c.in-Some.ensures.one c.in-Some.ensures.value k in
@@ -206,6 +217,16 @@ returns-in-Err-Wants-clause-asked c usable len p v k remote asks =
     let same : c.in-Err-Wants.want ≡ Psk remote =
     want-same c.in-Err-Wants.field-0 c.in-Err-Wants.want (Psk remote) (c.in-Err-Wants.ensures.asked k.later remote (subst (λ (z : Party). WantsPskToRead z (length h.psks) c.args.message.now remote) (sym s) w)) c.in-Err-Wants.field-0-is in
     subst (λ (z : Want). ReportsWant z c.report_want.new.results c.report_want.result) (c.in-Err-Wants.want-is ∙ same) c.report_want.ensures.want
+
+pub returns-in-Err-Wants-clause-held : goal.returns-in-Err-Wants-clause-held
+returns-in-Err-Wants-clause-held c =
+    wants-other c.in-Err-Wants.want c.report_want.new.results c.report_want.result 0
+    (wanted c.in-Err-Wants.want _ c.report_want.new.results c.report_want.result c.in-Err-Wants.want-is c.report_want.ensures.want) refl refl
+
+pub returns-in-Err-Wants-clause-rest : goal.returns-in-Err-Wants-clause-rest
+returns-in-Err-Wants-clause-rest c =
+    wants-other c.in-Err-Wants.want c.report_want.new.results c.report_want.result 0
+    (wanted c.in-Err-Wants.want _ c.report_want.new.results c.report_want.result c.in-Err-Wants.want-is c.report_want.ensures.want) refl refl
 
 pub overflow_sub-results : goal.overflow_sub-results
 overflow_sub-results c = (c.in-Ok.ensures.reads []).0.0.0

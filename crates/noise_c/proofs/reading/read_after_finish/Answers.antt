@@ -55,3 +55,9 @@ pub returns-then-noise_finish_stream-ne-OK-clause-all : goal.returns-then-noise_
 returns-then-noise_finish_stream-ne-OK-clause-all c done p u v keeps same =
     absurd (finishes-once c.args.handshake.now c.noise_finish_stream.result done c.noise_finish_stream.ensures.uses.code_is
     c.if-noise_finish_stream-ne-OK.true)
+
+pub returns-clause-uses : goal.returns-clause-uses
+returns-clause-uses c = (c.noise_finish_stream.result, c.noise_finish_stream.ensures.uses)
+
+pub returns-then-noise_finish_stream-ne-OK-clause-uses : goal.returns-then-noise_finish_stream-ne-OK-clause-uses
+returns-then-noise_finish_stream-ne-OK-clause-uses c = (c.noise_finish_stream.result, c.noise_finish_stream.ensures.uses)
