@@ -17,7 +17,7 @@ const SCRATCH = {
 };
 const PAGE = 65536;
 /** The SHA-384 of noise_c.wasm, as `integrity` of a browser has it: `bindings/js/modules pin` writes it. */
-const INTEGRITY = 'sha384-L5cSjhnoE/NXE1JMBkUEAPtCAZE5x/OcMYTmS9UhDJESKqgvTKXmbAR2+Eyv5/Gf';
+const INTEGRITY = 'sha384-DBvObVJDeZvclJZyJBbh4Ucydxpm1wNEz5lWH6MfOx5QN2uHMQyE0wo7ZXEyhDBw';
 /** The major version of the library. */
 const VERSION = 1;
 

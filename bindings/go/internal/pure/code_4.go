@@ -1881,7 +1881,7 @@ func f118(m *memory, l0 uint64, l1 uint64, l2 uint64, l3 uint64) uint32 {
 			t5 := (0x1000 & t4) | (0 &^ t4)
 			t6 := f34(m, l0, (l1 + t5), l2, l3)
 			l5 = t6
-			if (l5 + 0xfffffff2) > 2 {
+			if (l5 + 0xfffffff1) > 1 {
 				goto L3
 			}
 			m.put8(uint32((l0+0x1a7))-0xfcec0, 1)

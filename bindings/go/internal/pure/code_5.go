@@ -3556,118 +3556,118 @@ func f152(m *memory, l0 uint64, l1 uint64, l2 uint64, l3 uint64, l4 uint64, l5 u
 	l6 = (t1 - 0x910)
 	m.g0 = l6
 	{
-		if int64(l6) < 16 {
-			goto L2
-		}
-		m.put32(uint32(l6)-0xfcb10, 0)
-		l7a, l7b = 0, 0
-		m.put128q(uint32(l6)-0xfcb20, l7a, l7b)
-		m.put128q(uint32(l6)-0xfce98, l7a, l7b)
-		m.put32(uint32(l6)-0xfce88, 0)
-		m.fill(uint32((l6 + 0x4d0)), 0, 0x368)
-		m.fill(uint32((l6 + 0x3b8)), 0, 0x118)
 		{
 			{
+				if int64(l6) < 16 {
+					goto L4
+				}
+				m.put32(uint32(l6)-0xfcb10, 0)
+				l7a, l7b = 0, 0
+				m.put128q(uint32(l6)-0xfcb20, l7a, l7b)
+				m.put128q(uint32(l6)-0xfce98, l7a, l7b)
+				m.put32(uint32(l6)-0xfce88, 0)
+				m.fill(uint32((l6 + 0x4d0)), 0, 0x368)
+				m.fill(uint32((l6 + 0x3b8)), 0, 0x118)
 				{
-					t6 := m.get32(uint32(l0) - 0xfcec0)
-					if t6 != 0x4e6f0101 {
-						goto L5
+					{
+						t7 := m.get32(uint32(l0) - 0xfcec0)
+						if t7 != 0x4e6f0101 {
+							goto L6
+						}
+						t8 := uint64(m.get16(uint32((l0 + 0x1a4)) - 0xfcec0))
+						l8 = t8
+						if l8 > 0x1a0 {
+							goto L6
+						}
+						t9 := uint32(m.get8(uint32((l0 + 0x34e)) - 0xfcec0))
+						if t9 > 8 {
+							goto L6
+						}
+						t10 := uint32(m.get8(uint32((l0 + 0x22d)) - 0xfcec0))
+						if t10 > 9 {
+							goto L6
+						}
+						f15(m, (l6 + 0x3b8), (l0 + 4), l8)
+						t11 := uint32(m.get8(uint32(l6) - 0xfcb08))
+						if t11 == 0 {
+							goto L5
+						}
 					}
-					t7 := uint64(m.get16(uint32((l0 + 0x1a4)) - 0xfcec0))
-					l8 = t7
-					if l8 > 0x1a0 {
-						goto L5
-					}
-					t8 := uint32(m.get8(uint32((l0 + 0x34e)) - 0xfcec0))
-					if t8 > 8 {
-						goto L5
-					}
-					t9 := uint32(m.get8(uint32((l0 + 0x22d)) - 0xfcec0))
-					if t9 > 9 {
-						goto L5
-					}
-					f15(m, (l6 + 0x3b8), (l0 + 4), l8)
-					t10 := uint32(m.get8(uint32(l6) - 0xfcb08))
-					if t10 == 0 {
-						goto L4
-					}
+				L6:
+					l9 = 0x17
+					goto L2
 				}
 			L5:
-				l9 = 0x17
-				goto L3
-			}
-		L4:
-			f31(m, (l6 + 0x4d0), l0, ((l6 + 0x3b8) + 8))
-			t11 := uint32(m.get8(uint32(l6) - 0xfc9f0))
-			l9 = t11
-			m.copy(uint32((l6 + 0x40)), uint32(((l6 + 0x4d0) + 8)), 0x360)
-			{
-				if l9 == 1 {
-					goto L12
+				f31(m, (l6 + 0x4d0), l0, ((l6 + 0x3b8) + 8))
+				t12 := uint32(m.get8(uint32(l6) - 0xfc9f0))
+				l9 = t12
+				m.copy(uint32((l6 + 0x40)), uint32(((l6 + 0x4d0) + 8)), 0x360)
+				{
+					if l9 == 1 {
+						goto L13
+					}
+					l9 = 0x17
+					goto L2
 				}
-				l9 = 0x17
-				goto L3
-			}
-		L12:
-			m.copy(uint32((l6 + 0x4d0)), uint32((l6 + 0x40)), 0x360)
-			{
-				t14 := uint32(m.get8(uint32(l6) - 0xfc73f))
-				if t14 == 0 {
-					goto L13
+			L13:
+				m.copy(uint32((l6 + 0x4d0)), uint32((l6 + 0x40)), 0x360)
+				{
+					t15 := uint32(m.get8(uint32(l6) - 0xfc73f))
+					if t15 == 0 {
+						goto L14
+					}
+					l9 = 0xd
+					goto L2
 				}
-				l9 = 0xd
-				goto L3
-			}
-		L13:
-			{
-				t16 := m.get64(uint32(l6) - 0xfc8e8)
-				t17 := uint32(m.get8(uint32(l6) - 0xfc740))
-				l9 = t17
-				if t16 != (uint64(l9) & 0xff) {
-					goto L15
+			L14:
+				{
+					t17 := m.get64(uint32(l6) - 0xfc8e8)
+					t18 := uint32(m.get8(uint32(l6) - 0xfc740))
+					l9 = t18
+					if t17 != (uint64(l9) & 0xff) {
+						goto L16
+					}
+					l9 = 0xc
+					goto L2
 				}
-				l9 = 0xc
-				goto L3
-			}
-		L15:
-			{
-				t19 := uint32(m.get8(uint32(l6) - 0xfc8c0))
-				if b2i(t19 == 0) != (l9 & 1) {
-					goto L18
+			L16:
+				{
+					t20 := uint32(m.get8(uint32(l6) - 0xfc8c0))
+					if b2i(t20 == 0) != (l9 & 1) {
+						goto L19
+					}
+					l9 = 0xa
+					goto L2
 				}
-				l9 = 0xa
-				goto L3
-			}
-		L18:
-			{
-				t21 := uint32(m.get16(uint32(l6) - 0xfc708))
-				l9 = t21
-				if l2 <= (uint64((l9 ^ 0xffffffff)) & 0xffff) {
-					goto L20
+			L19:
+				{
+					t22 := uint32(m.get16(uint32(l6) - 0xfc708))
+					l9 = t22
+					if l2 <= (uint64((l9 ^ 0xffffffff)) & 0xffff) {
+						goto L21
+					}
+					l9 = 0xb
+					goto L2
 				}
-				l9 = 0xb
-				goto L3
-			}
-		L20:
-			{
-				l8 = (l2 + (uint64(l9) & 0xffff))
-				if l4 >= l8 {
-					goto L22
+			L21:
+				{
+					l8 = (l2 + (uint64(l9) & 0xffff))
+					if l4 >= l8 {
+						goto L23
+					}
+					m.put64(uint32((l5+8))-0xfcec0, l8)
+					l9 = 0x12
+					goto L2
 				}
-				m.put64(uint32((l5+8))-0xfcec0, l8)
-				l9 = 0x12
-				goto L3
-			}
-		L22:
-			l8 = (l6 + 0x788)
-			t23 := m.get64(uint32(l6) - 0xfc710)
-			l10 = t23
-			t24 := m.get64(uint32(l6) - 0xfc750)
-			t25 := m.get64(uint32(l6) - 0xfc748)
-			l11 = t25
-			l12 = (t24 - l11)
-			f35(m, (l6 + 0x18), l8, l10, l12)
-			{
+			L23:
+				l8 = (l6 + 0x788)
+				t24 := m.get64(uint32(l6) - 0xfc710)
+				l10 = t24
+				t25 := m.get64(uint32(l6) - 0xfc750)
+				t26 := m.get64(uint32(l6) - 0xfc748)
+				l11 = t26
+				l12 = (t25 - l11)
+				f35(m, (l6 + 0x18), l8, l10, l12)
 				{
 					{
 						{
@@ -3756,7 +3756,7 @@ func f152(m *memory, l0 uint64, l1 uint64, l2 uint64, l3 uint64, l4 uint64, l5 u
 						t57 := m.get32(uint32(l6) - 0xfcb10)
 						m.put32(uint32((l5+0x2e))-0xfcec0, t57)
 						l9 = 0x14
-						goto L3
+						goto L2
 					}
 				L28:
 					t58, t59 := m.get128q(uint32(l6) - 0xfc700)
@@ -3811,7 +3811,7 @@ func f152(m *memory, l0 uint64, l1 uint64, l2 uint64, l3 uint64, l4 uint64, l5 u
 					f55(m, (l6 + 8), (l6 + 0x3b8), (l6 + 0x850), l13, (l14 + (l11 << 5)), (l12 - l11), l8, t84, l3, l4)
 					t87 := uint32(m.get8(uint32(l6) - 0xfceb8))
 					if t87 != 0 {
-						goto L26
+						goto L3
 					}
 					t88 := -uint64(b2i(l1 == 0))
 					t89 := (0x1000 & t88) | (0 &^ t88)
@@ -3971,7 +3971,7 @@ func f152(m *memory, l0 uint64, l1 uint64, l2 uint64, l3 uint64, l4 uint64, l5 u
 					m.put64(uint32((l0+0x5b0))-0xfcec0, l2)
 					m.put64(uint32((l0+0x5b8))-0xfcec0, l3)
 					l9 = 0
-					goto L3
+					goto L2
 				}
 			L27:
 				{
@@ -4006,31 +4006,15 @@ func f152(m *memory, l0 uint64, l1 uint64, l2 uint64, l3 uint64, l4 uint64, l5 u
 				m.put32(uint32((l5+0x2e))-0xfcec0, t170)
 				m.put8(uint32((l5+0x32))-0xfcec0, uint8(l9))
 				l9 = 0x28
-				goto L3
+				goto L2
 			}
-		L26:
-			l9 = 0xe
-			if l4 == 0 {
-				goto L3
-			}
-			{
-				l0 = (l4 + 0xffffffffffffffff)
-				l15 = b2i(l0 == 0)
-				if l15 != 0 {
-					goto L171
-				}
-				if l15 != 0 {
-					goto L171
-				}
-				m.fill(uint32(l3), 0, uint32(l0))
-			}
-		L171:
-			m.put8(uint32((l3+l0))-0xfcec0, 0)
+		L4:
+			panic("unreachable")
 		}
 	L3:
-		m.g0 = (l6 + 0x910)
-		return l9
+		l9 = 0xe
 	}
 L2:
-	panic("unreachable")
+	m.g0 = (l6 + 0x910)
+	return l9
 }

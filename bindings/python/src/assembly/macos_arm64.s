@@ -8025,18 +8025,18 @@ Lnoise_BB19_5:
 	cbz	x3, Lnoise_BB19_21
 	ldrb	w9, [x20], #1
 Lnoise_loh78:
-	adrp	x22, "l_switch.table.noise_names::text::write::push_token_line.201"@PAGE
+	adrp	x22, "l_switch.table.noise_names::text::write::push_token_line.200"@PAGE
 Lnoise_loh79:
-	add	x22, x22, "l_switch.table.noise_names::text::write::push_token_line.201"@PAGEOFF
+	add	x22, x22, "l_switch.table.noise_names::text::write::push_token_line.200"@PAGEOFF
 	ldr	x21, [x22, x9, lsl #3]
 	mov	w10, #536
 	sub	x8, x10, x8
 	cmp	x8, x21
 	b.lo	Lnoise_BB19_23
 Lnoise_loh80:
-	adrp	x23, "l_switch.table.noise_names::text::write::push_token_line.202"@PAGE
+	adrp	x23, "l_switch.table.noise_names::text::write::push_token_line.201"@PAGE
 Lnoise_loh81:
-	add	x23, x23, "l_switch.table.noise_names::text::write::push_token_line.202"@PAGEOFF
+	add	x23, x23, "l_switch.table.noise_names::text::write::push_token_line.201"@PAGEOFF
 	sub	x24, x3, #1
 	ldr	x1, [x23, x9, lsl #3]
 	add	x8, x19, x25
@@ -17158,9 +17158,9 @@ Lnoise_loh157:
 	mov	x9, x0
 	ldr	x0, [x8, w0, uxtw #3]
 Lnoise_loh158:
-	adrp	x8, lnoise__switch.table.noise_sentence.203.rel@PAGE
+	adrp	x8, lnoise__switch.table.noise_sentence.202.rel@PAGE
 Lnoise_loh159:
-	add	x8, x8, lnoise__switch.table.noise_sentence.203.rel@PAGEOFF
+	add	x8, x8, lnoise__switch.table.noise_sentence.202.rel@PAGEOFF
 	ldrsw	x9, [x8, w9, uxtw #2]
 	add	x8, x8, x9
 	str	x8, [x1]
@@ -17541,8 +17541,8 @@ _noise_read:
 	csel	x8, x8, xzr, eq
 	add	x1, x1, x8
 	bl	"_noise_c::messages::read_next"
-	sub	w8, w0, #14
-	cmp	w8, #2
+	sub	w8, w0, #15
+	cmp	w8, #1
 	b.hi	Lnoise_BB76_2
 	mov	w8, #1
 	strb	w8, [x19, #423]
@@ -22804,9 +22804,9 @@ Lnoise_BB91_10:
 	b.eq	Lnoise_BB91_15
 	add	x16, sp, #216
 Lnoise_loh180:
-	adrp	x26, lnoise__switch.table.noise_datagram_open.207@PAGE
+	adrp	x26, lnoise__switch.table.noise_datagram_open.206@PAGE
 Lnoise_loh181:
-	add	x26, x26, lnoise__switch.table.noise_datagram_open.207@PAGEOFF
+	add	x26, x26, lnoise__switch.table.noise_datagram_open.206@PAGEOFF
 	add	x17, x16, #16
 	ldr	x4, [x26, w14, uxtw #3]
 	lsr	x16, x15, #6
@@ -22906,9 +22906,9 @@ Lnoise_BB91_23:
 	rev	x21, x8
 	ldrb	w8, [sp, #64]
 Lnoise_loh182:
-	adrp	x10, lnoise__switch.table.noise_datagram_open.205@PAGE
+	adrp	x10, lnoise__switch.table.noise_datagram_open.204@PAGE
 Lnoise_loh183:
-	add	x10, x10, lnoise__switch.table.noise_datagram_open.205@PAGEOFF
+	add	x10, x10, lnoise__switch.table.noise_datagram_open.204@PAGEOFF
 	ldr	x9, [sp, #72]
 	ldr	x10, [x10, x8, lsl #3]
 	subs	x12, x9, x21
@@ -23388,19 +23388,15 @@ _noise_write:
 	mov	x21, x2
 	mov	x23, x1
 	mov	x20, x0
-	add	x25, sp, #976
-	mov	w8, #4096
-	cmp	x1, #0
-	csel	x28, x8, xzr, eq
-	cmp	x3, #0
-	csel	x27, x8, xzr, eq
-	add	x0, sp, #976
-	mov	w1, #864
-	bl	_bzero
 	str	xzr, [sp, #952]
 	str	xzr, [sp, #944]
+	mov	w8, #4096
 	str	wzr, [sp, #960]
+	cmp	x1, #0
+	csel	x27, x8, xzr, eq
 	stp	xzr, xzr, [sp, #48]
+	cmp	x3, #0
+	csel	x28, x8, xzr, eq
 	str	wzr, [sp, #64]
 	add	x0, sp, #2128
 	mov	w1, #872
@@ -23419,23 +23415,23 @@ _noise_write:
 	ldrb	w8, [x20, #557]
 	cmp	w8, #9
 	b.hi	Lnoise_BB93_8
-	add	x26, sp, #1840
+	add	x25, sp, #1840
 	add	x0, sp, #1840
 	add	x1, x20, #4
 	bl	"_noise_c::patterns::pattern_of"
 	ldrb	w8, [sp, #1840]
 	cbnz	w8, Lnoise_BB93_8
+	add	x26, sp, #2128
 	add	x0, sp, #2128
-	add	x2, x26, #8
+	add	x2, x25, #8
 	mov	x1, x20
 	bl	"_noise_c::from_c::restored"
-	ldrb	w26, [sp, #2128]
+	ldrb	w25, [sp, #2128]
 	add	x0, sp, #80
-	add	x8, sp, #2128
-	add	x1, x8, #8
+	add	x1, x26, #8
 	mov	w2, #864
 	bl	_memcpy
-	cmp	w26, #1
+	cmp	w25, #1
 	b.ne	Lnoise_BB93_8
 	add	x0, sp, #976
 	add	x1, sp, #80
@@ -23503,12 +23499,13 @@ Lnoise_BB93_16:
 	b	Lnoise_BB93_9
 Lnoise_BB93_18:
 	add	x9, sp, #976
-	ldr	x1, [sp, #1712]
+	ldr	x26, [sp, #1712]
 	ldr	x8, [sp, #1648]
-	ldr	x26, [sp, #1656]
-	sub	x2, x8, x26
+	ldr	x25, [sp, #1656]
+	sub	x2, x8, x25
 	add	x0, x9, #696
-	stp	x1, x2, [sp, #32]
+	mov	x1, x26
+	str	x2, [sp, #40]
 	bl	"_noise_handshake::layout::psk_after"
 	tst	w0, #0xff
 	b.eq	Lnoise_BB93_21
@@ -23517,7 +23514,7 @@ Lnoise_BB93_18:
 	cmp	w8, #1
 	csel	x6, x9, xzr, eq
 	add	x9, sp, #976
-	add	x8, x9, x26, lsl #5
+	add	x8, x9, x25, lsl #5
 	strh	wzr, [sp, #2160]
 	movi.2d	v0, #0000000000000000
 	str	q0, [sp, #2144]
@@ -23549,13 +23546,15 @@ Lnoise_BB93_21:
 	str	q0, [sp, #2144]
 	str	q0, [sp, #2128]
 	add	x8, sp, #976
+	add	x9, x8, #384
+	add	x3, x9, x25, lsl #5
 	add	x25, x8, #384
-	add	x3, x25, x26, lsl #5
 	add	x0, sp, #2128
 	add	x1, x8, #312
 	add	x2, x8, #272
 	add	x5, x8, #696
-	ldp	x6, x4, [sp, #32]
+	ldr	x4, [sp, #40]
+	mov	x6, x26
 	bl	"_noise_handshake::writer::write_lacking::<#9bbb2dae5a99aff0>"
 	ldrb	w11, [sp, #2128]
 	ldrb	w8, [sp, #2129]
@@ -23586,8 +23585,9 @@ Lnoise_BB93_23:
 Lnoise_BB93_24:
 	ldrb	w8, [sp, #1321]
 	cmp	w8, #1
-	b.ne	Lnoise_BB93_32
-	add	x9, x25, #346
+	b.ne	Lnoise_BB93_28
+	add	x9, sp, #976
+	add	x9, x9, #346
 	ldr	w10, [x9]
 	ldur	x9, [x9, #4]
 	add	x11, sp, #976
@@ -23596,11 +23596,10 @@ Lnoise_BB93_24:
 	str	q0, [sp, #2128]
 	ldr	w11, [x11, #16]
 	str	w11, [sp, #2144]
-	b	Lnoise_BB93_33
+	b	Lnoise_BB93_29
 Lnoise_BB93_26:
 	add	x8, sp, #1840
 	strh	wzr, [sp, #3104]
-	add	x26, x22, x27
 	movi.2d	v0, #0000000000000000
 	str	q0, [sp, #3088]
 	str	q0, [sp, #3072]
@@ -23629,24 +23628,22 @@ Lnoise_BB93_26:
 	strb	w9, [sp, #2192]
 	ldp	q0, q1, [x12]
 	add	x9, x11, #817
-	str	x9, [sp, #24]
+	str	x9, [sp, #32]
 	stur	q1, [x13, #81]
 	stur	q0, [x13, #65]
 	str	wzr, [sp, #2228]
 	stur	wzr, [x13, #97]
 	str	x10, [sp, #2232]
-	ldrb	w12, [sp, #1288]
+	ldrb	w25, [sp, #1288]
 	add	x10, x11, #313
-	ldrb	w13, [sp, #1321]
+	ldrb	w26, [sp, #1321]
 	add	x9, x11, #346
-	str	w12, [sp, #40]
-	strb	w12, [sp, #1840]
+	strb	w25, [sp, #1840]
 	ldp	q0, q1, [x10]
-	stp	x10, x9, [sp, #8]
+	stp	x10, x9, [sp, #16]
 	stur	q1, [x8, #17]
 	stur	q0, [x8, #1]
-	str	w13, [sp, #32]
-	strb	w13, [sp, #1873]
+	strb	w26, [sp, #1873]
 	ldp	q0, q1, [x9]
 	stur	q1, [x8, #50]
 	stur	q0, [x8, #34]
@@ -23657,28 +23654,19 @@ Lnoise_BB93_26:
 	add	x8, sp, #976
 	add	x2, x8, #272
 	add	x5, x8, #696
-	add	x7, x22, x27
+	add	x7, x22, x28
 	bl	"_noise_handshake::writer::write_tokens::<#3dfcfe118667ed30>"
 	tst	w0, #0xff
-	b.eq	Lnoise_BB93_34
-	cbz	x24, Lnoise_BB93_31
-	subs	x19, x24, #1
 	b.eq	Lnoise_BB93_30
-	mov	x0, x26
-	mov	x1, x19
-	bl	_bzero
-Lnoise_BB93_30:
-	strb	wzr, [x26, x19]
-Lnoise_BB93_31:
 	mov	w0, #14
 	b	Lnoise_BB93_9
-Lnoise_BB93_32:
+Lnoise_BB93_28:
 	mov	x9, #0
 	mov	w10, #0
 	str	xzr, [sp, #2136]
 	str	xzr, [sp, #2128]
 	str	wzr, [sp, #2144]
-Lnoise_BB93_33:
+Lnoise_BB93_29:
 	stur	w10, [x19, #18]
 	stur	x9, [x19, #22]
 	ldr	q0, [sp, #2128]
@@ -23688,41 +23676,43 @@ Lnoise_BB93_33:
 	strb	w8, [x19, #50]
 	mov	w0, #40
 	b	Lnoise_BB93_9
-Lnoise_BB93_34:
-	mov	x25, x1
-	add	x1, x23, x28
-	add	x24, x26, x25
-	sub	x8, x24, x1
+Lnoise_BB93_30:
+	mov	x24, x1
+	add	x1, x23, x27
+	add	x8, x22, x28
+	add	x8, x8, x24
+	str	x8, [sp, #40]
+	sub	x8, x8, x1
 	cmp	x8, x21
-	b.hs	Lnoise_BB93_40
+	b.hs	Lnoise_BB93_36
 	cmp	x21, #7
-	b.ls	Lnoise_BB93_37
-	add	x8, x25, x27
+	b.ls	Lnoise_BB93_33
+	add	x8, x24, x28
 	add	x8, x8, x22
-	add	x9, x28, x23
+	add	x9, x27, x23
 	sub	x8, x8, x9
 	cmp	x8, #32
-	b.hs	Lnoise_BB93_52
-Lnoise_BB93_37:
+	b.hs	Lnoise_BB93_48
+Lnoise_BB93_33:
 	mov	x8, #0
-Lnoise_BB93_38:
+Lnoise_BB93_34:
 	sub	x9, x21, x8
-	add	x10, x28, x8
+	add	x10, x27, x8
 	add	x10, x23, x10
-	add	x11, x25, x27
+	add	x11, x24, x28
 	add	x8, x22, x8
 	add	x8, x8, x11
-Lnoise_BB93_39:
+Lnoise_BB93_35:
 	ldrb	w11, [x10], #1
 	strb	w11, [x8], #1
 	subs	x9, x9, #1
-	b.ne	Lnoise_BB93_39
-	b	Lnoise_BB93_41
-Lnoise_BB93_40:
-	mov	x0, x24
+	b.ne	Lnoise_BB93_35
+	b	Lnoise_BB93_37
+Lnoise_BB93_36:
+	ldr	x0, [sp, #40]
 	mov	x2, x21
 	bl	_memmove
-Lnoise_BB93_41:
+Lnoise_BB93_37:
 	stp	xzr, xzr, [x29, #-112]
 	add	x22, sp, #2128
 	sub	x0, x29, #112
@@ -23730,33 +23720,31 @@ Lnoise_BB93_41:
 	add	x1, x8, #64
 	add	x2, x22, #32
 	mov	w3, #32
-	mov	x4, x24
+	ldr	x4, [sp, #40]
 	mov	x5, x21
 	bl	"_noise_state::cipher::CipherState::encrypt"
 	ldurb	w8, [x29, #-112]
-	cbnz	w8, Lnoise_BB93_61
+	cbnz	w8, Lnoise_BB93_57
 	add	x23, sp, #3040
-	add	x27, sp, #1840
-	orr	x26, x27, #0x1
+	add	x28, sp, #1840
+	orr	x27, x28, #0x1
 	ldur	x21, [x29, #-104]
 	sub	x0, x29, #144
 	add	x1, x22, #32
-	mov	x2, x24
+	ldr	x2, [sp, #40]
 	mov	x3, x21
 	bl	"_noise_state::symmetric::hash_of_both"
 	ldp	q0, q1, [x29, #-144]
 	stp	q0, q1, [x22, #32]
-	ldp	q0, q1, [x26]
+	ldp	q0, q1, [x27]
 	stur	q0, [x23, #1]
-	add	x21, x21, x25
-	ldr	w8, [sp, #40]
-	strb	w8, [sp, #3040]
+	add	x21, x21, x24
+	strb	w25, [sp, #3040]
 	stur	q1, [x23, #17]
-	ldr	w8, [sp, #32]
-	strb	w8, [sp, #3073]
-	ldur	q0, [x27, #34]
+	strb	w26, [sp, #3073]
+	ldur	q0, [x28, #34]
 	stur	q0, [x23, #34]
-	ldur	q0, [x27, #50]
+	ldur	q0, [x28, #50]
 	stur	q0, [x23, #50]
 	add	x0, sp, #976
 	add	x1, sp, #2128
@@ -23768,17 +23756,17 @@ Lnoise_BB93_41:
 	ldrb	w14, [sp, #1288]
 	ldrb	w10, [sp, #1321]
 	cmp	w14, #1
-	b.ne	Lnoise_BB93_44
-	ldr	x8, [sp, #8]
+	b.ne	Lnoise_BB93_40
+	ldr	x8, [sp, #16]
 	ldp	q0, q1, [x8]
 	str	q0, [sp, #1840]
 	str	q1, [sp, #1856]
-	b	Lnoise_BB93_45
-Lnoise_BB93_44:
+	b	Lnoise_BB93_41
+Lnoise_BB93_40:
 	movi.2d	v0, #0000000000000000
 	str	q0, [sp, #1856]
 	str	q0, [sp, #1840]
-Lnoise_BB93_45:
+Lnoise_BB93_41:
 	ldrb	w8, [sp, #1792]
 	sub	w11, w9, w11
 	ldrb	w12, [sp, #1664]
@@ -23790,17 +23778,17 @@ Lnoise_BB93_45:
 	ldr	q1, [sp, #1856]
 	stp	q0, q1, [x14]
 	cmp	w10, #1
-	b.ne	Lnoise_BB93_47
-	ldr	x14, [sp, #16]
+	b.ne	Lnoise_BB93_43
+	ldr	x14, [sp, #24]
 	ldp	q0, q1, [x14]
 	str	q0, [sp, #2128]
 	str	q1, [sp, #2144]
-	b	Lnoise_BB93_48
-Lnoise_BB93_47:
+	b	Lnoise_BB93_44
+Lnoise_BB93_43:
 	movi.2d	v0, #0000000000000000
 	str	q0, [sp, #2144]
 	str	q0, [sp, #2128]
-Lnoise_BB93_48:
+Lnoise_BB93_44:
 	ldr	q0, [sp, #2128]
 	ldr	q1, [sp, #2144]
 	str	q0, [sp, #1840]
@@ -23819,17 +23807,17 @@ Lnoise_BB93_48:
 	ldp	q0, q1, [x11, #784]
 	stp	q0, q1, [x10]
 	cmp	w8, #1
-	b.ne	Lnoise_BB93_50
-	ldr	x10, [sp, #24]
+	b.ne	Lnoise_BB93_46
+	ldr	x10, [sp, #32]
 	ldp	q0, q1, [x10]
 	str	q0, [sp, #2128]
 	str	q1, [sp, #2144]
-	b	Lnoise_BB93_51
-Lnoise_BB93_50:
+	b	Lnoise_BB93_47
+Lnoise_BB93_46:
 	movi.2d	v0, #0000000000000000
 	str	q0, [sp, #2144]
 	str	q0, [sp, #2128]
-Lnoise_BB93_51:
+Lnoise_BB93_47:
 	mov	w0, #0
 	ldr	q0, [sp, #2128]
 	ldr	q1, [sp, #2144]
@@ -23840,48 +23828,48 @@ Lnoise_BB93_51:
 	stp	q0, q1, [x8]
 	str	x9, [x20, #1464]
 	b	Lnoise_BB93_9
-Lnoise_BB93_52:
+Lnoise_BB93_48:
 	cmp	x21, #32
-	b.hs	Lnoise_BB93_54
+	b.hs	Lnoise_BB93_50
 	mov	x8, #0
-	b	Lnoise_BB93_58
-Lnoise_BB93_54:
+	b	Lnoise_BB93_54
+Lnoise_BB93_50:
 	and	x9, x21, #0x18
 	and	x8, x21, #0xffffffffffffffe0
-	add	x10, x28, x23
+	add	x10, x27, x23
 	add	x10, x10, #16
-	add	x11, x25, x27
+	add	x11, x24, x28
 	add	x11, x11, x22
 	add	x11, x11, #16
 	and	x12, x21, #0xffffffffffffffe0
-Lnoise_BB93_55:
+Lnoise_BB93_51:
 	ldp	q0, q1, [x10, #-16]
 	stp	q0, q1, [x11, #-16]
 	add	x10, x10, #32
 	add	x11, x11, #32
 	subs	x12, x12, #32
-	b.ne	Lnoise_BB93_55
+	b.ne	Lnoise_BB93_51
 	cmp	x21, x8
-	b.eq	Lnoise_BB93_41
-	cbz	x9, Lnoise_BB93_38
-Lnoise_BB93_58:
+	b.eq	Lnoise_BB93_37
+	cbz	x9, Lnoise_BB93_34
+Lnoise_BB93_54:
 	mov	x11, x8
 	and	x8, x21, #0xfffffffffffffff8
 	sub	x9, x11, x8
-	add	x10, x28, x11
+	add	x10, x27, x11
 	add	x10, x23, x10
-	add	x12, x25, x27
+	add	x12, x24, x28
 	add	x11, x22, x11
 	add	x11, x11, x12
-Lnoise_BB93_59:
+Lnoise_BB93_55:
 	ldr	d0, [x10], #8
 	str	d0, [x11], #8
 	adds	x9, x9, #8
-	b.ne	Lnoise_BB93_59
+	b.ne	Lnoise_BB93_55
 	cmp	x21, x8
-	b.ne	Lnoise_BB93_38
-	b	Lnoise_BB93_41
-Lnoise_BB93_61:
+	b.ne	Lnoise_BB93_34
+	b	Lnoise_BB93_37
+Lnoise_BB93_57:
 	brk	#0x1
 	.cfi_endproc
 
@@ -24092,7 +24080,7 @@ lnoise__static.103:
 	.byte	2
 
 	.p2align	3, 0x0
-"l_switch.table.noise_names::text::write::push_token_line.201":
+"l_switch.table.noise_names::text::write::push_token_line.200":
 	.quad	1
 	.quad	1
 	.quad	2
@@ -24103,7 +24091,7 @@ lnoise__static.103:
 
 	.section	__DATA,__const
 	.p2align	3, 0x0
-"l_switch.table.noise_names::text::write::push_token_line.202":
+"l_switch.table.noise_names::text::write::push_token_line.201":
 	.quad	lnoise__static.90
 	.quad	lnoise__static.91
 	.quad	lnoise__static.92
@@ -24178,53 +24166,53 @@ lnoise__switch.table.noise_sentence:
 	.quad	65
 
 	.p2align	2, 0x0
-lnoise__switch.table.noise_sentence.203.rel:
-	.long	lnoise__static.4-lnoise__switch.table.noise_sentence.203.rel
-	.long	lnoise__static.5-lnoise__switch.table.noise_sentence.203.rel
-	.long	lnoise__static.6-lnoise__switch.table.noise_sentence.203.rel
-	.long	lnoise__static.47-lnoise__switch.table.noise_sentence.203.rel
-	.long	lnoise__static.7-lnoise__switch.table.noise_sentence.203.rel
-	.long	lnoise__static.8-lnoise__switch.table.noise_sentence.203.rel
-	.long	lnoise__static.9-lnoise__switch.table.noise_sentence.203.rel
-	.long	lnoise__static.10-lnoise__switch.table.noise_sentence.203.rel
-	.long	lnoise__static.11-lnoise__switch.table.noise_sentence.203.rel
-	.long	lnoise__static.47-lnoise__switch.table.noise_sentence.203.rel
-	.long	lnoise__static.12-lnoise__switch.table.noise_sentence.203.rel
-	.long	lnoise__static.13-lnoise__switch.table.noise_sentence.203.rel
-	.long	lnoise__static.14-lnoise__switch.table.noise_sentence.203.rel
-	.long	lnoise__static.15-lnoise__switch.table.noise_sentence.203.rel
-	.long	lnoise__static.16-lnoise__switch.table.noise_sentence.203.rel
-	.long	lnoise__static.17-lnoise__switch.table.noise_sentence.203.rel
-	.long	lnoise__static.18-lnoise__switch.table.noise_sentence.203.rel
-	.long	lnoise__static.19-lnoise__switch.table.noise_sentence.203.rel
-	.long	lnoise__static.20-lnoise__switch.table.noise_sentence.203.rel
-	.long	lnoise__static.21-lnoise__switch.table.noise_sentence.203.rel
-	.long	lnoise__static.22-lnoise__switch.table.noise_sentence.203.rel
-	.long	lnoise__static.47-lnoise__switch.table.noise_sentence.203.rel
-	.long	lnoise__static.23-lnoise__switch.table.noise_sentence.203.rel
-	.long	lnoise__static.24-lnoise__switch.table.noise_sentence.203.rel
-	.long	lnoise__static.25-lnoise__switch.table.noise_sentence.203.rel
-	.long	lnoise__static.26-lnoise__switch.table.noise_sentence.203.rel
-	.long	lnoise__static.27-lnoise__switch.table.noise_sentence.203.rel
-	.long	lnoise__static.28-lnoise__switch.table.noise_sentence.203.rel
-	.long	lnoise__static.29-lnoise__switch.table.noise_sentence.203.rel
-	.long	lnoise__static.30-lnoise__switch.table.noise_sentence.203.rel
-	.long	lnoise__static.31-lnoise__switch.table.noise_sentence.203.rel
-	.long	lnoise__static.32-lnoise__switch.table.noise_sentence.203.rel
-	.long	lnoise__static.33-lnoise__switch.table.noise_sentence.203.rel
-	.long	lnoise__static.34-lnoise__switch.table.noise_sentence.203.rel
-	.long	lnoise__static.35-lnoise__switch.table.noise_sentence.203.rel
-	.long	lnoise__static.36-lnoise__switch.table.noise_sentence.203.rel
-	.long	lnoise__static.37-lnoise__switch.table.noise_sentence.203.rel
-	.long	lnoise__static.38-lnoise__switch.table.noise_sentence.203.rel
-	.long	lnoise__static.39-lnoise__switch.table.noise_sentence.203.rel
-	.long	lnoise__static.40-lnoise__switch.table.noise_sentence.203.rel
-	.long	lnoise__static.41-lnoise__switch.table.noise_sentence.203.rel
-	.long	lnoise__static.42-lnoise__switch.table.noise_sentence.203.rel
-	.long	lnoise__static.43-lnoise__switch.table.noise_sentence.203.rel
-	.long	lnoise__static.44-lnoise__switch.table.noise_sentence.203.rel
-	.long	lnoise__static.45-lnoise__switch.table.noise_sentence.203.rel
-	.long	lnoise__static.46-lnoise__switch.table.noise_sentence.203.rel
+lnoise__switch.table.noise_sentence.202.rel:
+	.long	lnoise__static.4-lnoise__switch.table.noise_sentence.202.rel
+	.long	lnoise__static.5-lnoise__switch.table.noise_sentence.202.rel
+	.long	lnoise__static.6-lnoise__switch.table.noise_sentence.202.rel
+	.long	lnoise__static.47-lnoise__switch.table.noise_sentence.202.rel
+	.long	lnoise__static.7-lnoise__switch.table.noise_sentence.202.rel
+	.long	lnoise__static.8-lnoise__switch.table.noise_sentence.202.rel
+	.long	lnoise__static.9-lnoise__switch.table.noise_sentence.202.rel
+	.long	lnoise__static.10-lnoise__switch.table.noise_sentence.202.rel
+	.long	lnoise__static.11-lnoise__switch.table.noise_sentence.202.rel
+	.long	lnoise__static.47-lnoise__switch.table.noise_sentence.202.rel
+	.long	lnoise__static.12-lnoise__switch.table.noise_sentence.202.rel
+	.long	lnoise__static.13-lnoise__switch.table.noise_sentence.202.rel
+	.long	lnoise__static.14-lnoise__switch.table.noise_sentence.202.rel
+	.long	lnoise__static.15-lnoise__switch.table.noise_sentence.202.rel
+	.long	lnoise__static.16-lnoise__switch.table.noise_sentence.202.rel
+	.long	lnoise__static.17-lnoise__switch.table.noise_sentence.202.rel
+	.long	lnoise__static.18-lnoise__switch.table.noise_sentence.202.rel
+	.long	lnoise__static.19-lnoise__switch.table.noise_sentence.202.rel
+	.long	lnoise__static.20-lnoise__switch.table.noise_sentence.202.rel
+	.long	lnoise__static.21-lnoise__switch.table.noise_sentence.202.rel
+	.long	lnoise__static.22-lnoise__switch.table.noise_sentence.202.rel
+	.long	lnoise__static.47-lnoise__switch.table.noise_sentence.202.rel
+	.long	lnoise__static.23-lnoise__switch.table.noise_sentence.202.rel
+	.long	lnoise__static.24-lnoise__switch.table.noise_sentence.202.rel
+	.long	lnoise__static.25-lnoise__switch.table.noise_sentence.202.rel
+	.long	lnoise__static.26-lnoise__switch.table.noise_sentence.202.rel
+	.long	lnoise__static.27-lnoise__switch.table.noise_sentence.202.rel
+	.long	lnoise__static.28-lnoise__switch.table.noise_sentence.202.rel
+	.long	lnoise__static.29-lnoise__switch.table.noise_sentence.202.rel
+	.long	lnoise__static.30-lnoise__switch.table.noise_sentence.202.rel
+	.long	lnoise__static.31-lnoise__switch.table.noise_sentence.202.rel
+	.long	lnoise__static.32-lnoise__switch.table.noise_sentence.202.rel
+	.long	lnoise__static.33-lnoise__switch.table.noise_sentence.202.rel
+	.long	lnoise__static.34-lnoise__switch.table.noise_sentence.202.rel
+	.long	lnoise__static.35-lnoise__switch.table.noise_sentence.202.rel
+	.long	lnoise__static.36-lnoise__switch.table.noise_sentence.202.rel
+	.long	lnoise__static.37-lnoise__switch.table.noise_sentence.202.rel
+	.long	lnoise__static.38-lnoise__switch.table.noise_sentence.202.rel
+	.long	lnoise__static.39-lnoise__switch.table.noise_sentence.202.rel
+	.long	lnoise__static.40-lnoise__switch.table.noise_sentence.202.rel
+	.long	lnoise__static.41-lnoise__switch.table.noise_sentence.202.rel
+	.long	lnoise__static.42-lnoise__switch.table.noise_sentence.202.rel
+	.long	lnoise__static.43-lnoise__switch.table.noise_sentence.202.rel
+	.long	lnoise__static.44-lnoise__switch.table.noise_sentence.202.rel
+	.long	lnoise__static.45-lnoise__switch.table.noise_sentence.202.rel
+	.long	lnoise__static.46-lnoise__switch.table.noise_sentence.202.rel
 
 	.section	__TEXT,__literal16,16byte_literals
 	.p2align	2, 0x0
@@ -24236,13 +24224,13 @@ lnoise__switch.table.noise_stream_read:
 
 	.section	__TEXT,__const
 	.p2align	3, 0x0
-lnoise__switch.table.noise_datagram_open.205:
+lnoise__switch.table.noise_datagram_open.204:
 	.quad	64
 	.quad	256
 	.quad	1024
 
 	.p2align	3, 0x0
-lnoise__switch.table.noise_datagram_open.207:
+lnoise__switch.table.noise_datagram_open.206:
 	.quad	2
 	.quad	5
 	.quad	17
