@@ -1,18 +1,17 @@
 -- Two programs that begin alike, and whose starts return OK, begin as the law of two programs asks.
-use Rattle.std.proofs.Common.{◌≡◌, ◌++◌, ℕ, List, true, false, refl, ap, sym, subst, ◌∙◌}
+use Rattle.std.proofs.Common.{◌≡◌, ℕ, List, true, false, refl, ap, sym, ◌∙◌}
 use Rattle.std.specs.Prelude.{is_some, max, length}
-use Rattle.noise_c.proofs.Common.{Bool, Option, Some, None, false≢true, if◌then◌else◌, Plan, IsValid, Party, Own, Role, Token, E, S, Ee, Es, Se, Ss, is_dh, occurs, own_at, remote_at, dh_result_of, psks_of, setup_fault, Remote, DhResults, fault_in, key_from_c, public_in, remote_of, table_of}
-use Rattle.noise_keys.specs.declared.keys.Own.TheVariants.{Ephemeral, Static}
+use Rattle.noise_c.proofs.Common.{Bool, Option, Some, None, false≢true, if◌then◌else◌, Plan, IsValid, Own, Role, Token, E, S, Ee, Es, Se, Ss, is_dh, occurs, own_at, remote_at, dh_result_of, psks_of, setup_fault, Remote, DhResults, key_from_c, public_in, remote_of, table_of}
 use Rattle.noise_names.specs.declared.token.Role.TheVariants.{Initiator, Responder}
 use Rattle.noise_names.specs.declared.token.Token.TheVariants.{Psk}
 use Rattle.noise_names.specs.Tokens.{other}
 use Rattle.noise_names.specs.Plan.{places_of}
 use Rattle.noise_names.specs.Validity.{is_among}
-use Rattle.noise_handshake.specs.Counterparts.{DhResultsAgree, keys_if, shown_before}
+use Rattle.noise_handshake.specs.Counterparts.{DhResultsAgree, shown_before}
 use Rattle.noise_handshake.specs.Setup.{has_before, public_keys, token_of}
 use Rattle.noise_c.specs.declared.structs.NoiseSetup.{NoiseSetup}
 use Rattle.noise_c.specs.HandshakeStructs.{psks_in}
-use Rattle.noise_c.specs.TwoRuns.{Dh, Knows, own_keys}
+use Rattle.noise_c.specs.TwoRuns.{Dh, Knows}
 use Rattle.noise_c.proofs.Starts.{remote-of}
 
 -- what the laws of a setup say

@@ -1,20 +1,19 @@
 -- Two programs that run turn by turn.
-use Rattle.std.proofs.Common.{◌≡◌, ◌⊎◌, ◌≤◌, ◌<◌, ◌+◌, inl, inr, ℕ, zero, suc, List, [], ◌∷◌, ◌++◌, length, take, drop, length-append, true, false, refl, ap, sym, subst, ◌∙◌, arith}
-use Rattle.std.specs.Prelude.{◌==◌, ◌&&◌, slice_range, Option, Some, IfSome}
-use Rattle.std.proofs.lemmas.List.{append_assoc, append-nil, append_cancel_left}
-use Rattle.noise_c.proofs.Common.{Bool, None, if◌then◌else◌, Plan, IsValid, Role, Remote, fault_in, public_in, remote_of, role_in, table_of, psks_of, setup_fault, IsPatternOf, NoiseHandshake, DhResults, key_from_c}
+use Rattle.std.proofs.Common.{◌≡◌, ◌<◌, inl, inr, ℕ, suc, List, [], ◌∷◌, ◌++◌, length, true, false, refl, ap, sym, subst, ◌∙◌, arith}
+use Rattle.std.specs.Prelude.{◌==◌, ◌&&◌, Option, Some, IfSome}
+use Rattle.std.proofs.lemmas.List.{append_assoc, append-nil}
+use Rattle.noise_c.proofs.Common.{Bool, None, if◌then◌else◌, Plan, IsValid, Role, fault_in, public_in, remote_of, role_in, table_of, psks_of, setup_fault, IsPatternOf, NoiseHandshake}
 use Rattle.noise_names.specs.declared.token.Role.TheVariants.{Initiator, Responder}
 use Rattle.noise_c.specs.declared.structs.NoiseSetup.{NoiseSetup}
 use Rattle.noise_c.specs.HandshakeStructs.{IsStarted, psks_in}
-use Rattle.noise_c.specs.TwoPrograms.{Agree, Calls, HasRun, HaveTalked, IsFront, Passed, Program, Secrets, TwoProgramsAgree, messages_in, program_start}
+use Rattle.noise_c.specs.TwoPrograms.{Agree, Calls, HaveTalked, IsFront, Passed, Program, Secrets, TwoProgramsAgree, messages_in}
 use Rattle.noise_c.specs.TwoPrograms.Calls.{none}
 use Rattle.noise_c.specs.declared.two_runs.Turn.{Turn}
 use Rattle.noise_c.specs.declared.two_runs.Ran.{Ran}
-use Rattle.noise_c.specs.declared.two_runs.Halves.{Halves}
 use Rattle.noise_c.specs.Finishing.{AreHalvesOf}
 use Rattle.noise_c.specs.declared.two_runs.Step.{Step}
 use Rattle.noise_c.specs.declared.codes.numbers.TheConstants.{OK}
-use Rattle.noise_c.specs.TwoRuns.{Answers, BeginAlike, Dh, Knows, agrees, own_keys, passed_by, psks_of_turns, turns_of}
+use Rattle.noise_c.specs.TwoRuns.{Answers, BeginAlike, Dh, agrees, passed_by, psks_of_turns, turns_of}
 use Rattle.noise_c.proofs.Alike.{Setups, meets, results_of, shown}
 use Rattle.noise_c.proofs.Sides.{Side, side-answered, side-set, side-start, side-took, side-wrote}
 use Rattle.noise_c.specs.RunSteps.{ReadsStep, Turned, WritesStep}

@@ -1,14 +1,13 @@
 -- One of two programs that run turn by turn: the calls that led to its struct, and the psks that it still hands in.
-use Rattle.std.proofs.Common.{◌≡◌, ◌⊎◌, ◌≤◌, ◌<◌, ◌+◌, inl, inr, ℕ, zero, suc, List, [], ◌∷◌, ◌++◌, length, take, drop, ◌-◌, length-append, length-drop, true, false, refl, ap, sym, subst, ◌∙◌, arith}
+use Rattle.std.proofs.Common.{◌≡◌, ◌⊎◌, ◌≤◌, ◌<◌, ◌+◌, inl, inr, ℕ, zero, suc, List, [], ◌∷◌, ◌++◌, length, take, drop, length-append, length-drop, true, false, refl, ap, sym, subst, ◌∙◌, arith}
 use Rattle.std.specs.Option.{option_map, option_or}
-use Rattle.std.proofs.lemmas.List.{append_assoc, append-nil, take-append-drop}
+use Rattle.std.proofs.lemmas.List.{append_assoc, take-append-drop}
 use Rattle.std.proofs.lemmas.List.Folds.{find-append}
-use Rattle.noise_c.proofs.Common.{take-append_seam, Bool, Option, Some, None, cond, count_by, find, nat_lt, nat_tests, Plan, IsValid, Own, Token, Party, HandshakeValue, Table, TableEntry, DhResults, AreAmong, dh_result_in, is_for, psks_of, tokens_at, party_with, pairs_in, handshake_from_c, table_in, text_from_c, IsAdded, IsGiven, IsPatternOf, IsUsable, KeepsParty, WasRead, WasWritten, NoiseHandshake}
+use Rattle.noise_c.proofs.Common.{take-append_seam, Bool, Option, Some, None, count_by, find, nat_lt, nat_tests, Plan, Own, Token, Party, HandshakeValue, Table, TableEntry, DhResults, AreAmong, dh_result_in, is_for, psks_of, tokens_at, party_with, pairs_in, handshake_from_c, table_in, text_from_c, IsGiven, IsPatternOf, IsUsable, KeepsParty, WasRead, WasWritten, NoiseHandshake}
 use Rattle.noise_names.specs.Tokens.{is_psk}
 use Rattle.noise_c.specs.HandshakeStructs.{ForParty, GoesOn, IsStarted, KeepsPsks, KeepsRest, SetsPsk, Supplies, held_psks, psks_due, psks_in}
-use Rattle.noise_c.specs.HandedIn.{dh_results_in}
 use Rattle.noise_c.specs.TwoPrograms.{Calls, IsFront, Passed, Secrets}
-use Rattle.noise_c.specs.TwoPrograms.Calls.{none, wrote, took, answered, set_psk}
+use Rattle.noise_c.specs.TwoPrograms.Calls.{wrote, took, answered, set_psk}
 use Rattle.noise_c.specs.declared.structs.NoiseSetup.{NoiseSetup}
 use Rattle.noise_c.proofs.Runs.{alone, only-one}
 
@@ -130,23 +129,23 @@ psks-set p all k next psk due w low count given =
     elim w.next [
       | inl full ↦ absurd (omega (arith, full, low, count))
       | inr front ↦
-        let later : List (List ℕ) = due ++ front.0 in
-        let held : held_psks next ≡ held_psks k ++ psk ∷ [] = ap (λ (z : HandshakeValue Table). z.psks) (given.handshake p) in
-        let same : next.passed ≡ k.passed = ap (λ (z : HandshakeValue Table). z.passed) (given.handshake p) in
-        let are : all ≡ w.used ++ held_psks k ++ psk ∷ later = w.psks_are ∙ ap (λ (z : List (List ℕ)). w.used ++ held_psks k ++ z) front.1 in (
-          later,
-          record {
-            used = w.used;
-            count = w.count ∙ ap (λ (i : ℕ). psks_of (take i p.messages)) (sym same);
-            tail = later;
-            psks_are = are ∙ sym (append_assoc (w.used ++ held_psks k) (psk ∷ []) later)
-                ∙ ap (λ (z : List (List ℕ)). z ++ later) (append_assoc w.used (held_psks k) (psk ∷ []))
-                ∙ ap (λ (z : List (List ℕ)). (w.used ++ z) ++ later) (sym held);
-            next = inr (front.0, refl);
-          },
-          are,
-          w.count,
-        )
+          let later : List (List ℕ) = due ++ front.0 in
+          let held : held_psks next ≡ held_psks k ++ psk ∷ [] = ap (λ (z : HandshakeValue Table). z.psks) (given.handshake p) in
+          let same : next.passed ≡ k.passed = ap (λ (z : HandshakeValue Table). z.passed) (given.handshake p) in
+          let are : all ≡ w.used ++ held_psks k ++ psk ∷ later = w.psks_are ∙ ap (λ (z : List (List ℕ)). w.used ++ held_psks k ++ z) front.1 in (
+            later,
+            record {
+              used = w.used;
+              count = w.count ∙ ap (λ (i : ℕ). psks_of (take i p.messages)) (sym same);
+              tail = later;
+              psks_are = are ∙ sym (append_assoc (w.used ++ held_psks k) (psk ∷ []) later)
+                  ∙ ap (λ (z : List (List ℕ)). z ++ later) (append_assoc w.used (held_psks k) (psk ∷ []))
+                  ∙ ap (λ (z : List (List ℕ)). (w.used ++ z) ++ later) (sym held);
+              next = inr (front.0, refl);
+            },
+            are,
+            w.count,
+          )
     ]
 
 pub psks-full : (p : Plan) (all : List (List ℕ)) (k : NoiseHandshake) (psk : List ℕ) (due : List (List ℕ)) → PsksOf p all k (psk ∷ due)
@@ -263,34 +262,34 @@ module _ (text : List ℕ) (p : Plan) (s : Secrets) (begun k next : NoiseHandsha
       → Side text p s begun next ws rs rest
   side-set psk rest code first one count sets goes stays = elim sets.codes [
     | inl ok ↦
-      let given = sets.given ok in
-      let low : k.psk_count < psks_of (drop k.passed p.messages) =
-      subst (λ (q : Plan). k.psk_count < psks_of (drop k.passed q.messages)) same ((sets.lacks st.usable).0 ok) in
-      let put = psks-set p s.psks k next psk rest w low count given in
-      record {
-        name = given.text ∙ st.name;
-        usable = stays st.usable;
-        leads = λ us xs last calls.
-            st.leads us xs last (set_psk k next last psk us xs (goes ok) stays (record {
-              used = put.1.used;
-              later = put.0;
-              count = put.3;
-              psks_are = put.2;
-            }) calls);
-        entries = subst (λ (t : Table). AllRight s.dh_results t.entries) (sym (ap (λ (z : HandshakeValue Table). z.keys) (given.handshake p))) st.entries;
-        psks = put.1;
-      }
+        let given = sets.given ok in
+        let low : k.psk_count < psks_of (drop k.passed p.messages) =
+        subst (λ (q : Plan). k.psk_count < psks_of (drop k.passed q.messages)) same ((sets.lacks st.usable).0 ok) in
+        let put = psks-set p s.psks k next psk rest w low count given in
+        record {
+          name = given.text ∙ st.name;
+          usable = stays st.usable;
+          leads = λ us xs last calls.
+              st.leads us xs last (set_psk k next last psk us xs (goes ok) stays (record {
+                used = put.1.used;
+                later = put.0;
+                count = put.3;
+                psks_are = put.2;
+              }) calls);
+          entries = subst (λ (t : Table). AllRight s.dh_results t.entries) (sym (ap (λ (z : HandshakeValue Table). z.keys) (given.handshake p))) st.entries;
+          psks = put.1;
+        }
     | inr (inl broken) ↦ absurd (sets.unusable.0 broken st.usable)
     | inr (inr full) ↦
-      let none : k.psk_count < psks_of (drop k.passed p.messages) → ⊥ =
-      λ low. not-ok full ((sets.lacks st.usable).1 (subst (λ (q : Plan). k.psk_count < psks_of (drop k.passed q.messages)) (sym same) low)) in
-      subst (λ (z : NoiseHandshake). Side text p s begun z ws rs rest) (sym (sets.unchanged (omega (arith, full)))) (record {
-        name = st.name;
-        usable = st.usable;
-        leads = st.leads;
-        entries = st.entries;
-        psks = psks-full p s.psks k psk rest w none count;
-      })
+        let none : k.psk_count < psks_of (drop k.passed p.messages) → ⊥ =
+        λ low. not-ok full ((sets.lacks st.usable).1 (subst (λ (q : Plan). k.psk_count < psks_of (drop k.passed q.messages)) (sym same) low)) in
+        subst (λ (z : NoiseHandshake). Side text p s begun z ws rs rest) (sym (sets.unchanged (omega (arith, full)))) (record {
+          name = st.name;
+          usable = st.usable;
+          leads = st.leads;
+          entries = st.entries;
+          psks = psks-full p s.psks k psk rest w none count;
+        })
   ] where
     w : PsksOf p s.psks k (psk ∷ rest)
     w = subst (λ (z : List (List ℕ)). PsksOf p s.psks k z) first st.psks

@@ -6,7 +6,7 @@ use Rattle.noise_c.specs.declared.two_runs.Turn.{Turn}
 use Rattle.noise_c.specs.declared.two_runs.Turn.TheVariants as turn
 use Rattle.noise_c.specs.declared.two_runs.Step.{Step}
 use Rattle.noise_c.specs.declared.codes.numbers.TheConstants.{OK, WANTED, WANTED_PSK}
-use Rattle.noise_c.specs.HandshakeStructs.{entry_in, ForParty, GoesOn, IsUsable, held_psks, KeepsPsks, KeepsRest, SetsPsk, Supplies, WasRead, WasWritten}
+use Rattle.noise_c.specs.HandshakeStructs.{entry_in, ForParty, GoesOn, IsUsable, held_psks, KeepsPsks, KeepsRest, SetsPsk, Supplies, WasWritten}
 use Rattle.noise_c.specs.Outcomes.{ReadOutcome}
 use Rattle.noise_c.specs.TwoPrograms.{Passed}
 use Rattle.noise_c.specs.TwoRuns.{passed_by}

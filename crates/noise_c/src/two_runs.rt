@@ -13,8 +13,8 @@ use crate::patterns::pattern_of;
 use crate::reading::NO_HALF;
 use crate::split::noise_finish;
 use crate::start::noise_start;
-use crate::structs::{NoiseAnswer, NoiseHalf, NoiseHandshake, NoiseSetup};
-use crate::supplied_keys::key_of;
+use crate::structs::NoiseHandshake;
+pub use crate::structs::{NoiseAnswer, NoiseHalf, NoiseKey, NoiseSetup};
 use crate::toys::{NO_HANDSHAKE, NO_RESULT};
 use crate::two_programs::two_programs_agree;
 use noise_handshake::laws::{setup_is_whole, tokens_match};
@@ -56,8 +56,6 @@ pub struct Ran {
     pub passed_too: u8,
     pub hash: [u8; 32],
     pub hash_too: [u8; 32],
-    pub remote: Option<[u8; 32]>,
-    pub remote_too: Option<[u8; 32]>,
     pub halves: Option<Halves>,
 }
 
@@ -188,7 +186,11 @@ fn take_turn(
     }
 }
 
-/// Runs two programs on the C calls, of one pattern and prologue. None where a start doesn't return OK.
+/// Runs two programs on the C calls, of one pattern and prologue, turn by turn, and finishes both handshakes. None where
+/// a start doesn't return OK.
+///
+/// If they begin alike, each payload that is read is the one that was written, no message is refused, and both end with
+/// one hash and with halves that face each other.
 pub fn run_two(
     alloc: Global,
     text: &[u8],
@@ -222,7 +224,6 @@ pub fn run_two(
         }
     }
     let (passed, passed_too, hash, hash_too) = (a.passed, b.passed, a.hash, b.hash);
-    let (remote, remote_too) = (key_of(&a.remote_s), key_of(&b.remote_s));
     let halves = finish_both(&mut a, &mut b);
     Ok(Some(Ran {
         steps,
@@ -230,8 +231,6 @@ pub fn run_two(
         passed_too,
         hash,
         hash_too,
-        remote,
-        remote_too,
         halves,
     }))
 }

@@ -1,4 +1,4 @@
-use Rattle.std.proofs.Common.{◌∙◌, ap, sym}
+use Rattle.std.proofs.Common.{◌∙◌}
 use Rattle.noise_c.proofs.Both.{at-first, at-next, beq-same, ok-some}
 use Rattle.noise_c.proofs.two_runs.+message_of.Goals as goal
 

@@ -1,4 +1,4 @@
-use Rattle.std.proofs.Common.{◌≡◌, ◌≤◌, ◌+◌, ℕ, List, length, take, refl, ap, sym, subst, ◌∙◌, arith}
+use Rattle.std.proofs.Common.{◌≤◌, ◌+◌, ℕ, List, length, sym, subst, ◌∙◌, arith}
 use Rattle.noise_c.proofs.Toying.{read-fits}
 use Rattle.noise_c.proofs.Sides.{whole}
 use Rattle.noise_c.proofs.two_runs.read.Goals as goal

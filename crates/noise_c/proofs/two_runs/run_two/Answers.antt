@@ -1,11 +1,10 @@
-use Rattle.std.proofs.Common.{◌≡◌, ◌∙◌, ◌+◌, ◌∷◌, ℕ, List, drop, ap, sym, subst, refl, arith, true, false}
+use Rattle.std.proofs.Common.{◌≡◌, ◌∙◌, ◌+◌, ◌∷◌, ℕ, List, drop, ap, sym, subst, refl}
 use Rattle.std.specs.Prelude.{Bool}
 use Rattle.std.proofs.lemmas.List.{drop_more}
 use Rattle.noise_names.specs.Plan.{Plan}
 use Rattle.noise_c.specs.declared.structs.NoiseHandshake.{NoiseHandshake}
 use Rattle.noise_c.specs.declared.two_runs.Step.{Step}
 use Rattle.noise_c.specs.declared.two_runs.Turn.{Turn}
-use Rattle.noise_c.specs.RunSteps.{Turned}
 use Rattle.noise_c.proofs.Both.{Begins, Both, first-both, last-both, next-left, next-right, no-start-fault}
 use Rattle.noise_c.proofs.two_runs.run_two.Goals.{then-is_responder+in_ok-take_turn, else-is_responder+in_ok-take_turn-2}
 use Rattle.noise_c.proofs.two_runs.run_two.Goals as goal
@@ -33,20 +32,20 @@ turns-preserved c = record {
       (c.turns.invariant.stands p d d_too psks o) in
       elim c.if-is_responder.branch [
         | then-is_responder+in_ok-take_turn w ↦
-          let head = subst (λ (z : Bool). Both c.args.text.now p d d_too psks a0 b0 c.turns.a c.turns.b c.turns.steps.items ((z, item.1) ∷ rest)) w.if-is_responder.true now in
-          let next = next-right c.args.text.now c.args.prologue.now p c.args.initiator.now c.args.responder.now a0 b0 all d d_too psks o
-          c.turns.a c.turns.b w.take_turn.new.handshake c.turns.steps.items w.take_turn.new.steps.items item.1 rest head w.in_ok-take_turn.ensures in
-          subst (λ (z : NoiseHandshake). Both c.args.text.now p d d_too psks a0 b0 z c.if-is_responder.b c.if-is_responder.steps.items rest) (sym w.a-is)
-          (subst (λ (z : NoiseHandshake). Both c.args.text.now p d d_too psks a0 b0 c.turns.a z c.if-is_responder.steps.items rest) (sym w.b-is)
-          (subst (λ z. Both c.args.text.now p d d_too psks a0 b0 c.turns.a w.take_turn.new.handshake z.items rest) (sym w.steps-is) next))
+            let head = subst (λ (z : Bool). Both c.args.text.now p d d_too psks a0 b0 c.turns.a c.turns.b c.turns.steps.items ((z, item.1) ∷ rest)) w.if-is_responder.true now in
+            let next = next-right c.args.text.now c.args.prologue.now p c.args.initiator.now c.args.responder.now a0 b0 all d d_too psks o
+            c.turns.a c.turns.b w.take_turn.new.handshake c.turns.steps.items w.take_turn.new.steps.items item.1 rest head w.in_ok-take_turn.ensures in
+            subst (λ (z : NoiseHandshake). Both c.args.text.now p d d_too psks a0 b0 z c.if-is_responder.b c.if-is_responder.steps.items rest) (sym w.a-is)
+            (subst (λ (z : NoiseHandshake). Both c.args.text.now p d d_too psks a0 b0 c.turns.a z c.if-is_responder.steps.items rest) (sym w.b-is)
+            (subst (λ z. Both c.args.text.now p d d_too psks a0 b0 c.turns.a w.take_turn.new.handshake z.items rest) (sym w.steps-is) next))
         | else-is_responder+in_ok-take_turn-2 w ↦
-          let head = subst (λ (z : Bool). Both c.args.text.now p d d_too psks a0 b0 c.turns.a c.turns.b c.turns.steps.items ((z, item.1) ∷ rest)) w.if-is_responder.false now in
-          let next = next-left c.args.text.now c.args.prologue.now p c.args.initiator.now c.args.responder.now a0 b0 all d d_too psks o
-          c.turns.a w.take_turn-else-is_responder.new.handshake c.turns.b c.turns.steps.items w.take_turn-else-is_responder.new.steps.items item.1 rest head
-          w.in_ok-take_turn-2.ensures in
-          subst (λ (z : NoiseHandshake). Both c.args.text.now p d d_too psks a0 b0 c.if-is_responder.a z c.if-is_responder.steps.items rest) (sym w.b-is)
-          (subst (λ (z : NoiseHandshake). Both c.args.text.now p d d_too psks a0 b0 z c.turns.b c.if-is_responder.steps.items rest) (sym w.a-is)
-          (subst (λ z. Both c.args.text.now p d d_too psks a0 b0 w.take_turn-else-is_responder.new.handshake c.turns.b z.items rest) (sym w.steps-is) next))
+            let head = subst (λ (z : Bool). Both c.args.text.now p d d_too psks a0 b0 c.turns.a c.turns.b c.turns.steps.items ((z, item.1) ∷ rest)) w.if-is_responder.false now in
+            let next = next-left c.args.text.now c.args.prologue.now p c.args.initiator.now c.args.responder.now a0 b0 all d d_too psks o
+            c.turns.a w.take_turn-else-is_responder.new.handshake c.turns.b c.turns.steps.items w.take_turn-else-is_responder.new.steps.items item.1 rest head
+            w.in_ok-take_turn-2.ensures in
+            subst (λ (z : NoiseHandshake). Both c.args.text.now p d d_too psks a0 b0 c.if-is_responder.a z c.if-is_responder.steps.items rest) (sym w.b-is)
+            (subst (λ (z : NoiseHandshake). Both c.args.text.now p d d_too psks a0 b0 z c.turns.b c.if-is_responder.steps.items rest) (sym w.a-is)
+            (subst (λ z. Both c.args.text.now p d d_too psks a0 b0 w.take_turn-else-is_responder.new.handshake c.turns.b z.items rest) (sym w.steps-is) next))
       ];
 }
 

@@ -1,4 +1,4 @@
-use Rattle.std.proofs.Common.{◌≤◌, ℕ, List, length, drop}
+use Rattle.std.proofs.Common.{ℕ, List, drop}
 use Rattle.noise_c.proofs.Common.{Plan}
 use Rattle.noise_c.specs.TwoRuns.{Dh}
 use Rattle.noise_c.proofs.Both.{Begins, Both}

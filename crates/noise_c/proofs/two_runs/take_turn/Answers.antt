@@ -1,6 +1,6 @@
-use Rattle.std.proofs.Common.{◌≡◌, ◌-◌, ◌∙◌, ℕ, List, inl, inr, length, length-drop, ap, sym, subst, refl, arith, rules}
+use Rattle.std.proofs.Common.{◌≡◌, ◌-◌, ◌∙◌, ℕ, List, inr, length, length-drop, ap, sym, subst, refl, arith, rules}
 use Rattle.std.specs.Prelude.{false, true, not, IfSome}
-use Rattle.noise_c.specs.RunSteps.{IsPassedAt, ReadsStep, Turned, WritesStep}
+use Rattle.noise_c.specs.RunSteps.{IsPassedAt, Turned, WritesStep}
 use Rattle.noise_c.specs.TwoRuns.{passed_by}
 use Rattle.noise_c.specs.declared.two_runs.Turn.{Turn}
 use Rattle.noise_c.specs.declared.two_runs.Step.{Step}

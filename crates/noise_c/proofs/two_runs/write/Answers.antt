@@ -3,7 +3,7 @@ use Rattle.noise_c.proofs.Common.{WasWritten}
 use Rattle.noise_c.proofs.Programs.{written-of}
 use Rattle.noise_c.proofs.Toying.{written-fits}
 use Rattle.noise_c.proofs.Sides.{taken-len, whole}
-use Rattle.noise_c.proofs.Both.{right-at-end, write-unchanged}
+use Rattle.noise_c.proofs.Both.{write-unchanged}
 use Rattle.noise_c.proofs.two_runs.write.Goals.{then-code-eq-OK+in_ok-message, else-code-eq-OK}
 use Rattle.noise_c.proofs.two_runs.write.Goals as goal
 
