@@ -4,7 +4,7 @@ pub mod AskingToRead
 pub mod AskingToWrite
 pub mod Four
 pub mod Refused
-mod Runs
+pub mod Runs
 pub mod Finished
 pub mod Stored
 pub mod Named
@@ -25,3 +25,6 @@ pub mod Transcribing
 pub mod Programs
 pub mod FinishedPrograms
 pub mod Toying
+pub mod Alike
+pub mod Sides
+pub mod Both

@@ -41,7 +41,7 @@ module _ (own : Own) (key x : List ℕ) where
   abbrev entry : TableEntry
   entry = record { own = own; remote = key; answer = x }
 
-  alone : dh_result_in (entry ∷ []) own key ≡ Some x
+  pub alone : dh_result_in (entry ∷ []) own key ≡ Some x
   alone = at (is_for own key entry) (and_from (same_own own own) (pointwise nat_eq key key) (own-itself own) (nat_list_eq_equiv.refl key)) where
     at : (b : Bool) → b ≡ true → option_map (λ (t : TableEntry). t.answer) (cond b (Some entry) None) ≡ Some x
     at true e = refl

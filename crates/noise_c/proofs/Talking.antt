@@ -83,7 +83,7 @@ front-cons m k ms ks e f = (f.0, cc)
 pub same-passed : (m k : Passed) → m.message ≡ k.message → m.payload ≡ k.payload → m ≡ k
 same-passed m k e f = search rules
 
-cons-parts : (m k : Passed) (ms ks : List Passed) → m ∷ ms ≡ k ∷ ks → (m ≡ k) × (ms ≡ ks)
+pub cons-parts : (m k : Passed) (ms ks : List Passed) → m ∷ ms ≡ k ∷ ks → (m ≡ k) × (ms ≡ ks)
 cons-parts m k ms ks e = search rules
 
 -- the one message that a party has written beyond the other

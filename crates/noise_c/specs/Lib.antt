@@ -17,3 +17,5 @@ pub mod FinishedPrograms
 pub mod Toys
 pub mod PatternInfo
 pub mod MessageLayouts
+pub mod TwoRuns
+pub mod RunSteps

@@ -26,4 +26,5 @@ mod texts;
 pub mod toy_streams;
 pub mod toys;
 pub mod two_programs;
+pub mod two_runs;
 mod version;

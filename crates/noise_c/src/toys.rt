@@ -27,7 +27,7 @@ const NO_KEY: NoiseKey = NoiseKey {
     bytes: [0; 32],
 };
 
-const NO_HANDSHAKE: NoiseHandshake = NoiseHandshake {
+pub(crate) const NO_HANDSHAKE: NoiseHandshake = NoiseHandshake {
     mark: 0,
     text: [0; 416],
     text_len: 0,
@@ -125,7 +125,7 @@ fn read(
 }
 
 // Memory for what a call reports.
-const NO_RESULT: NoiseResult = NoiseResult {
+pub(crate) const NO_RESULT: NoiseResult = NoiseResult {
     from: 0,
     len: 0,
     token: 0,

@@ -1,0 +1,330 @@
+-- One of two programs that run turn by turn: the calls that led to its struct, and the psks that it still hands in.
+use Rattle.std.proofs.Common.{◌≡◌, ◌⊎◌, ◌≤◌, ◌<◌, ◌+◌, inl, inr, ℕ, zero, suc, List, [], ◌∷◌, ◌++◌, length, take, drop, length-append, length-drop, true, false, refl, ap, sym, subst, ◌∙◌, arith}
+use Rattle.std.specs.Option.{option_map, option_or}
+use Rattle.std.proofs.lemmas.List.{append_assoc, take-append-drop}
+use Rattle.std.proofs.lemmas.List.Folds.{find-append}
+use Rattle.noise_c.proofs.Common.{take-append_seam, Bool, Option, Some, None, count_by, find, nat_lt, nat_tests, Plan, Own, Token, Party, HandshakeValue, Table, TableEntry, DhResults, AreAmong, dh_result_in, is_for, psks_of, tokens_at, party_with, pairs_in, handshake_from_c, table_in, text_from_c, IsGiven, IsPatternOf, IsUsable, KeepsParty, WasRead, WasWritten, NoiseHandshake}
+use Rattle.noise_names.specs.Tokens.{is_psk}
+use Rattle.noise_c.specs.HandshakeStructs.{ForParty, GoesOn, IsStarted, KeepsPsks, KeepsRest, SetsPsk, Supplies, held_psks, psks_due, psks_in}
+use Rattle.noise_c.specs.TwoPrograms.{Calls, IsFront, Passed, Secrets}
+use Rattle.noise_c.specs.TwoPrograms.Calls.{wrote, took, answered, set_psk}
+use Rattle.noise_c.specs.declared.structs.NoiseSetup.{NoiseSetup}
+use Rattle.noise_c.proofs.Runs.{alone, only-one}
+
+-- ---- DH results
+
+-- each entry is the DH result of these keys
+abbrev pub AllRight : DhResults → List TableEntry → Type 0
+AllRight all [] = Unit {0}
+AllRight all (e ∷ es) = (all e.own e.remote ≡ Some e.answer) × AllRight all es
+
+pub right-more : (all : DhResults) (es : List TableEntry) (e : TableEntry) → AllRight all es → all e.own e.remote ≡ Some e.answer → AllRight all (es ++ e ∷ [])
+right-more all [] e r is = (is, tt)
+right-more all (x ∷ es) e r is = (r.0, right-more all es e r.1 is)
+
+right-drop : (all : DhResults) (es : List TableEntry) → AllRight all es → AllRight all (drop 1 es)
+right-drop all [] r = tt
+right-drop all (x ∷ es) r = r.1
+
+-- the first entry for a key, or one of the others
+either-first : (e : TableEntry) (es : List TableEntry) (own : Own) (key : List ℕ)
+    → dh_result_in (e ∷ es) own key ≡ option_or (dh_result_in (e ∷ []) own key) (dh_result_in es own key)
+either-first e es own key =
+    ap (option_map (λ (t : TableEntry). t.answer)) (find-append (is_for own key) (e ∷ []) es)
+    ∙ map-or (find (is_for own key) (e ∷ [])) (find (is_for own key) es) where
+      map-or : (a b : Option TableEntry)
+          → option_map (λ (t : TableEntry). t.answer) (option_or a b)
+          ≡ option_or (option_map (λ (t : TableEntry). t.answer) a) (option_map (λ (t : TableEntry). t.answer) b)
+      map-or None b = refl
+      map-or (Some t) b = refl
+
+first-among : (all : DhResults) (e : TableEntry) (es : List TableEntry) → all e.own e.remote ≡ Some e.answer → AreAmong (dh_result_in es) all
+    → AreAmong (dh_result_in (e ∷ es)) all
+first-among all e es is others o k y f = which (dh_result_in (e ∷ []) o k) refl (sym (either-first e es o k) ∙ f) where
+  which : (b : Option (List ℕ)) → dh_result_in (e ∷ []) o k ≡ b → option_or (dh_result_in (e ∷ []) o k) (dh_result_in es o k) ≡ Some y → all o k ≡ Some y
+  which None t g = others o k y (sym (ap (λ (z : Option (List ℕ)). option_or z (dh_result_in es o k)) t) ∙ g)
+  which (Some z) t g =
+      let same : Some z ≡ Some y = sym (ap (λ (w : Option (List ℕ)). option_or w (dh_result_in es o k)) t) ∙ g in
+      let h = only-one e.own e.remote e.answer o k y (t ∙ same) in
+      ap (λ (w : Own). all w k) h.0 ∙ ap (λ (w : List ℕ). all e.own w) h.1 ∙ is ∙ ap Some (sym h.2)
+
+none-there : {A : Type 0} (y : List ℕ) → ◌≡◌ {A = Option (List ℕ)} None (Some y) → A
+none-there y e = cc
+
+pub among-all : (all : DhResults) (es : List TableEntry) → AllRight all es → AreAmong (dh_result_in es) all
+among-all all [] r = λ o k y e. none-there y e
+among-all all (e ∷ es) r = first-among all e es r.0 (among-all all es r.1)
+
+-- ---- psks
+
+-- a psk is held for each psk token to come
+abbrev pub IsFull : Plan → NoiseHandshake → Type 0
+IsFull p k = psks_of (drop k.passed p.messages) ≤ length (held_psks k)
+
+-- Messages have used the first of all psks, the struct holds those behind them, and those that are still handed in
+-- follow, unless no psk token lacks one.
+pub record PsksOf (p : Plan) (all : List (List ℕ)) (k : NoiseHandshake) (due : List (List ℕ)) : Type 0 where
+  pub used : List (List ℕ)
+  pub count : length used ≡ psks_of (take k.passed p.messages)
+  pub tail : List (List ℕ)
+  pub psks_are : all ≡ used ++ held_psks k ++ tail
+  pub next : IsFull p k ⊎ IsFront due tail
+
+-- a list with others behind it, at its length
+pub whole : (n : ℕ) (xs ys : List ℕ) → n ≡ length xs → take n (xs ++ ys) ≡ xs
+whole n xs ys e = ap (λ (i : ℕ). take i (xs ++ ys)) e ∙ take-append_seam xs ys
+
+pub taken-len : {X : Type 0} (n : ℕ) (xs : List X) → n ≤ length xs → length (take n xs) ≡ n
+taken-len n xs h =
+    let whole : length xs ≡ length (take n xs) + length (drop n xs) = ap length (sym (take-append-drop n xs)) ∙ length-append (take n xs) (drop n xs) in
+    omega (arith, whole, length-drop n xs, h)
+
+taken-more : (ms : List (List Token)) (i : ℕ) → psks_of (take (suc i) ms) ≡ psks_of (take i ms) + count_by is_psk (tokens_at ms i)
+taken-more [] zero = refl
+taken-more [] (suc i) = refl
+taken-more (ts ∷ ms) zero = omega arith
+taken-more (ts ∷ ms) (suc i) = omega (arith, taken-more ms i)
+
+left-less : (ms : List (List Token)) (i : ℕ) → psks_of (drop i ms) ≡ count_by is_psk (tokens_at ms i) + psks_of (drop (suc i) ms)
+left-less [] zero = refl
+left-less [] (suc i) = refl
+left-less (ts ∷ ms) zero = refl
+left-less (ts ∷ ms) (suc i) = left-less ms i
+
+pub psks-passed : (p : Plan) (all : List (List ℕ)) (k next : NoiseHandshake) (due : List (List ℕ)) → PsksOf p all k due → IsPatternOf (text_from_c k) p
+    → KeepsPsks k next → next.passed ≡ k.passed + 1 → PsksOf p all next due
+psks-passed p all k next due w named keeps more =
+    let n : ℕ = psks_due p k in
+    let held : List (List ℕ) = held_psks k in
+    let there = (keeps p named).0 in
+    let after : held_psks next ≡ drop n held = (keeps p named).1 in
+    let one : next.passed ≡ suc k.passed = more ∙ omega arith in
+    record {
+      used = w.used ++ take n held;
+      count = length-append w.used (take n held)
+          ∙ ap (λ (i : ℕ). length w.used + i) (taken-len n held there)
+          ∙ ap (λ (i : ℕ). i + n) w.count
+          ∙ sym (taken-more p.messages k.passed)
+          ∙ ap (λ (i : ℕ). psks_of (take i p.messages)) (sym one);
+      tail = w.tail;
+      psks_are = w.psks_are
+          ∙ ap (λ (z : List (List ℕ)). (w.used ++ z) ++ w.tail) (sym (take-append-drop n held))
+          ∙ ap (λ (z : List (List ℕ)). z ++ w.tail) (sym (append_assoc w.used (take n held) (drop n held)))
+          ∙ ap (λ (z : List (List ℕ)). (w.used ++ take n held) ++ z ++ w.tail) (sym after);
+      next = elim w.next [
+        | inl full ↦ inl (
+            let count : length (held_psks next) ≡ length (drop n held) = ap length after in
+            let left : length held ≡ length (take n held) + length (drop n held) = ap length (sym (take-append-drop n held)) ∙ length-append (take n held) (drop n held) in
+            subst (λ (i : ℕ). psks_of (drop i p.messages) ≤ length (held_psks next)) (sym one)
+            (omega (arith, full, left-less p.messages k.passed, count, left, taken-len n held there)))
+        | inr front ↦ inr front
+      ];
+    }
+
+-- a psk that is handed in is the next one, or no psk token lacks one
+pub psks-set : (p : Plan) (all : List (List ℕ)) (k next : NoiseHandshake) (psk : List ℕ) (due : List (List ℕ)) → PsksOf p all k (psk ∷ due)
+    → k.psk_count < psks_of (drop k.passed p.messages) → length (held_psks k) ≡ k.psk_count → IsGiven k next psk
+    → (later : List (List ℕ)) × (w : PsksOf p all next due) × (all ≡ w.used ++ held_psks k ++ psk ∷ later) × (length w.used ≡ psks_of (take k.passed p.messages))
+psks-set p all k next psk due w low count given =
+    elim w.next [
+      | inl full ↦ absurd (omega (arith, full, low, count))
+      | inr front ↦
+          let later : List (List ℕ) = due ++ front.0 in
+          let held : held_psks next ≡ held_psks k ++ psk ∷ [] = ap (λ (z : HandshakeValue Table). z.psks) (given.handshake p) in
+          let same : next.passed ≡ k.passed = ap (λ (z : HandshakeValue Table). z.passed) (given.handshake p) in
+          let are : all ≡ w.used ++ held_psks k ++ psk ∷ later = w.psks_are ∙ ap (λ (z : List (List ℕ)). w.used ++ held_psks k ++ z) front.1 in (
+            later,
+            record {
+              used = w.used;
+              count = w.count ∙ ap (λ (i : ℕ). psks_of (take i p.messages)) (sym same);
+              tail = later;
+              psks_are = are ∙ sym (append_assoc (w.used ++ held_psks k) (psk ∷ []) later)
+                  ∙ ap (λ (z : List (List ℕ)). z ++ later) (append_assoc w.used (held_psks k) (psk ∷ []))
+                  ∙ ap (λ (z : List (List ℕ)). (w.used ++ z) ++ later) (sym held);
+              next = inr (front.0, refl);
+            },
+            are,
+            w.count,
+          )
+    ]
+
+pub psks-full : (p : Plan) (all : List (List ℕ)) (k : NoiseHandshake) (psk : List ℕ) (due : List (List ℕ)) → PsksOf p all k (psk ∷ due)
+    → (k.psk_count < psks_of (drop k.passed p.messages) → ⊥) → length (held_psks k) ≡ k.psk_count → PsksOf p all k due
+psks-full p all k psk due w enough count = record {
+  used = w.used;
+  count = w.count;
+  tail = w.tail;
+  psks_are = w.psks_are;
+  next = inl (omega (arith, enough, count));
+}
+
+-- ---- a program
+
+pub record Side (text : List ℕ) (p : Plan) (s : Secrets) (begun k : NoiseHandshake) (ws rs : List Passed) (due : List (List ℕ)) : Type 0 where
+  pub name : text_from_c k ≡ text
+  pub usable : IsUsable k
+  pub leads : (us xs : List Passed) (last : NoiseHandshake) → Calls p s k us xs last → Calls p s begun (ws ++ us) (rs ++ xs) last
+  pub entries : AllRight s.dh_results (table_in k).entries
+  pub psks : PsksOf p s.psks k due
+
+-- the party whose psks are those that the struct holds
+own-party : (p : Plan) (k : NoiseHandshake) → IsPatternOf (text_from_c k) p → KeepsParty k p (party_with pairs_in [] (handshake_from_c p k))
+own-party p k named = record { pattern = named; later = []; matches = refl }
+
+named-in : (text : List ℕ) (p : Plan) (s : Secrets) (begun k : NoiseHandshake) (ws rs : List Passed) (due : List (List ℕ)) → Side text p s begun k ws rs due
+    → IsPatternOf text p → IsPatternOf (text_from_c k) p
+named-in text p s begun k ws rs due st named = subst (λ (z : List ℕ). IsPatternOf z p) (sym st.name) named
+
+module _ (text : List ℕ) (p : Plan) (s : Secrets) (begun k next : NoiseHandshake) (ws rs : List Passed) (due : List (List ℕ)) (st : Side text p s begun k ws rs due)
+    (named : IsPatternOf text p) where
+  here : IsPatternOf (text_from_c k) p
+  here = named-in text p s begun k ws rs due st named
+
+  abbrev v0 : Party
+  v0 = party_with pairs_in [] (handshake_from_c p k)
+
+  pub side-wrote : (m : Passed) → IsUsable next → ForParty k (λ q v. WasWritten q v m.payload m.message next) → KeepsPsks k next → KeepsRest k next
+      → Side text p s begun next (ws ++ m ∷ []) rs due
+  side-wrote m usable written keeps rest = record {
+    name = ap text_from_c rest ∙ st.name;
+    usable = usable;
+    leads = λ us xs last calls.
+        subst (λ (z : List Passed). Calls p s begun z (rs ++ xs) last) (sym (append_assoc ws (m ∷ []) us))
+        (st.leads (m ∷ us) xs last (wrote k next last m us xs usable written calls));
+    entries = subst (λ (t : Table). AllRight s.dh_results t.entries) (sym (ap table_in rest)) st.entries;
+    psks = psks-passed p s.psks k next due st.psks here keeps (ap (λ (z : Party). z.passed) (written p v0 (own-party p k here)).keeps.matches);
+  }
+
+  pub side-took : (m : Passed) → IsUsable next → ForParty k (λ q v. WasRead q v m.message m.payload next) → KeepsPsks k next → KeepsRest k next
+      → Side text p s begun next ws (rs ++ m ∷ []) due
+  side-took m usable read keeps rest = record {
+    name = ap text_from_c rest ∙ st.name;
+    usable = usable;
+    leads = λ us xs last calls.
+        subst (λ (z : List Passed). Calls p s begun (ws ++ us) z last) (sym (append_assoc rs (m ∷ []) xs))
+        (st.leads us (m ∷ xs) last (took k next last m us xs usable read calls));
+    entries = subst (λ (t : Table). AllRight s.dh_results t.entries) (sym (ap table_in rest)) st.entries;
+    psks = psks-passed p s.psks k next due st.psks here keeps (ap (λ (z : Party). z.passed) (read p v0 (own-party p k here)).keeps.matches);
+  }
+
+  -- a DH result
+  pub side-answered : (e : TableEntry) (code : ℕ) → Supplies k next e code → s.dh_results e.own e.remote ≡ Some e.answer → Side text p s begun next ws rs due
+  side-answered e code supplies is =
+      let ok : code ≡ 0 = elim supplies.codes [
+        | inl ok ↦ ok
+        | inr other ↦ absurd (supplies.other.0 other (st.usable.mark, st.usable.answers))
+      ] in
+      let now : Supplies k next e 0 = subst (λ (n : ℕ). Supplies k next e n) ok supplies in
+      let after : (text_from_c next ≡ text_from_c k) × AllRight s.dh_results (table_in next).entries × (held_psks next ≡ held_psks k) × (next.passed ≡ k.passed) =
+      which now (nat_lt k.answer_count 8) refl in
+      record {
+        name = after.0 ∙ st.name;
+        usable = now.stays st.usable;
+        leads = λ us xs last calls.
+            st.leads us xs last (answered k next last e us xs now (λ _. among-all s.dh_results (table_in next).entries after.1) calls);
+        entries = after.1;
+        psks = record {
+          used = st.psks.used;
+          count = st.psks.count ∙ ap (λ (i : ℕ). psks_of (take i p.messages)) (sym after.3);
+          tail = st.psks.tail;
+          psks_are = st.psks.psks_are ∙ ap (λ (z : List (List ℕ)). st.psks.used ++ z ++ st.psks.tail) (sym after.2);
+          next = elim st.psks.next [
+            | inl full ↦ inl (subst (λ (i : ℕ). psks_of (drop i p.messages) ≤ length (held_psks next)) (sym after.3)
+                (subst (λ (z : List (List ℕ)). psks_of (drop k.passed p.messages) ≤ length z) (sym after.2) full))
+            | inr front ↦ inr front
+          ];
+        };
+      } where
+        which : Supplies k next e 0 → (b : Bool) → nat_lt k.answer_count 8 ≡ b
+            → (text_from_c next ≡ text_from_c k) × AllRight s.dh_results (table_in next).entries × (held_psks next ≡ held_psks k) × (next.passed ≡ k.passed)
+        which now true less =
+            let added = now.added refl (grind (arith, nat_tests, less)) in
+            let h = added.handshake p in (
+              added.text,
+              subst (λ (t : Table). AllRight s.dh_results t.entries) (sym (ap (λ (z : HandshakeValue Table). z.keys) h)) (right-more s.dh_results (table_in k).entries e st.entries is),
+              ap (λ (z : HandshakeValue Table). z.psks) h,
+              ap (λ (z : HandshakeValue Table). z.passed) h,
+            )
+        which now false more =
+            let few = st.usable.answers in
+            let added = now.replaced refl (grind (arith, nat_tests, more, few)) in
+            let h = added.handshake p in (
+              added.text,
+              subst (λ (t : Table). AllRight s.dh_results t.entries) (sym (ap (λ (z : HandshakeValue Table). z.keys) h))
+                  (right-more s.dh_results (drop 1 (table_in k).entries) e (right-drop s.dh_results (table_in k).entries st.entries) is),
+              ap (λ (z : HandshakeValue Table). z.psks) h,
+              ap (λ (z : HandshakeValue Table). z.passed) h,
+            )
+
+  -- a psk
+  pub side-set : (psk : List ℕ) (rest : List (List ℕ)) (code : ℕ) → due ≡ psk ∷ rest → (one : (q : Plan) → IsPatternOf text q → q ≡ p) → length (held_psks k) ≡ k.psk_count
+      → SetsPsk k next psk code → (code ≡ 0 → GoesOn k next psk) → (IsUsable k → IsUsable next)
+      → Side text p s begun next ws rs rest
+  side-set psk rest code first one count sets goes stays = elim sets.codes [
+    | inl ok ↦
+        let given = sets.given ok in
+        let low : k.psk_count < psks_of (drop k.passed p.messages) =
+        subst (λ (q : Plan). k.psk_count < psks_of (drop k.passed q.messages)) same ((sets.lacks st.usable).0 ok) in
+        let put = psks-set p s.psks k next psk rest w low count given in
+        record {
+          name = given.text ∙ st.name;
+          usable = stays st.usable;
+          leads = λ us xs last calls.
+              st.leads us xs last (set_psk k next last psk us xs (goes ok) stays (record {
+                used = put.1.used;
+                later = put.0;
+                count = put.3;
+                psks_are = put.2;
+              }) calls);
+          entries = subst (λ (t : Table). AllRight s.dh_results t.entries) (sym (ap (λ (z : HandshakeValue Table). z.keys) (given.handshake p))) st.entries;
+          psks = put.1;
+        }
+    | inr (inl broken) ↦ absurd (sets.unusable.0 broken st.usable)
+    | inr (inr full) ↦
+        let none : k.psk_count < psks_of (drop k.passed p.messages) → ⊥ =
+        λ low. not-ok full ((sets.lacks st.usable).1 (subst (λ (q : Plan). k.psk_count < psks_of (drop k.passed q.messages)) (sym same) low)) in
+        subst (λ (z : NoiseHandshake). Side text p s begun z ws rs rest) (sym (sets.unchanged (omega (arith, full)))) (record {
+          name = st.name;
+          usable = st.usable;
+          leads = st.leads;
+          entries = st.entries;
+          psks = psks-full p s.psks k psk rest w none count;
+        })
+  ] where
+    w : PsksOf p s.psks k (psk ∷ rest)
+    w = subst (λ (z : List (List ℕ)). PsksOf p s.psks k z) first st.psks
+
+    same : st.usable.pattern ≡ p
+    same = one st.usable.pattern (subst (λ (z : List ℕ). IsPatternOf z st.usable.pattern) st.name st.usable.named)
+
+    not-ok : code ≡ 8 → code ≡ 0 → ⊥
+    not-ok e f = omega (arith, e, f)
+
+-- ---- the start
+
+none-handed : (all : DhResults) (es : List TableEntry) → ((own : Own) (key : List ℕ) → dh_result_in es own key ≡ None) → AllRight all es
+none-handed all [] lacks = tt
+none-handed all (e ∷ es) lacks =
+    absurd (some-none e.answer (sym (ap (λ (z : Option (List ℕ)). option_or z (dh_result_in es e.own e.remote)) (alone e.own e.remote e.answer))
+    ∙ sym (either-first e es e.own e.remote) ∙ lacks e.own e.remote)) where
+      some-none : (x : List ℕ) → ◌≡◌ {A = Option (List ℕ)} (Some x) None → ⊥
+      some-none x e = cc
+
+pub side-start : (text prologue : List ℕ) (p : Plan) (s : Secrets) (setup : NoiseSetup) (k : NoiseHandshake) (due : List (List ℕ)) → IsPatternOf text p
+    → IsStarted text prologue setup k → held_psks k ≡ psks_in setup → IsFront (psks_in setup ++ due) s.psks → Side text p s k k [] [] due
+side-start text prologue p s setup k due named started held front =
+    let v = started.begun_is p named [] in
+    let zero-passed : k.passed ≡ 0 = ap (λ (z : Party). z.passed) v.matches in
+    record {
+      name = started.text_is;
+      usable = started.usable;
+      leads = λ us xs last calls. calls;
+      entries = none-handed s.dh_results (table_in k).entries (λ own key. ap (λ (z : Party). z.agree own key) v.matches);
+      psks = record {
+        used = [];
+        count = ap (λ (i : ℕ). psks_of (take i p.messages)) {x = 0} {y = k.passed} (sym zero-passed);
+        tail = due ++ front.0;
+        psks_are = front.1 ∙ append_assoc (psks_in setup) due front.0 ∙ ap (λ (z : List (List ℕ)). z ++ (due ++ front.0)) (sym held);
+        next = inr (front.0, refl);
+      };
+    }
