@@ -215,7 +215,8 @@ static void print_failures(int accepted) {
                 if (is_head) count++;
                 else print_failure(it);
             }
-        if (is_head && count) printf("%s: %zu\n", accepted ? "accepted, and has to be refused" : "other failures", count);
+        const char *head = accepted ? "accepted, and has to be refused" : "other failures";
+        if (is_head && count) printf("%s: %zu\n", head, count);
     }
 }
 
