@@ -12,6 +12,7 @@ from steps import data_of, event
 
 __all__ = ["Command", "Fault", "has_vector", "vector_of"]
 
+
 class Told(Group):
     """A group that the suite tells, in place of one whose conversation the command says."""
 
