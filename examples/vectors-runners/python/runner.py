@@ -254,12 +254,12 @@ def chosen(suite: dict, only: str) -> list[tuple[dict, dict]]:
 
 
 def rows_of(tests: list[tuple[dict, dict]], kind: Any) -> list[Row]:
-    """Runs the tests, and says on the standard error how far it is."""
+    """Runs the tests, and says on a terminal how far it is."""
     rows: list[Row] = []
     said = time.monotonic()
     for group, test in tests:
         rows.append((test, *outcome(group, test, kind)))
-        if time.monotonic() - said > BETWEEN:
+        if time.monotonic() - said > BETWEEN and sys.stderr.isatty():
             said = time.monotonic()
             failed = sum(what == "failed" for _, what, _ in rows)
             print(f"runner: {len(rows)} of {len(tests)} tests were run, {failed} failed", file=sys.stderr)
