@@ -95,6 +95,13 @@ def in_order(lines: list[str], tests: list[tuple[str, dict]]) -> list[str]:
     return faults
 
 
+def is_wrong(test: dict) -> bool:
+    """Whether a test of the wrong suite can't pass: it has a wrong hash or frame, or a right message to be refused."""
+    steps = test.get("steps", [])
+    wrong_steps = any(it["do"] == "hash" or it["do"] == "write" and it.get("refused") == "tag" for it in steps)
+    return test["result"] == "valid" and (wrong_steps or test.get("frame", "").startswith("ff"))
+
+
 def is_chosen(pattern: str, test: dict, words: list[str]) -> bool:
     return not words or any(it in {str(test["tcId"]), pattern, *test["flags"]} for it in words)
 
@@ -124,6 +131,11 @@ def main(words: list[str]) -> int:
         f"JUnit's test is {it.get('name')}, in place of {name}"
         for it, name in zip(cases, wanted)
         if it.get("name") != name
+    ]
+    faults += [
+        f"test {test['tcId']} passes, which is wrong"
+        for it, (_, test) in zip(cases, tests)
+        if is_wrong(test) and it.find("failure") is None and it.find("skipped") is None
     ]
     faults += [f"JUnit has {len(cases)} tests"] if len(cases) != len(tests) else []
     print(

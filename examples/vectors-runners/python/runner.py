@@ -237,15 +237,13 @@ def junit_report(name: str, rows: list[Row]) -> str:
 
 def chosen(suite: dict, only: str) -> list[tuple[dict, dict]]:
     """The tests of the suite, each with its group: of those that `only` names, or all."""
-    tests = [
-        (group, test | {"pattern": pattern_name(group)}) for group in suite["testGroups"] for test in group["tests"]
-    ]
+    tests = [(group, test) for group in suite["testGroups"] for test in group["tests"]]
     if not only:
         return tests
     wanted, found = set(only.split(",")), set()
     some = []
     for group, test in tests:
-        if has := wanted & {str(test["tcId"]), test["pattern"], *test["flags"]}:
+        if has := wanted & {str(test["tcId"]), pattern_name(group), *test["flags"]}:
             some.append((group, test))
             found |= has
     if wanted != found:
@@ -258,7 +256,7 @@ def rows_of(tests: list[tuple[dict, dict]], kind: Any) -> list[Row]:
     rows: list[Row] = []
     said = time.monotonic()
     for group, test in tests:
-        rows.append((test, *outcome(group, test, kind)))
+        rows.append((test | {"pattern": pattern_name(group)}, *outcome(group, test, kind)))
         if time.monotonic() - said > BETWEEN and sys.stderr.isatty():
             said = time.monotonic()
             failed = sum(what == "failed" for _, what, _ in rows)
