@@ -21,11 +21,12 @@ README_MODULE = """package readme
 
 import (
 	"io"
+	"os"
 
 	"example.org/yulimosar/noise"
 )
 
-func listing(key *noise.KeyPair, other noise.PublicKey) ([]byte, error) {
+func listing() ([]byte, error) {
 %s	return text, err
 }
 """

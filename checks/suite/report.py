@@ -1,9 +1,10 @@
 """Compares what a runner has printed, and its JUnit file, with the suite that it has run: the reports of all languages
 have the same form.
 
-    report.py SUITE.json REPORT JUNIT.xml    compares
-    report.py --wrong SUITE.json EVERY       prints each so-many-th group, and the frames, with a wrong hash or frame:
-                                             so that every runner has tests that fail
+    report.py SUITE.json REPORT JUNIT.xml [WORDS]    compares; WORDS are those of --only
+    report.py --wrong SUITE.json EVERY               prints each so-many-th group, and the frames, with a wrong hash or
+                                                     frame, and a right step of each third that has to be refused: so
+                                                     that every runner has tests that fail
 """
 
 from __future__ import annotations
@@ -16,6 +17,7 @@ from collections import Counter
 from pathlib import Path
 from typing import Any
 
+ACCEPTED, OTHERS = "accepted, and has to be refused", "other failures"
 HEAD = f"{'flag':28} {'kind':7} {'passed':>7} {'failed':>7} {'not run':>7}"
 
 
@@ -23,9 +25,11 @@ def wrong(suite: dict[str, Any], every: int) -> dict[str, Any]:
     """A part of the suite in which something is wrong."""
     last = suite["testGroups"][-1]
     groups = [*suite["testGroups"][:-1:every], last]
-    for group in groups:
+    for number, group in enumerate(groups):
         if "hash" in group:
             group["hash"] = "00" * 32
+        if number % 3 == 0 and "hash" in group:
+            group["tests"][0]["steps"][0] |= {"refused": "tag", "at": "payload"}
     valid = next(test for test in last["tests"] if test["result"] == "valid")
     valid["frame"] = "ff" + valid["frame"][2:]
     return suite | {"testGroups": groups}
@@ -69,16 +73,51 @@ def listed(lines: list[str], tests: list[tuple[str, dict]]) -> tuple[list[str], 
     return faults, failed
 
 
+def in_order(lines: list[str], tests: list[tuple[str, dict]]) -> list[str]:
+    """What is wrong with the order of the tests that failed: those first that accept what has to be refused, each kind
+    by the first flag, after a line with their number; and with what is said of a wrong hash."""
+    flags = list(dict.fromkeys(flag for _, test in tests for flag in test["flags"]))
+    place = {f"failed {test['tcId']}": (flags.index(test["flags"][0]), at) for at, (_, test) in enumerate(tests)}
+    failed = [it for it in lines if it.startswith("failed ")]
+    wanted = []
+    for head in ACCEPTED, OTHERS:
+        some = [it for it in failed if (" and has to be refused: " in it) == (head == ACCEPTED)]
+        some.sort(key=lambda it: place[" ".join(it.split(" ")[:2])])
+        wanted += [f"{head}: {len(some)}", *some] if some else []
+    shown = [it for it in lines if it.startswith(("failed ", ACCEPTED, OTHERS))]
+    faults = [] if shown == wanted else ["the tests that failed aren't in order, or their numbers aren't there"]
+    faults += [
+        f"not the hash, and what it is to be: {it}"
+        for it in failed
+        if ": hash: " in it and not re.search(r": step \d+: hash: [0-9a-f]{64} in place of 0{64}$", it)
+    ]
+    faults += [f"not where: {it}" for it in failed if it in wanted and re.search("refused: tag(?! at [a-z]+$)", it)]
+    return faults
+
+
+def is_wrong(test: dict) -> bool:
+    """Whether a test of the wrong suite can't pass: it has a wrong hash or frame, or a right message to be refused."""
+    steps = test.get("steps", [])
+    wrong_steps = any(it["do"] == "hash" or it["do"] == "write" and it.get("refused") == "tag" for it in steps)
+    return test["result"] == "valid" and (wrong_steps or test.get("frame", "").startswith("ff"))
+
+
+def is_chosen(pattern: str, test: dict, words: list[str]) -> bool:
+    return not words or any(it in {str(test["tcId"]), pattern, *test["flags"]} for it in words)
+
+
 def main(words: list[str]) -> int:
     suite = json.loads(Path(words[-2] if words[0] == "--wrong" else words[0]).read_text("ascii"))
     if words[0] == "--wrong":
         json.dump(wrong(suite, int(words[-1])), sys.stdout)
         return 0
     lines = Path(words[1]).read_text("utf-8").splitlines()
+    only = words[3].split(",") if len(words) > 3 else []
     tests = [(pattern_of(group), test) for group in suite["testGroups"] for test in group["tests"]]
+    tests = [(pattern, test) for pattern, test in tests if is_chosen(pattern, test, only)]
     faults, counted = table(lines, tests, suite["notes"])
     more, named = listed(lines, tests)
-    faults += more
+    faults += more + in_order(lines, tests)
     whole, ended = named.pop("all", 0), re.fullmatch(r"(\d+) passed, (\d+) failed, (\d+) not run", lines[-1])
     if counted != named and not faults:
         faults.append(
@@ -92,6 +131,11 @@ def main(words: list[str]) -> int:
         f"JUnit's test is {it.get('name')}, in place of {name}"
         for it, name in zip(cases, wanted)
         if it.get("name") != name
+    ]
+    faults += [
+        f"test {test['tcId']} passes, which is wrong"
+        for it, (_, test) in zip(cases, tests)
+        if is_wrong(test) and it.find("failure") is None and it.find("skipped") is None
     ]
     faults += [f"JUnit has {len(cases)} tests"] if len(cases) != len(tests) else []
     print(

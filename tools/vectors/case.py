@@ -1,142 +1,141 @@
 #!/usr/bin/env python3
-"""Prints a test of the suite as a vector file, which `noise test`, `explain`, `trace` and `compare` read; or writes all
-tests of a pattern into a folder.
+"""Prints a test of the suite, by its number: its set-up and its steps, with all bytes, and what each of them is.
 
-    case.py PROGRAM NUMBER [STEP MESSAGE]
-    case.py PROGRAM PATTERN FOLDER
+    case.py NUMBER
+    case.py NUMBER STEP MESSAGE              where your MESSAGE differs
+    case.py PROGRAM NUMBER [STEP MESSAGE]    the test as a vector file
+    case.py PROGRAM PATTERN FOLDER           all tests of a pattern, as vector files
 
-PROGRAM is the command `noise`, and NUMBER the test's. The file has what the tested party writes and gets, the public
-keys and DH results, and the right output. MESSAGE, hex digits, is what your implementation wrote in the step STEP, from
-0: it takes the place of the right one, and `noise test` says where the two differ. PATTERN is a pattern's name with its
-psk indices, as XXpsk3: of each test of its groups NUMBER.vector is written into FOLDER. A test with other nonces, or
-with bytes that no frame can carry, has no vector file.
+MESSAGE, hex digits, is what your implementation wrote in the step STEP. --suite FILE is another suite than
+25519_ChaChaPoly_SHA256.
+
+PROGRAM is the command `noise`, whose `test`, `explain`, `trace` and `compare` read vector files. A file has what the
+tested party writes and gets, the public keys and DH results, and the right output; or your MESSAGE in the place of the
+right one. PATTERN is a pattern's name with its psk indices, as XXpsk3: of each test of its groups NUMBER.vector is
+written into FOLDER. A test with other nonces, or with bytes that no frame can carry, has no vector file.
 """
 
 from __future__ import annotations
 
+import argparse
 import json
-import re
+import shutil
 import sys
 from pathlib import Path
 from typing import Any
 
-from command import Command
-from group import Group, Message
-from patterns import ROLES, protocol_of
-from steps import data_of, event
+import case_text
 
 SUITE = Path(__file__).resolve().parent.parent.parent / "vectors" / "25519_ChaChaPoly_SHA256.json"
 
 
-class Told(Group):
-    """A group that the suite tells, in place of one whose conversation the command says."""
-
-    def converse(self) -> None:
-        pass
+class Wrong(Exception):
+    """What a word of the command line names isn't there."""
 
 
-def group_of(command: Command, told: dict[str, Any]) -> Group:
-    section = told["protocol"].split("_")[1]
-    protocol = protocol_of("\n".join([f"{section}:", *told["pattern"]]), "")
-    keys = {role: {it: bytes.fromhex(told[role][it]) for it in "es" if it in told[role]} for role in ROLES}
-    psks = [bytes.fromhex(it) for it in told["psks"]]
-    group = Told(
-        command, "", protocol, [], data_of(told["prologue"]), interval=told.get("interval", 0), psks=psks, keys=keys
-    )
-    for it in told["messages"]:
-        data = b"" if isinstance(it["message"], dict) else bytes.fromhex(it["message"])
-        group.messages.append(Message(it["from"], data_of(it["payload"]), data))
-    for role in ROLES:
-        for letter in protocol.own(role) - keys[role].keys():  # a public key that nobody has the private one of
-            group.bad[role, letter] = public_in(told, role, letter)
-            keys[role][letter] = bytes(32)
-    return group
+def groups_of(path: Path) -> list[dict[str, Any]]:
+    try:
+        return json.loads(path.read_text("ascii"))["testGroups"]
+    except (OSError, ValueError, KeyError, TypeError) as error:
+        raise Wrong(f"{path} is no suite: {error!r}") from None
 
 
-def public_in(told: dict[str, Any], role: str, letter: str) -> bytes:
-    """A public key whose comment tells it: that of a test of keys that are no right ones."""
-    found = re.search(f"the {role}'s {letter} is ([0-9a-f]{{64}})", told["tests"][0]["comment"])
-    return bytes.fromhex(found[1]) if found else bytes(32)
+def found(groups: list[dict[str, Any]], number: str) -> tuple[dict[str, Any], dict[str, Any]]:
+    """The test with a number, and its group."""
+    for group in groups:
+        for test in group["tests"]:
+            if str(test["tcId"]) == number:
+                return group, test
+    raise Wrong(f"there is no test {number}")
 
 
-def met(group: Group, steps: list[dict]) -> list[bytes]:
-    """What a changed message has in the place of keys."""
-    changed = [it for it in steps if it["do"] == "read" and it.keys() & {"bytes", "xor", "append"}]
-    data = [bytes.fromhex(event(group, "", it).split(" ")[2])[2:] for it in changed]
-    return [it[at : at + 32] for it in data for at in (0, 32) if len(it) >= at + 32]
+def written(test: dict[str, Any], words: list[str]) -> tuple[int, bytes]:
+    """The number of a step that writes, and the message that was written there."""
+    steps, number = test.get("steps", []), test["tcId"]
+    if not words[0].isdecimal() or int(words[0]) >= len(steps):
+        raise Wrong(f"test {number} has no step {words[0]}: it has {len(steps)}, from 0")
+    step = steps[int(words[0])]
+    if step["do"] != "write" or "refused" in step:
+        raise Wrong(f"in step {words[0]} test {number} writes nothing that could be compared")
+    try:
+        return int(words[0]), bytes.fromhex(words[1])
+    except ValueError:
+        raise Wrong(f"MESSAGE isn't hex digits: {words[1][:40]}") from None
 
 
-def vector_of(command: Command, told: dict[str, Any], test: dict[str, Any], yours: list[str]) -> str:
-    group, role = group_of(command, told), test["role"]
-    if role == "both":
-        events = [f"say {it.sender} {it.payload.hex() or '-'} -" for it in group.messages]
-    else:
-        events = [it for it in (event(group, role, step) for step in test["steps"]) if it]
-    keys = {} if role == "both" else {role: met(group, test["steps"])}
-    head = group.head(group.setup, keys).replace("vector 2", "vector 1", 1)
-    lines = command.run("convert", head + "".join(f"{it}\n" for it in events))
-    if yours:
-        step, message = int(yours[0]), yours[1]
-        count = sum(it["do"] == "write" and "refused" not in it for it in test["steps"][:step])
-        at = [number for number, line in enumerate(lines) if line.startswith(f"expect wrote {role} ")][count]
-        lines[at] = " ".join([*lines[at].split(" ")[:4], f"{len(message) // 2:04x}{message}"])
-    return "\n".join(lines) + "\n"
+def vectors() -> Any:
+    """What makes vector files."""
+    try:
+        import vector_file
+    except ImportError as error:
+        raise Wrong(f"a vector file needs python's cryptography: {error}; case.py NUMBER doesn't") from None
+    return vector_file
 
 
-def has_vector(test: dict[str, Any]) -> bool:
-    """Whether a vector file can say what this test does."""
-    steps = test.get("steps", [{"do": "frame"}])
-    is_told = not any(it["do"] in ("nonce", "frame", "start") or it.get("refused") == "too-long" for it in steps)
-    return is_told and "RekeyAtZeroOmitted" not in test["flags"]  # the command has no rekey before a message
+def in_text(groups: list[dict[str, Any]], words: list[str]) -> str:
+    group, test = found(groups, words[0])
+    if len(words) == 3:
+        return case_text.difference(group, test, *written(test, words[1:]))
+    return case_text.text_of(group, test)
 
 
-def print_one(command: Command, number: int, yours: list[str]) -> str:
-    """Prints a test, and returns what is wrong."""
-    for told in groups():
-        for test in told["tests"]:
-            if test["tcId"] == number:
-                if not has_vector(test):
-                    return "this test has no vector file"
-                sys.stdout.write(vector_of(command, told, test, yours))
-                return ""
-    return "there is no such test"
+def one(groups: list[dict[str, Any]], words: list[str]) -> str:
+    """A test as a vector file."""
+    group, test = found(groups, words[1])
+    yours = written(test, words[2:]) if words[2:] else None
+    if not vectors().has_vector(test):
+        raise Wrong("this test has no vector file")
+    return vectors().vector_of(vectors().Command(words[0]), group, test, yours)
 
 
-def write_all(command: Command, pattern: str, folder: Path) -> str:
-    """Writes the tests of a pattern, and returns what is wrong."""
+def write_all(groups: list[dict[str, Any]], program: str, pattern: str, folder: Path) -> str:
+    """Writes the tests of a pattern, and says how many."""
     chosen = [
         (told, test)
-        for told in groups()
+        for told in groups
         if told.get("protocol", "").startswith(f"Noise_{pattern}_")
         for test in told["tests"]
     ]
     if not chosen:
-        return f"the suite has no pattern {pattern}"
+        raise Wrong(f"the suite has no pattern {pattern}")
     folder.mkdir(exist_ok=True)
-    written = [(told, test) for told, test in chosen if has_vector(test)]
-    for told, test in written:
-        (folder / f"{test['tcId']}.vector").write_text(vector_of(command, told, test, []), "ascii")
-    print(f"{len(written)} vector files; {len(chosen) - len(written)} tests have none")
-    return ""
+    some = [(told, test) for told, test in chosen if vectors().has_vector(test)]
+    for told, test in some:
+        text = vectors().vector_of(vectors().Command(program), told, test, None)
+        (folder / f"{test['tcId']}.vector").write_text(text, "ascii")
+    return f"{len(some)} vector files; {len(chosen) - len(some)} tests have none\n"
 
 
-def groups() -> list[dict[str, Any]]:
-    return json.loads(SUITE.read_text("ascii"))["testGroups"]
+def output(groups: list[dict[str, Any]], words: list[str]) -> str:
+    if words[0].isdecimal():
+        return in_text(groups, words)
+    if not shutil.which(words[0]):
+        raise Wrong(f"there is no program {words[0]}; case.py NUMBER needs none")
+    try:
+        if len(words) == 3:
+            return write_all(groups, words[0], words[1], Path(words[2]))
+        return one(groups, words)
+    except (OSError, vectors().Fault) as error:
+        raise Wrong(str(error)) from None
 
 
-def main(words: list[str]) -> int:
-    if len(words) not in (2, 3, 4):
-        print(__doc__, file=sys.stderr)
-        return 2
-    command = Command(words[0])
-    if len(words) == 3:
-        wrong = write_all(command, words[1], Path(words[2]))
-    else:
-        wrong = print_one(command, int(words[1]), words[2:])
-    if wrong:
-        print(f"case: {wrong}", file=sys.stderr)
-    return int(bool(wrong))
+def main() -> int:
+    reader = argparse.ArgumentParser(
+        usage="case.py [PROGRAM] NUMBER [STEP MESSAGE] [--suite FILE]", description=__doc__,
+        formatter_class=argparse.RawDescriptionHelpFormatter,
+    )
+    reader.add_argument("words", nargs="+", help=argparse.SUPPRESS)
+    reader.add_argument("--suite", metavar="FILE", type=Path, default=SUITE)
+    said = reader.parse_args()
+    if len(said.words) not in ((1, 3) if said.words[0].isdecimal() else (2, 3, 4)):
+        reader.error("these words can't be read")
+    try:
+        sys.stdout.write(output(groups_of(said.suite), said.words))
+    except Wrong as why:
+        print(f"case: {why}", file=sys.stderr)
+        return 1
+    return 0
 
 
 if __name__ == "__main__":
-    sys.exit(main(sys.argv[1:]))
+    sys.exit(main())

@@ -1,13 +1,14 @@
 #!/usr/bin/env python3
 """Runs the suite with any program that speaks the line protocol of docs/VECTORS.md.
 
-    lines.py SUITE.json [JUNIT.xml] -- PROGRAM [WORD ..]
-
-The report is that of the runners. PROGRAM runs twice, once for each role, and is started again after it has ended.
+The report is that of the runners. PROGRAM runs twice, once for each role. If it ends, says what is no answer, or has
+given none for 60 seconds, the test has failed, and the next one starts the program again. --only runs a part: the tests
+that have one of the words, which are joined by commas, as number, pattern or flag.
 """
 
 from __future__ import annotations
 
+import shutil
 import subprocess
 import sys
 import threading
@@ -120,16 +121,19 @@ class Party:
 
 
 def main(words: list[str]) -> int:
-    at = words.index("--") if "--" in words else 0
-    if at not in (1, 2) or len(words) == at + 1:
-        print(__doc__, file=sys.stderr)
-        return 2
-    Party.programs = {role: Program(words[at + 1 :]) for role in ("initiator", "responder")}
+    at = words.index("--") if "--" in words else len(words)
+    reader = runner.reader("lines.py SUITE.json [JUNIT.xml] [--only WORDS] -- PROGRAM [WORD ..]", __doc__)
+    said, program = reader.parse_intermixed_args(words[:at]), words[at + 1 :]
+    if not program:
+        reader.error("the program is missing, after --")
+    if not shutil.which(program[0]):
+        reader.error(f"there is no program {program[0]}")
+    Party.programs = {role: Program(program) for role in ("initiator", "responder")}
     try:
-        return runner.report(Party, words[at + 1], words[0], words[1] if at == 2 else "")
+        return runner.report(Party, program[0], said.suite, said.junit, said.only)
     finally:
-        for program in Party.programs.values():
-            program.end()
+        for it in Party.programs.values():
+            it.end()
 
 
 if __name__ == "__main__":

@@ -75,7 +75,8 @@ def too_long(group: Group) -> None:
         sender, reader = group.messages[number].sender, other(group.messages[number].sender)
         overhead = len(group.messages[number].data) - len(group.messages[number].payload)
         step: Step = {"do": "write", "payload": rule(65536 - overhead)}
-        steps = [*right(group, sender, number), step, {"do": "write", "message": number}]
+        due = {"do": "write", "message": number, "optional": True}  # after a refused write the standard says nothing
+        steps = [*right(group, sender, number), step, due]
         add(
             group, sender, f"a payload that makes 65536 bytes of message {number + 1}; then the right one",
             ["LongMessageTaken"], judged(group, sender, steps),

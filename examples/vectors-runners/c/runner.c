@@ -1,6 +1,6 @@
-// Runs the suite of test vectors with an implementation in C: runner SUITE.json [JUNIT.xml]. Compile it beside a file
-// of yours that has the functions below whose names begin with party_; that includes this file, after a line
-// #define PARTY_ONLY, for their declarations. party_yulimosar.c is the library of this repository: copy it.
+// Runs the suite of test vectors with an implementation in C: runner SUITE.json [JUNIT.xml] [--only WORDS]. Compile it
+// beside a file of yours that has the functions below whose names begin with party_; that includes this file, after a
+// line #define PARTY_ONLY, for their declarations. party_yulimosar.c is the library of this repository: copy it.
 #include <stddef.h>
 #include <stdint.h>
 
@@ -154,11 +154,12 @@ static int is_text(const json *object, const char *key, const char *text) {
 }
 
 enum { PASSED, FAILED, NOT_RUN };
+enum { MOST_WHY = 1000, MOST_DIGITS = 400 };
 
 typedef struct {
     const json *group, *test;
     int outcome;
-    char why[200];
+    char *why;
 } row;
 
 typedef struct {
@@ -188,8 +189,35 @@ static void report_add(const json *group, const json *test, int outcome, const c
     if (!(row_count & (row_count - 1))) rows = realloc(rows, 2 * (row_count + 1) * sizeof *rows);
     if (!rows) abort();
     row *it = &rows[row_count++];
-    *it = (row){.group = group, .test = test, .outcome = outcome};
-    snprintf(it->why, sizeof it->why, "%s", why);
+    *it = (row){.group = group, .test = test, .outcome = outcome, .why = malloc(strlen(why) + 1)};
+    if (!it->why) abort();
+    strcpy(it->why, why);
+}
+
+static void print_failure(const row *it) {
+    const json *flag = json_get(it->test, "flags")->first;
+    const char *pattern;
+    int len = pattern_of(it, &pattern);
+    printf("failed %ld %.*s", json_get(it->test, "tcId")->number, len, pattern);
+    for (char mark = ' '; flag; flag = flag->next, mark = ',') printf("%c%s", mark, flag->text);
+    printf(": %s: %s\n", json_text(it->test, "comment"), it->why);
+}
+
+// Prints the tests that failed, by their first flag: those that accept what has to be refused, or all others.
+static void print_failures(int accepted) {
+    size_t count = 0;
+    for (int is_head = 1; is_head >= 0; is_head--) {
+        for (const tally *flag = flags; flag->name; flag++)
+            for (const row *it = rows; it < rows + row_count; it++) {
+                const int is_accepted = strstr(it->why, "and has to be refused") != NULL;
+                if (it->outcome != FAILED || is_accepted != accepted) continue;
+                if (strcmp(json_get(it->test, "flags")->first->text, flag->name)) continue;
+                if (is_head) count++;
+                else print_failure(it);
+            }
+        const char *head = accepted ? "accepted, and has to be refused" : "other failures";
+        if (is_head && count) printf("%s: %zu\n", head, count);
+    }
 }
 
 // Prints a line for each flag, with its kind by the notes of the suite, and the tests that failed; how many those are.
@@ -207,16 +235,8 @@ static int report_print(const json *notes) {
         printf("%-28s %-7s %7d %7d %7d\n", it->name, kind ? kind : "", it->counts[PASSED], it->counts[FAILED],
             it->counts[NOT_RUN]);
     }
-    for (size_t i = 0; i < row_count; i++) {
-        if (rows[i].outcome != FAILED) continue;
-        const json *test = rows[i].test;
-        const char *pattern;
-        int len = pattern_of(&rows[i], &pattern);
-        printf("failed %ld %.*s", json_get(test, "tcId")->number, len, pattern);
-        const json *flag = json_get(test, "flags")->first;
-        for (char mark = ' '; flag; flag = flag->next, mark = ',') printf("%c%s", mark, flag->text);
-        printf(": %s: %s\n", json_text(test, "comment"), rows[i].why);
-    }
+    print_failures(1);
+    print_failures(0);
     for (const tally *it = reasons; it->name; it++) printf("not run %d: %s\n", it->counts[NOT_RUN], it->name);
     printf("%d passed, %d failed, %d not run\n", total[PASSED], total[FAILED], total[NOT_RUN]);
     return total[FAILED];
@@ -270,7 +290,7 @@ typedef struct {
     const json *group, *test, *setup;
     party *parties[2];
     bytes written[MOST_MESSAGES];
-    char why[200];
+    char why[MOST_WHY];
 } run;
 
 static uint8_t got[PARTY_ROOM];
@@ -378,17 +398,27 @@ static bytes received(const run *r, const json *step, const json *message) {
     return made;
 }
 
-static int same(const json *wanted, const uint8_t *data, size_t len) {
+// Puts bytes as hex digits, of which there is room for MOST_DIGITS.
+static void to_hex(const uint8_t *data, size_t len, char digits[MOST_DIGITS + 1]) {
+    digits[0] = 0;
+    for (size_t i = 0; i < len && i < MOST_DIGITS / 2; i++) sprintf(digits + 2 * i, "%02x", data[i]);
+}
+
+// Whether these are the bytes that a step has to give: if not, the run says both.
+static int same(run *r, const char *what, const json *wanted, const uint8_t *data, size_t len) {
+    const char *sum = json_text(wanted, "sha256");
+    bytes right = sum ? of_hex(sum) : of_value(wanted);
     uint8_t digest[32];
-    if (json_text(wanted, "sha256")) {
-        bytes sum = of_hex(json_text(wanted, "sha256"));
+    char yours[MOST_DIGITS + 1], ours[MOST_DIGITS + 1];
+    if (sum) {
         party_sha256(data, len, digest);
-        int is_same = !memcmp(digest, sum.data, 32);
-        free(sum.data);
-        return is_same;
+        data = digest;
+        len = sizeof digest;
     }
-    bytes right = of_value(wanted);
     int is_same = right.len == len && !memcmp(right.data, data, len);
+    to_hex(data, len, yours);
+    to_hex(right.data, right.len, ours);
+    if (!is_same) snprintf(r->why, sizeof r->why, "%s: %s in place of %s", what, yours, ours);
     free(right.data);
     return is_same;
 }
@@ -459,12 +489,12 @@ static int take(run *r, const json *step) {
         return FAILED;
     }
     if (refused) {
-        snprintf(r->why, sizeof r->why, "%s was accepted, and has to be refused: %s", what, refused);
+        const char *at = json_text(step, "at");
+        snprintf(r->why, sizeof r->why, "%s was accepted, and has to be refused: %s%s%s", what, refused,
+            at ? " at " : "", at ? at : "");
         return FAILED;
     }
-    if (!wanted || same(wanted, got, len)) return PASSED;
-    snprintf(r->why, sizeof r->why, "%s: other bytes", what);
-    return FAILED;
+    return !wanted || same(r, what, wanted, got, len) ? PASSED : FAILED;
 }
 
 static void run_test(const json *group, const json *test) {
@@ -474,7 +504,7 @@ static void run_test(const json *group, const json *test) {
     int outcome = PASSED, number = 0;
     for (const json *step = json_get(test, "steps")->first; step && outcome == PASSED; step = step->next, number++)
         outcome = take(&r, step);
-    char why[400];
+    char why[MOST_WHY + 40];
     if (is_start && is_wrong && (outcome == PASSED || outcome == FAILED)) {
         const char *place = json_text(test, "place");
         outcome = FAILED;
@@ -519,20 +549,72 @@ static char *file_text(const char *path) {
     return text;
 }
 
-int main(int count, char **words) {
-    char *text = count > 1 ? file_text(words[1]) : NULL;
-    json *suite = text ? json_read(text) : NULL;
-    if (!suite) {
-        fputs("usage: runner SUITE.json [JUNIT.xml]\n", stderr);
-        return 2;
+static const char usage[] =
+    "usage: runner SUITE.json [JUNIT.xml] [--only WORDS]\n\n"
+    "It runs the suite, and reports. JUNIT.xml gets each test. --only runs a part: the tests that have one of the\n"
+    "words, which are joined by commas, as number, pattern or flag. The status is 0 if no test failed, 1 if one did,\n"
+    "and 2 if nothing was run.\n";
+
+// The words of --only, each with how many tests it names.
+static tally wanted[50];
+
+// Reads the words of --only, and changes them.
+static int read_wanted(char *only) {
+    size_t count = 0;
+    for (char *word = strtok(only, ","); word && count < 49; word = strtok(NULL, ",")) wanted[count++].name = word;
+    return count > 0;
+}
+
+// Whether a test is to be run.
+static int is_chosen(const json *group, const json *test) {
+    const row it = {.group = group, .test = test};
+    const char *pattern;
+    const size_t len = (size_t)pattern_of(&it, &pattern);
+    char number[30];
+    int is = !wanted->name;
+    snprintf(number, sizeof number, "%ld", json_get(test, "tcId")->number);
+    for (tally *word = wanted; word->name; word++) {
+        int has = !strcmp(number, word->name) || (len == strlen(word->name) && !strncmp(pattern, word->name, len));
+        for (const json *flag = json_get(test, "flags")->first; flag; flag = flag->next)
+            has |= !strcmp(flag->text, word->name);
+        word->counts[0] += has;
+        is |= has;
     }
+    return is;
+}
+
+// Runs the tests; 0 if a word of --only names none.
+static int run_all(const json *suite) {
     for (const json *group = json_get(suite, "testGroups")->first; group; group = group->next)
         for (const json *test = json_get(group, "tests")->first; test; test = test->next) {
+            if (!is_chosen(group, test)) continue;
             if (is_text(group, "type", "NoiseFrame")) run_frame(group, test);
             else run_test(group, test);
         }
+    for (const tally *word = wanted; word->name; word++) {
+        if (word->counts[0]) continue;
+        fprintf(stderr, "runner: no test has the number, pattern or flag %s\n", word->name);
+        return 0;
+    }
+    return 1;
+}
+
+int main(int count, char **words) {
+    const char *files[2] = {NULL, NULL};
+    int file_count = 0, is_right = 1;
+    for (int i = 1; i < count; i++) {
+        if (!strcmp(words[i], "--help") || !strcmp(words[i], "-h")) return fputs(usage, stdout) < 0;
+        if (!strcmp(words[i], "--only")) is_right &= ++i < count && read_wanted(words[i]);
+        else if (file_count < 2) files[file_count++] = words[i];
+        else is_right = 0;
+    }
+    if (!is_right || !file_count) return fputs(usage, stderr), 2;
+    char *text = file_text(files[0]);
+    json *suite = text ? json_read(text) : NULL;
+    if (!json_get(suite, "testGroups")) return fprintf(stderr, "runner: %s is no suite\n", files[0]), 2;
+    if (!run_all(suite)) return 2;
     int failed = report_print(json_get(suite, "notes"));
-    if (count > 2 && !report_junit(words[2], words[0])) return 2;
+    if (files[1] && !report_junit(files[1], words[0])) return 2;
     return failed > 0;
 }
 #endif

@@ -6,17 +6,20 @@ import java.nio.file.Path;
 import java.security.MessageDigest;
 import java.util.ArrayList;
 import java.util.Arrays;
+import java.util.Comparator;
 import java.util.HashMap;
+import java.util.HashSet;
 import java.util.HexFormat;
 import java.util.LinkedHashMap;
 import java.util.List;
 import java.util.Map;
 import java.util.Objects;
+import java.util.Set;
 
 /**
  * Runs the suite of test vectors with an implementation in Java: {@code java Runner PARTY SUITE.json [JUNIT.xml]}. PARTY
  * is a class as {@code PartyPlain}, which implements {@link Party} and has a constructor of a {@link Setup}: copy that,
- * and have it call your implementation. The status is 0 if no test failed.
+ * and have it call your implementation.
  */
 public final class Runner {
     /** One party of a Noise. After the handshake, write and read are of transport messages. */
@@ -77,7 +80,13 @@ public final class Runner {
 
     private record Row(Map<String, Object> test, String pattern, String outcome, String why) {}
 
-    private static final int MOST_SHOWN = 80;
+    private static final int MOST_SHOWN = 200;
+    private static final String USAGE = """
+            usage: java Runner PARTY SUITE.json [JUNIT.xml] [--only WORDS]
+
+            It runs the suite with the class PARTY, and reports. JUNIT.xml gets each test. --only runs a part: the tests
+            that have one of the words, which are joined by commas, as number, pattern or flag. The status is 0 if no
+            test failed, 1 if one did, and 2 if nothing was run.""";
 
     private final Class<?> kind;
     private final Map<String, Object> group;
@@ -197,9 +206,12 @@ public final class Runner {
             right = bytes(wanted);
         }
         if (!Arrays.equals(right, got)) {
-            String shown = got == null ? "nothing" : HexFormat.of().formatHex(got, 0, Math.min(got.length, MOST_SHOWN));
-            throw new Failed(step.get("do") + ": other bytes: " + shown);
+            throw new Failed(step.get("do") + ": " + shown(got) + " in place of " + shown(right));
         }
+    }
+
+    private static String shown(byte[] data) {
+        return data == null ? "nothing" : HexFormat.of().formatHex(data, 0, Math.min(data.length, MOST_SHOWN));
     }
 
     /** Takes a step; whether the test goes on after it. */
@@ -231,7 +243,8 @@ public final class Runner {
             return true;
         }
         if (step.containsKey("refused")) {
-            throw new Failed(step.get("do") + " was accepted, and has to be refused: " + step.get("refused"));
+            String at = step.containsKey("at") ? " at " + step.get("at") : "";
+            throw new Failed(step.get("do") + " was accepted, and has to be refused: " + step.get("refused") + at);
         }
         compare(step, got);
         return true;
@@ -269,12 +282,15 @@ public final class Runner {
         }
     }
 
-    private static Row outcome(Class<?> kind, Map<String, Object> group, Map<String, Object> test) {
-        String type = (String) group.get("type");
+    private static String patternName(Map<String, Object> group) {
         String protocol = (String) group.get("protocol");
-        String pattern = protocol == null ? type.substring(5).toLowerCase() : protocol.split("_")[1];
+        return protocol == null ? ((String) group.get("type")).substring(5).toLowerCase() : protocol.split("_")[1];
+    }
+
+    private static Row outcome(Class<?> kind, Map<String, Object> group, Map<String, Object> test) {
+        String pattern = patternName(group);
         try {
-            switch (type) {
+            switch ((String) group.get("type")) {
                 case "NoiseHandshake" -> new Runner(kind, group, test).run();
                 case "NoiseStart" -> new Runner(kind, test, test).runStart();
                 default -> throw new NotSupported("frames are the caller's");
@@ -306,16 +322,27 @@ public final class Runner {
         System.out.printf("%-28s %-7s %7s %7s %7s%n", "flag", "kind", "passed", "failed", "not run");
         flags.forEach((flag, it) -> System.out.printf(
                 "%-28s %-7s %7d %7d %7d%n", flag, object(notes.get(flag)).get("kind"), it[0], it[1], it[2]));
-        for (Row row : rows) {
-            if (row.outcome.equals("failed")) {
-                System.out.printf(
-                        "failed %d %s %s: %s: %s%n", row.test.get("tcId"), row.pattern,
-                        String.join(",", texts(row.test.get("flags"))), row.test.get("comment"), row.why);
-            }
-        }
+        printFailures("accepted, and has to be refused", true, rows, List.copyOf(flags.keySet()));
+        printFailures("other failures", false, rows, List.copyOf(flags.keySet()));
         reasons.forEach((why, count) -> System.out.printf("not run %d: %s%n", count, why));
         System.out.printf("%d passed, %d failed, %d not run%n", total[0], total[1], total[2]);
         return total[1];
+    }
+
+    /** Prints tests that failed, by their first flag: those that accept what has to be refused, or all others. */
+    private static void printFailures(String head, boolean isAccepted, List<Row> rows, List<String> flags) {
+        List<Row> some = rows.stream()
+                .filter(it -> it.outcome.equals("failed") && it.why.contains("and has to be refused") == isAccepted)
+                .sorted(Comparator.comparingInt(it -> flags.indexOf(texts(it.test.get("flags")).get(0))))
+                .toList();
+        if (!some.isEmpty()) {
+            System.out.printf("%s: %d%n", head, some.size());
+        }
+        for (Row row : some) {
+            System.out.printf(
+                    "failed %d %s %s: %s: %s%n", row.test.get("tcId"), row.pattern,
+                    String.join(",", texts(row.test.get("flags"))), row.test.get("comment"), row.why);
+        }
     }
 
     private static String quoted(String text) {
@@ -408,23 +435,72 @@ public final class Runner {
         }
     }
 
-    public static void main(String[] words) throws IOException, ClassNotFoundException {
-        if (words.length != 2 && words.length != 3) {
-            System.err.println("usage: java Runner PARTY SUITE.json [JUNIT.xml]");
-            System.exit(2);
+    /** The words of the command line name nothing that can be run. */
+    private static final class Unusable extends Exception {
+        private static final long serialVersionUID = 1;
+
+        Unusable(String why) {
+            super(why);
         }
-        Class<?> kind = Class.forName(words[0]);
-        Map<String, Object> suite = object(new Json(Files.readString(Path.of(words[1]))).value());
+    }
+
+    /** Runs the tests that have one of the words, or all if there is none. */
+    private static List<Row> rows(Class<?> kind, Map<String, Object> suite, List<String> only) throws Unusable {
         List<Row> rows = new ArrayList<>();
+        Set<String> found = new HashSet<>();
         for (Object group : list(suite.get("testGroups"))) {
             for (Object test : list(object(group).get("tests"))) {
-                rows.add(outcome(kind, object(group), object(test)));
+                List<String> has = new ArrayList<>(texts(object(test).get("flags")));
+                has.add(object(test).get("tcId").toString());
+                has.add(patternName(object(group)));
+                has.retainAll(only);
+                found.addAll(has);
+                if (only.isEmpty() || !has.isEmpty()) {
+                    rows.add(outcome(kind, object(group), object(test)));
+                }
             }
         }
-        int failed = print(rows, object(suite.get("notes")));
-        if (words.length == 3) {
-            Files.writeString(Path.of(words[2]), junit(words[0], rows), StandardCharsets.UTF_8);
+        for (String word : only) {
+            if (!found.contains(word)) {
+                throw new Unusable("no test has the number, pattern or flag " + word);
+            }
         }
-        System.exit(failed > 0 ? 1 : 0);
+        return rows;
+    }
+
+    private static int run(List<String> words) throws Unusable, IOException, ClassNotFoundException {
+        int at = words.indexOf("--only");
+        List<String> files = new ArrayList<>(words);
+        List<String> only = List.of();
+        if (at >= 0 && at + 1 < words.size()) {
+            only = List.of(words.get(at + 1).split(","));
+            files.subList(at, at + 2).clear();
+        }
+        if (files.size() != 2 && files.size() != 3) {
+            throw new Unusable(USAGE);
+        }
+        Class<?> kind = Class.forName(files.get(0));
+        Map<String, Object> suite = object(new Json(Files.readString(Path.of(files.get(1)))).value());
+        List<Row> rows = rows(kind, suite, only);
+        int failed = print(rows, object(suite.get("notes")));
+        if (files.size() == 3) {
+            Files.writeString(Path.of(files.get(2)), junit(files.get(0), rows), StandardCharsets.UTF_8);
+        }
+        return failed > 0 ? 1 : 0;
+    }
+
+    public static void main(String[] words) {
+        if (List.of(words).contains("--help") || List.of(words).contains("-h")) {
+            System.out.println(USAGE);
+            return;
+        }
+        try {
+            System.exit(run(List.of(words)));
+        } catch (Unusable why) {
+            System.err.println(why.getMessage());
+        } catch (IOException | ClassNotFoundException error) {
+            System.err.println("Runner: " + error);
+        }
+        System.exit(2);
     }
 }

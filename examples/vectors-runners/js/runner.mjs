@@ -1,16 +1,27 @@
-// Runs the suite of test vectors with an implementation in JavaScript: node runner.mjs PARTY.mjs SUITE.json
-// [JUNIT.xml]. PARTY.mjs is a module beside this file, as party_yulimosar.mjs, whose `Party` calls an implementation:
-// copy that. The report has a line for each flag, and says whether the flag is of a kind of cases or of a mistake;
-// JUNIT.xml gets each test. The status is 0 if no test failed.
+// Runs the suite of test vectors with an implementation in JavaScript.
 import { createHash } from 'node:crypto';
 import { readFileSync, writeFileSync } from 'node:fs';
 import { pathToFileURL } from 'node:url';
+import { parseArgs } from 'node:util';
+
+const USAGE = `usage: node runner.mjs PARTY.mjs SUITE.json [JUNIT.xml] [--only WORDS]
+
+PARTY.mjs is a module beside this file, as party_yulimosar.mjs, whose \`Party\` calls an implementation: copy that.
+--only runs a part: the tests that have one of the words, which are joined by commas, as number, pattern or flag. The
+report has a line for each flag, and says whether the flag is of a kind of cases or of a mistake. Then come the tests
+that failed: first those in which something was accepted that has to be refused. JUNIT.xml gets each test. The status is
+0 if no test failed, 1 if one did, and 2 if nothing was run.`;
+
+const SHOWN = 400; // digits of wrong bytes
 
 /** What the Noise doesn't claim to do: the test isn't run. */
 class NotSupported extends Error {}
 
 /** What is wrong. */
 class Failed extends Error {}
+
+/** The words of the command line name nothing that can be run. */
+class Unusable extends Error {}
 
 const hex = (bytes) => Buffer.from(bytes ?? []).toString('hex');
 const dataOf = (value) =>
@@ -71,7 +82,7 @@ class Run {
     } else if (step.do === 'read') wanted = hex(dataOf(step.payload ?? message.payload));
     else if (step.do === 'hash') wanted = this.group.hash;
     if (hex(got) !== wanted) {
-      throw new Failed(`${step.do}: ${hex(got).slice(0, 80)} in place of ${wanted.slice(0, 80)}`);
+      throw new Failed(`${step.do}: ${hex(got).slice(0, SHOWN)} in place of ${wanted.slice(0, SHOWN)}`);
     }
   }
 
@@ -101,7 +112,8 @@ class Run {
       return true;
     }
     if (step.refused !== undefined) {
-      throw new Failed(`${step.do} was accepted, and has to be refused: ${step.refused} ${step.at ?? ''}`);
+      const at = step.at === undefined ? '' : ` at ${step.at}`;
+      throw new Failed(`${step.do} was accepted, and has to be refused: ${step.refused}${at}`);
     }
     this.compare(step, got);
     return true;
@@ -150,6 +162,21 @@ async function outcome(group, test, Party) {
 
 const patternName = (group) => group.protocol?.split('_')[1] ?? group.type.slice(5).toLowerCase();
 
+/** The tests that failed, by their first flag: those first that accept what has to be refused. */
+function failures(rows, flags) {
+  const order = new Map(flags.map((it, at) => [it, at]));
+  const failed = rows.filter(({ what }) => what === 'failed')
+    .sort((one, two) => order.get(one.test.flags[0]) - order.get(two.test.flags[0]));
+  const isAccepted = ({ why }) => why.includes('and has to be refused');
+  return [['accepted, and has to be refused', true], ['other failures', false]].flatMap(([head, is]) => {
+    const some = failed.filter((it) => isAccepted(it) === is);
+    const lines = some.map(
+      ({ test, pattern, why }) => `failed ${test.tcId} ${pattern} ${test.flags}: ${test.comment}: ${why}`,
+    );
+    return some.length ? [`${head}: ${some.length}`, ...lines] : [];
+  });
+}
+
 function textReport(rows, notes) {
   const counts = new Map();
   const total = { passed: 0, failed: 0, 'not run': 0 };
@@ -166,9 +193,7 @@ function textReport(rows, notes) {
     + `${cells.map((it) => String(it).padStart(7)).join(' ')}`;
   const lines = [line('flag', 'kind', 'passed', 'failed', 'not run')];
   for (const [flag, it] of counts) lines.push(line(flag, notes[flag].kind, it.passed, it.failed, it['not run']));
-  for (const { test, pattern, what, why } of rows) {
-    if (what === 'failed') lines.push(`failed ${test.tcId} ${pattern} ${test.flags}: ${test.comment}: ${why}`);
-  }
+  lines.push(...failures(rows, [...counts.keys()]));
   for (const [why, count] of reasons) lines.push(`not run ${count}: ${why}`);
   return [...lines, `${total.passed} passed, ${total.failed} failed, ${total['not run']} not run`, ''].join('\n');
 }
@@ -196,20 +221,46 @@ function junitReport(name, rows) {
   return [...lines, '</testsuite>', ''].join('\n');
 }
 
-const [, , module, path, junit] = process.argv;
-if (!path) {
-  console.error('usage: node runner.mjs PARTY.mjs SUITE.json [JUNIT.xml]');
-  process.exit(2);
-}
-const { Party } = await import(pathToFileURL(module));
-const rows = [];
-const suite = JSON.parse(readFileSync(path, 'utf8'));
-for (const group of suite.testGroups) {
-  for (const test of group.tests) {
-    const [what, why] = await outcome(group, test, Party);
-    rows.push({ test, pattern: patternName(group), what, why });
+/** The tests of the groups, each with its group: those that `only` names, or all. */
+function chosen(groups, only) {
+  const wanted = new Set(only === undefined ? [] : only.split(','));
+  const found = new Set();
+  const tests = [];
+  for (const group of groups) {
+    const pattern = patternName(group);
+    for (const test of group.tests) {
+      const has = [String(test.tcId), pattern, ...test.flags].filter((it) => wanted.has(it));
+      has.forEach((it) => found.add(it));
+      if (only === undefined || has.length > 0) tests.push({ group, test, pattern });
+    }
   }
+  for (const it of wanted) if (!found.has(it)) throw new Unusable(`no test has the number, pattern or flag ${it}`);
+  return tests;
 }
-process.stdout.write(textReport(rows, suite.notes));
-if (junit) writeFileSync(junit, junitReport(module, rows));
-process.exitCode = rows.some(({ what }) => what === 'failed') ? 1 : 0;
+
+async function main() {
+  const options = { only: { type: 'string' }, help: { type: 'boolean', short: 'h' } };
+  const { values, positionals } = parseArgs({ options, allowPositionals: true });
+  const [module, path, junit] = positionals;
+  if (values.help) console.log(USAGE);
+  if (values.help) return 0;
+  if (!path || positionals.length > 3) throw new Unusable(USAGE);
+  const { Party } = await import(pathToFileURL(module));
+  const suite = JSON.parse(readFileSync(path, 'utf8'));
+  const rows = [];
+  for (const { group, test, pattern } of chosen(suite.testGroups, values.only)) {
+    const [what, why] = await outcome(group, test, Party);
+    rows.push({ test, pattern, what, why });
+  }
+  process.stdout.write(textReport(rows, suite.notes));
+  if (junit) writeFileSync(junit, junitReport(module, rows));
+  return rows.some(({ what }) => what === 'failed') ? 1 : 0;
+}
+
+try {
+  process.exitCode = await main();
+} catch (error) {
+  if (!(error instanceof Unusable) && !error.code) throw error;
+  console.error(error.message);
+  process.exitCode = 2;
+}

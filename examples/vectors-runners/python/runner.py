@@ -1,22 +1,28 @@
 #!/usr/bin/env python3
 """Runs the suite of test vectors with an implementation in Python.
 
-    runner.py PARTY SUITE.json [JUNIT.xml]
-
 PARTY is a module beside this file, as `party_yulimosar`, with a class `Party`: copy that file, and have it call your
-implementation. The report has a line for each flag, and says whether the flag is of a kind of cases or of a mistake;
-JUNIT.xml gets each test. The status is 0 if no test failed.
+implementation. --only runs a part: the tests that have one of the words, which are joined by commas, as number, pattern
+or flag. The report has a line for each flag, and says whether the flag is of a kind of cases or of a mistake. Then come
+the tests that failed: first those in which something was accepted that has to be refused. JUNIT.xml gets each test. The
+status is 0 if no test failed, 1 if one did, and 2 if nothing was run.
 """
 
 from __future__ import annotations
 
+import argparse
 import hashlib
 import importlib
 import json
 import sys
+import time
 from collections import Counter
 from typing import Any
 from xml.sax.saxutils import quoteattr
+
+
+Row = tuple[dict, str, str]  # a test, what came of it, and why
+BETWEEN = 10  # seconds from one line of progress to the next
 
 
 class NotSupported(Exception):
@@ -175,7 +181,22 @@ def pattern_name(group: dict) -> str:
     return group["protocol"].split("_")[1] if "protocol" in group else group["type"][5:].lower()
 
 
-def text_report(rows: list[tuple[dict, str, str]], notes: dict[str, dict]) -> str:
+def failures(rows: list[Row]) -> list[str]:
+    """The tests that failed, each kind of them by its first flag: those first that accept what has to be refused."""
+    order = {flag: at for at, flag in enumerate(dict.fromkeys(flag for test, _, _ in rows for flag in test["flags"]))}
+    failed = sorted((it for it in rows if it[1] == "failed"), key=lambda it: order[it[0]["flags"][0]])
+    lines = []
+    for is_accepted, head in (True, "accepted, and has to be refused"), (False, "other failures"):
+        some = [it for it in failed if ("and has to be refused" in it[2]) == is_accepted]
+        lines += [f"{head}: {len(some)}"] if some else []
+        lines += [
+            f"failed {test['tcId']} {test['pattern']} {','.join(test['flags'])}: {test['comment']}: {why}"
+            for test, _, why in some
+        ]
+    return lines
+
+
+def text_report(rows: list[Row], notes: dict[str, dict]) -> str:
     """A line for each flag, the tests that failed, and why some weren't run."""
     counts = Counter((flag, what) for test, what, _ in rows for flag in test["flags"])
     flags = dict.fromkeys(flag for test, _, _ in rows for flag in test["flags"])
@@ -184,11 +205,7 @@ def text_report(rows: list[tuple[dict, str, str]], notes: dict[str, dict]) -> st
         f"{it:28} {notes[it]['kind']:7} {counts[it, 'passed']:7} {counts[it, 'failed']:7} {counts[it, 'not run']:7}"
         for it in flags
     ]
-    lines += [
-        f"failed {test['tcId']} {test['pattern']} {','.join(test['flags'])}: {test['comment']}: {why}"
-        for test, what, why in rows
-        if what == "failed"
-    ]
+    lines += failures(rows)
     lines += [
         f"not run {count}: {why}" for why, count in Counter(why for _, what, why in rows if what == "not run").items()
     ]
@@ -200,7 +217,7 @@ def name_of(test: dict) -> str:
     return f"{test['tcId']} {test['pattern']}: {test['comment']}"
 
 
-def junit_report(name: str, rows: list[tuple[dict, str, str]]) -> str:
+def junit_report(name: str, rows: list[Row]) -> str:
     """JUnit's XML: a test case for each test, whose class is its first flag."""
     lines = []
     for test, what, why in rows:
@@ -218,15 +235,45 @@ def junit_report(name: str, rows: list[tuple[dict, str, str]]) -> str:
     return "\n".join(['<?xml version="1.0" encoding="UTF-8"?>', head, *lines, "</testsuite>"]) + "\n"
 
 
-def report(kind: Any, name: str, path: str, junit: str = "") -> int:
-    """Runs the suite of a file, and reports: the status is 0 if no test failed."""
-    with open(path, encoding="ascii") as file:
-        suite = json.load(file)
-    rows = [
-        (test | {"pattern": pattern_name(group)}, *outcome(group, test, kind))
-        for group in suite["testGroups"]
-        for test in group["tests"]
-    ]
+def chosen(suite: dict, only: str) -> list[tuple[dict, dict]]:
+    """The tests of the suite, each with its group: of those that `only` names, or all."""
+    tests = [(group, test) for group in suite["testGroups"] for test in group["tests"]]
+    if not only:
+        return tests
+    wanted, found = set(only.split(",")), set()
+    some = []
+    for group, test in tests:
+        if has := wanted & {str(test["tcId"]), pattern_name(group), *test["flags"]}:
+            some.append((group, test))
+            found |= has
+    if wanted != found:
+        raise SystemExit(f"runner: no test has the number, pattern or flag {min(wanted - found)}")
+    return some
+
+
+def rows_of(tests: list[tuple[dict, dict]], kind: Any) -> list[Row]:
+    """Runs the tests, and says on a terminal how far it is."""
+    rows: list[Row] = []
+    said = time.monotonic()
+    for group, test in tests:
+        rows.append((test | {"pattern": pattern_name(group)}, *outcome(group, test, kind)))
+        if time.monotonic() - said > BETWEEN and sys.stderr.isatty():
+            said = time.monotonic()
+            failed = sum(what == "failed" for _, what, _ in rows)
+            print(f"runner: {len(rows)} of {len(tests)} tests were run, {failed} failed", file=sys.stderr)
+    return rows
+
+
+def report(kind: Any, name: str, path: str, junit: str = "", only: str = "") -> int:
+    """Runs the suite of a file, or the tests of `only`, and reports: the status is 0 if no test failed."""
+    try:
+        with open(path, encoding="ascii") as file:
+            suite = json.load(file)
+        tests = chosen(suite, only)
+    except (OSError, ValueError, KeyError, SystemExit) as error:
+        print(error if isinstance(error, SystemExit) else f"runner: {path}: no suite: {error!r}", file=sys.stderr)
+        return 2
+    rows = rows_of(tests, kind)
     sys.stdout.write(text_report(rows, suite["notes"]))
     if junit:
         with open(junit, "w", encoding="utf-8") as file:
@@ -234,12 +281,23 @@ def report(kind: Any, name: str, path: str, junit: str = "") -> int:
     return int(any(what == "failed" for _, what, _ in rows))
 
 
-def main(words: list[str]) -> int:
-    if len(words) not in (2, 3):
-        print(__doc__, file=sys.stderr)
-        return 2
-    return report(importlib.import_module(words[0]).Party, *words)
+def reader(usage: str, about: str | None, *first: str) -> argparse.ArgumentParser:
+    """The reader of a runner's words: `first` come before the suite."""
+    made = argparse.ArgumentParser(
+        usage=usage, description=about, formatter_class=argparse.RawDescriptionHelpFormatter
+    )
+    for it in (*first, "suite"):
+        made.add_argument(it, metavar={"suite": "SUITE.json"}.get(it, it.upper()))
+    made.add_argument("junit", metavar="JUNIT.xml", nargs="?", default="")
+    made.add_argument("--only", metavar="WORDS", default="", help="numbers of tests, patterns and flags, as XX,892")
+    return made
+
+
+def main() -> int:
+    usage = "runner.py PARTY SUITE.json [JUNIT.xml] [--only WORDS]"
+    said = reader(usage, __doc__, "party").parse_intermixed_args()
+    return report(importlib.import_module(said.party).Party, said.party, said.suite, said.junit, said.only)
 
 
 if __name__ == "__main__":
-    sys.exit(importlib.import_module("runner").main(sys.argv[1:]))  # the same module that parties import
+    sys.exit(importlib.import_module("runner").main())  # the same module that parties import

@@ -47,12 +47,16 @@ func (b *Bytes) UnmarshalJSON(text []byte) (err error) {
 	return err
 }
 
-// is reports whether these are the bytes.
-func (b *Bytes) is(data []byte) bool {
+// fault says what is wrong if these aren't the bytes.
+func (b *Bytes) fault(do string, data []byte) error {
+	right, got := fmt.Sprintf("%x", b.Data), fmt.Sprintf("%x", data)
 	if b.SHA256 != "" {
-		return fmt.Sprintf("%x", sha256.Sum256(data)) == b.SHA256
+		right, got = b.SHA256, fmt.Sprintf("%x", sha256.Sum256(data))
 	}
-	return bytes.Equal(b.Data, data)
+	if got == right {
+		return nil
+	}
+	return fmt.Errorf("%s: %.400s in place of %.400s", do, got, right)
 }
 
 // Keys are a party's private keys, and the public ones of the other party's pre-message.
@@ -137,6 +141,7 @@ type Test struct {
 	Steps                 []Step
 	Message, Frame        Bytes
 
+	group                 *Group
 	pattern, outcome, why string
 }
 
@@ -231,16 +236,17 @@ func (r *run) call(p Party, s *Step) (got []byte, wanted *Bytes, err error) {
 		}
 		got, err = p.Read(r.received(s))
 	case "rekey":
-		wanted, err = &Bytes{}, p.Rekey(s.Direction)
+		err = p.Rekey(s.Direction)
 	case "nonce":
 		nonce, _ := strconv.ParseUint(s.Nonce, 10, 64)
-		wanted, err = &Bytes{}, p.SetNonce(s.Direction, nonce)
+		err = p.SetNonce(s.Direction, nonce)
 	case "hash":
 		got, wanted = p.Hash(), &r.group.Hash
 	case "remote":
 		wanted = s.Is
 		got, err = p.RemoteStatic()
-	case "start":
+	}
+	if wanted == nil {
 		wanted = &Bytes{}
 	}
 	return got, wanted, err
@@ -274,12 +280,13 @@ func (r *run) step(s *Step) (on bool, fault error) {
 			return false, fmt.Errorf("refused at %s, in place of %s", at, s.At)
 		}
 		return true, nil
+	case s.Refused != "" && s.At != "":
+		return false, fmt.Errorf("%s was accepted, and has to be refused: %s at %s", s.Do, s.Refused, s.At)
 	case s.Refused != "":
-		return false, fmt.Errorf("%s was accepted, and has to be refused: %s %s", s.Do, s.Refused, s.At)
-	case wanted == nil || !wanted.is(got):
-		return false, fmt.Errorf("%s: other bytes: %.40x", s.Do, got)
+		return false, fmt.Errorf("%s was accepted, and has to be refused: %s", s.Do, s.Refused)
 	}
-	return true, nil
+	err = wanted.fault(s.Do, got)
+	return err == nil, err
 }
 
 // run takes the steps: whether none was refused that may be, and what is wrong.
@@ -334,18 +341,76 @@ func (t *Test) pass(g *Group, start Start) {
 	}
 }
 
-// Main runs the suite of the file os.Args[1], and reports; os.Args[2] is a file for JUnit's XML. The
-// status is 0 if no test failed. If os.Args[1] is --lines, it speaks the line protocol instead.
-func Main(name string, start Start) {
-	if len(os.Args) < 2 {
-		fmt.Fprintf(os.Stderr, "usage: %s SUITE.json [JUNIT.xml]\n       %[1]s --lines\n", name)
-		os.Exit(2)
+const usage = `usage: %s SUITE.json [JUNIT.xml] [--only WORDS]
+       %[1]s --lines
+
+It runs the suite, and reports. JUNIT.xml gets each test. --only runs a part: the tests that have one
+of the words, which are joined by commas, as number, pattern or flag. The status is 0 if no test
+failed, 1 if one did, and 2 if nothing was run. --lines speaks the line protocol instead.
+`
+
+// end ends the program with the status 2.
+func end(format string, of ...any) {
+	fmt.Fprintf(os.Stderr, format, of...)
+	os.Exit(2)
+}
+
+// wordsOf returns the words of the command line but --only, and what that chooses.
+func wordsOf(name string) (words []string, only string) {
+	for i := 1; i < len(os.Args); i++ {
+		if os.Args[i] == "--only" && i+1 < len(os.Args) {
+			i++
+			only = os.Args[i]
+		} else {
+			words = append(words, os.Args[i])
+		}
 	}
-	if os.Args[1] == "--lines" {
+	if len(words) > 0 && (words[0] == "--help" || words[0] == "-h") {
+		fmt.Printf(usage, name)
+		os.Exit(0)
+	}
+	if len(words) != 1 && len(words) != 2 || words[0] == "--only" {
+		end(usage, name)
+	}
+	return words, only
+}
+
+// chosen returns the tests of the groups: those that only names, or all.
+func chosen(groups []*Group, only string) (tests []*Test, err error) {
+	found := map[string]bool{}
+	for _, word := range strings.Split(only, ",") {
+		found[word] = only == ""
+	}
+	for _, g := range groups {
+		for _, t := range g.Tests {
+			t.group, t.pattern = g, g.name()
+			is := only == ""
+			for _, has := range append([]string{strconv.Itoa(t.ID), t.pattern}, t.Flags...) {
+				if _, wanted := found[has]; wanted {
+					found[has], is = true, true
+				}
+			}
+			if is {
+				tests = append(tests, t)
+			}
+		}
+	}
+	for word, is := range found {
+		if !is {
+			return nil, fmt.Errorf("no test has the number, pattern or flag %s", word)
+		}
+	}
+	return tests, nil
+}
+
+// Main runs the suite of the first word of the command line, and reports; see usage.
+func Main(name string, start Start) {
+	words, only := wordsOf(name)
+	if words[0] == "--lines" {
 		speak(start)
 		return
 	}
-	text, err := os.ReadFile(os.Args[1])
+	text, err := os.ReadFile(words[0])
 	var suite struct {
 		Notes  map[string]note
 		Groups []*Group `json:"testGroups"`
@@ -353,23 +418,20 @@ func Main(name string, start Start) {
 	if err == nil {
 		err = json.Unmarshal(text, &suite)
 	}
-	if err != nil {
-		fmt.Fprintln(os.Stderr, err)
-		os.Exit(2)
-	}
 	var tests []*Test
-	for _, g := range suite.Groups {
-		for _, t := range g.Tests {
-			t.pattern = g.name()
-			t.pass(g, start)
-			tests = append(tests, t)
-		}
+	if err == nil {
+		tests, err = chosen(suite.Groups, only)
+	}
+	if err != nil {
+		end("%s: %v\n", name, err)
+	}
+	for _, t := range tests {
+		t.pass(t.group, start)
 	}
 	failed := printReport(tests, suite.Notes)
-	if len(os.Args) > 2 {
-		if err := writeJUnit(os.Args[2], name, tests); err != nil {
-			fmt.Fprintln(os.Stderr, err)
-			os.Exit(2)
+	if len(words) > 1 {
+		if err := writeJUnit(words[1], name, tests); err != nil {
+			end("%s: %v\n", name, err)
 		}
 	}
 	if failed {
@@ -470,16 +532,34 @@ func printReport(tests []*Test, notes map[string]note) (failed bool) {
 		fmt.Printf("%-28s %-7s %7d %7d %7d\n", flag, notes[flag].Kind,
 			count["passed"], count["failed"], count["not run"])
 	}
-	for _, t := range tests {
-		if t.outcome == "failed" {
-			fmt.Printf("failed %d %s %s: %s: %s\n", t.ID, t.pattern, strings.Join(t.Flags, ","), t.Comment, t.why)
-		}
-	}
+	printFailures(tests, flags)
 	for _, it := range why {
 		fmt.Printf("not run %d: %s\n", reasons[it], it)
 	}
 	fmt.Printf("%d passed, %d failed, %d not run\n", total["passed"], total["failed"], total["not run"])
 	return total["failed"] > 0
+}
+
+// printFailures prints the tests that failed, by their first flag: those first that accept what has
+// to be refused.
+func printFailures(tests []*Test, flags []string) {
+	for _, head := range []string{"accepted, and has to be refused", "other failures"} {
+		var some []*Test
+		for _, flag := range flags {
+			for _, t := range tests {
+				isAccepted := strings.Contains(t.why, "and has to be refused")
+				if t.Flags[0] == flag && t.outcome == "failed" && isAccepted == (head[0] == 'a') {
+					some = append(some, t)
+				}
+			}
+		}
+		if len(some) > 0 {
+			fmt.Printf("%s: %d\n", head, len(some))
+		}
+		for _, t := range some {
+			fmt.Printf("failed %d %s %s: %s: %s\n", t.ID, t.pattern, strings.Join(t.Flags, ","), t.Comment, t.why)
+		}
+	}
 }
 
 type junitMessage struct {

@@ -52,6 +52,11 @@ fn from_hex(digits: &str) -> Vec<u8> {
     digits.as_bytes().chunks(2).map(|it| u8::from_str_radix(std::str::from_utf8(it).unwrap(), 16).unwrap()).collect()
 }
 
+/// The first bytes as hex digits.
+fn to_hex(data: &[u8]) -> String {
+    data.iter().take(200).map(|it| format!("{:02x}", it)).collect()
+}
+
 fn bytes_of(value: &Value) -> Vec<u8> {
     match value {
         Value::Text(digits) => from_hex(digits),
@@ -130,22 +135,26 @@ impl<'a, F: Fn(&Setup) -> Result<Box<dyn Party>, Fault>> Run<'a, F> {
         }
     }
 
-    /// Whether a step gave what the suite says.
-    fn is_right(&self, step: &Value, got: &[u8]) -> bool {
+    /// Compares what a step gave with what the suite says.
+    fn compare(&self, step: &Value, got: Vec<u8>) -> Result<(), Outcome> {
         let wanted = match step.text("do") {
             "write" => step.get("is").or_else(|| self.message(step)?.get("message")),
             "read" => step.get("payload").or_else(|| self.message(step)?.get("payload")),
             "hash" => self.group.get("hash"),
             "remote" => step.get("is"),
-            _ => return true,
+            _ => return Ok(()),
         };
-        match wanted {
+        let (got, right) = match wanted {
             Some(value) if !value.text("sha256").is_empty() => {
-                openssl::sha::sha256(got)[..] == from_hex(value.text("sha256"))
+                (openssl::sha::sha256(&got).to_vec(), from_hex(value.text("sha256")))
             }
-            Some(value) => bytes_of(value) == got,
-            None => false,
+            Some(value) => (got, bytes_of(value)),
+            None => (got, Vec::new()),
+        };
+        if got == right {
+            return Ok(());
         }
+        Err(Outcome::Failed(format!("{}: {} in place of {}", step.text("do"), to_hex(&got), to_hex(&right))))
     }
 
     /// Takes a step; an outcome ends the test.
@@ -174,10 +183,11 @@ impl<'a, F: Fn(&Setup) -> Result<Box<dyn Party>, Fault>> Run<'a, F> {
             }
             Err(Fault::Refused(..)) => Ok(()),
             Ok(_) if !refused.is_empty() => {
-                Err(Outcome::Failed(format!("{} was accepted, and has to be refused: {}", step.text("do"), refused)))
+                let at = if step.text("at").is_empty() { String::new() } else { format!(" at {}", step.text("at")) };
+                let what = step.text("do");
+                Err(Outcome::Failed(format!("{} was accepted, and has to be refused: {}{}", what, refused, at)))
             }
-            Ok(got) if self.is_right(step, &got) => Ok(()),
-            Ok(_) => Err(Outcome::Failed(format!("{}: other bytes", step.text("do")))),
+            Ok(got) => self.compare(step, got),
         }
     }
 
@@ -217,37 +227,98 @@ impl<'a, F: Fn(&Setup) -> Result<Box<dyn Party>, Fault>> Run<'a, F> {
     }
 }
 
-/// Runs the suite of the first argument, and reports; the second is a file for JUnit's XML. The status is that of the
-/// program: 0 if no test failed.
-pub fn run<F: Fn(&Setup) -> Result<Box<dyn Party>, Fault>>(name: &str, start: F) -> i32 {
-    let words: Vec<String> = std::env::args().collect();
-    let text = words.get(1).and_then(|path| std::fs::read_to_string(path).ok());
-    let suite = match text.as_deref().and_then(read) {
-        Some(suite) => suite,
-        None => {
-            eprintln!("usage: {} SUITE.json [JUNIT.xml]", name);
-            return 2;
+const USAGE: &str = "SUITE.json [JUNIT.xml] [--only WORDS]
+
+It runs the suite, and reports. JUNIT.xml gets each test. --only runs a part: the tests that have one of the
+words, which are joined by commas, as number, pattern or flag. The status is 0 if no test failed, 1 if one did,
+and 2 if nothing was run.";
+
+/// The words of the command line but `--only`, and those that it has; none if they can't be read.
+fn words_of(mut given: impl Iterator<Item = String>) -> Option<(Vec<String>, Vec<String>)> {
+    let (mut files, mut only) = (Vec::new(), Vec::new());
+    while let Some(word) = given.next() {
+        match word.as_str() {
+            "--only" => only = given.next()?.split(',').map(String::from).collect(),
+            _ => files.push(word),
         }
-    };
-    let mut report = Report::new(&suite);
+    }
+    if files.len() == 1 || files.len() == 2 {
+        Some((files, only))
+    } else {
+        None
+    }
+}
+
+type Tests<'a> = Vec<(&'a Value, &'a Value)>;
+
+/// The tests of the suite, each with its group: those that have one of the words, or all. An error is a word that no
+/// test has.
+fn chosen<'a>(suite: &'a Value, only: &[String]) -> Result<Tests<'a>, String> {
+    let mut found = vec![false; only.len()];
+    let mut tests = Vec::new();
     for group in suite.list("testGroups") {
+        let pattern = pattern_name(group);
         for test in group.list("tests") {
-            let kind = group.text("type");
-            let setup = if kind == "NoiseStart" { test } else { group };
-            let (parties, written) = (HashMap::new(), HashMap::new());
-            let mut it = Run { group: setup, test, start: &start, parties, written };
-            let outcome = catch_unwind(AssertUnwindSafe(|| it.run(kind)));
-            report.add(group, test, outcome.unwrap_or_else(|_| Outcome::Failed("crashed".into())));
+            let number = test.number("tcId").unwrap_or(0).to_string();
+            let mut is_chosen = only.is_empty();
+            for (word, found) in only.iter().zip(&mut found) {
+                if *word == number || *word == pattern || flags(test).any(|it| it == word) {
+                    *found = true;
+                    is_chosen = true;
+                }
+            }
+            if is_chosen {
+                tests.push((group, test));
+            }
         }
+    }
+    match found.iter().position(|is| !is) {
+        Some(at) => Err(format!("no test has the number, pattern or flag {}", only[at])),
+        None => Ok(tests),
+    }
+}
+
+/// Runs the suite of the first word of the command line, and reports. The status is that of the program: 0 if no test
+/// failed.
+pub fn run<F: Fn(&Setup) -> Result<Box<dyn Party>, Fault>>(name: &str, start: F) -> i32 {
+    if std::env::args().any(|it| it == "--help" || it == "-h") {
+        println!("usage: {} {}", name, USAGE);
+        return 0;
+    }
+    let outcome = match words_of(std::env::args().skip(1)) {
+        Some((files, only)) => run_files(name, &files, &only, &start),
+        None => Err(format!("usage: {} {}", name, USAGE)),
+    };
+    match outcome {
+        Ok(failed) => i32::from(failed),
+        Err(why) => {
+            eprintln!("{}", why);
+            2
+        }
+    }
+}
+
+/// Runs the chosen tests of a file, and writes the reports: whether one failed.
+fn run_files<F>(name: &str, files: &[String], only: &[String], start: &F) -> Result<bool, String>
+where
+    F: Fn(&Setup) -> Result<Box<dyn Party>, Fault>,
+{
+    let text = std::fs::read_to_string(&files[0]).map_err(|error| format!("{}: {}", files[0], error))?;
+    let suite = read(&text).ok_or_else(|| format!("{} is no suite", files[0]))?;
+    let mut report = Report::new(&suite);
+    for (group, test) in chosen(&suite, only)? {
+        let kind = group.text("type");
+        let setup = if kind == "NoiseStart" { test } else { group };
+        let mut it = Run { group: setup, test, start, parties: HashMap::new(), written: HashMap::new() };
+        let outcome = catch_unwind(AssertUnwindSafe(|| it.run(kind)));
+        report.add(group, test, outcome.unwrap_or_else(|_| Outcome::Failed("crashed".into())));
     }
     let failed = report.print();
-    if let Some(path) = words.get(2) {
-        if let Err(error) = std::fs::write(path, report.junit(name)) {
-            eprintln!("{}: {}", path, error);
-            return 2;
-        }
+    match files.get(1) {
+        Some(path) => std::fs::write(path, report.junit(name)).map_err(|error| format!("{}: {}", path, error))?,
+        None => {}
     }
-    i32::from(failed)
+    Ok(failed)
 }
 
 /// What came of the tests.
@@ -324,17 +395,36 @@ impl<'a> Report<'a> {
         for (flag, [passed, failed, not_run]) in &tallies {
             println!("{:28} {:7} {:7} {:7} {:7}", flag, self.kind(flag), passed, failed, not_run);
         }
-        for Row { pattern, test, outcome } in &self.rows {
-            if let Outcome::Failed(why) = outcome {
-                let (id, names) = (test.number("tcId").unwrap_or(0), flags(test).collect::<Vec<_>>().join(","));
-                println!("failed {} {} {}: {}: {}", id, pattern, names, test.text("comment"), why);
-            }
-        }
+        let order: Vec<&str> = tallies.iter().map(|(flag, _)| *flag).collect();
+        self.print_failures("accepted, and has to be refused", &order, true);
+        self.print_failures("other failures", &order, false);
         for (why, counts) in &reasons {
             println!("not run {}: {}", counts[2], why);
         }
         println!("{} passed, {} failed, {} not run", total[0], total[1], total[2]);
         total[1] > 0
+    }
+
+    /// Prints the tests that failed, by their first flag: those that accept what has to be refused, or all others.
+    fn print_failures(&self, head: &str, order: &[&str], accepted: bool) {
+        let mut some = Vec::new();
+        for Row { pattern, test, outcome } in &self.rows {
+            match outcome {
+                Outcome::Failed(why) if why.contains("and has to be refused") == accepted => {
+                    let first = flags(test).next();
+                    some.push((order.iter().position(|it| Some(*it) == first), pattern, test, why));
+                }
+                _ => {}
+            }
+        }
+        some.sort_by_key(|it| it.0);
+        if !some.is_empty() {
+            println!("{}: {}", head, some.len());
+        }
+        for (_, pattern, test, why) in some {
+            let (id, names) = (test.number("tcId").unwrap_or(0), flags(test).collect::<Vec<_>>().join(","));
+            println!("failed {} {} {}: {}: {}", id, pattern, names, test.text("comment"), why);
+        }
     }
 
     /// JUnit's XML: a test case for each test, whose class is its first flag.
