@@ -79,7 +79,7 @@ def test_cookies_of_old_secrets(each_loop):
                 raw.transport.sendto(first_message(number))
                 replies.append(await raw.next())
             for number, (reply, kind) in enumerate(zip(replies, (1, 9)), 1):
-                server._cookies._since -= rules.PERIOD + 10
+                server._cookies._secrets = [(it, drawn - rules.PERIOD - 10) for it, drawn in server._cookies._secrets]
                 raw.transport.sendto(b"\x0a" + reply[17:] + first_message(number)[1:])
                 assert (await raw.next())[0] == kind
     run(main)
