@@ -408,7 +408,7 @@ func (l *PacketListener) connect(b *begunPackets, channel *packetChannel, from n
 	for other := range l.at[b.key.addr] {
 		l.drop(other)
 	}
-	l.makeRoom(s)
+	l.makeRoom(s, b.key.addr)
 	l.sessions[channel.index], l.firsts[b.key.first] = s, s
 	l.mutex.Unlock()
 	for _, datagram := range out {
@@ -433,11 +433,12 @@ func (l *PacketListener) connect(b *begunPackets, channel *packetChannel, from n
 	}
 }
 
-// makeRoom ends the sessions that a new one replaces: of the same address and static key, or the longest silent.
-func (l *PacketListener) makeRoom(s *PacketSession) {
+// makeRoom ends the sessions that a new one replaces: of the same address and static key, or the longest silent. The
+// address is that of the handshake, since anybody can send the first transport datagram in the name of another.
+func (l *PacketListener) makeRoom(s *PacketSession, addr string) {
 	var silent *PacketSession
 	for _, other := range l.sessions {
-		if isSame(s, other) {
+		if other.RemoteAddr().String() == addr && isSameKey(s, other) {
 			l.forgetHeld(other)
 			other.end(&packetError{"a new session of its address and key has replaced it", nil})
 		} else if silent == nil || other.silentSince().Before(silent.silentSince()) {
@@ -450,11 +451,10 @@ func (l *PacketListener) makeRoom(s *PacketSession) {
 	}
 }
 
-// isSame reports whether two sessions are of one program, which has begun anew.
-func isSame(one, other *PacketSession) bool {
+// isSameKey reports whether both have the same static key, or neither has one.
+func isSameKey(one, other *PacketSession) bool {
 	a, b := one.channel.state.PeerStatic, other.channel.state.PeerStatic
-	isSameKey := a == nil && b == nil || a != nil && b != nil && *a == *b
-	return isSameKey && one.RemoteAddr().String() == other.RemoteAddr().String()
+	return a == nil && b == nil || a != nil && b != nil && *a == *b
 }
 
 func (l *PacketListener) forget(s *PacketSession) {

@@ -246,3 +246,25 @@ def test_a_peer_that_is_closed_as_it_connects_gets_no_payload(each_loop, monkeyp
             assert server.came.empty() and not server._peers and not server._firsts
             channel.close()
     run(main)
+
+
+def test_a_session_that_begins_at_another_address_than_its_handshake_replaces_none(each_loop):
+    """Where clients have no static key, somebody who sends in the name of another could end that one's session."""
+    async def main(_result):
+        first, second = configs("NN")
+        async with server_behind(second) as (server, address), raw_at(address) as raw, raw_at(address) as other:
+            channel, stranger = DatagramChannel(first, True), DatagramChannel(first, True)
+            await raw.shake(channel)
+            await until(lambda: len(server.peers) == 1)
+            for datagram in stranger.datagrams_to_send():
+                other.transport.sendto(datagram)
+            stranger.receive(await other.next())
+            for datagram in stranger.datagrams_to_send():    # the empty one, which opens
+                raw.transport.sendto(datagram)
+            await until(lambda: len(server.peers) == 2)
+            assert not server.lost
+            channel.send(b"still here")
+            assert await raw.answer(channel) == b"still here"
+            for it in (channel, stranger):
+                it.close()
+    run(main)

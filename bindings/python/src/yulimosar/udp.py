@@ -289,7 +289,7 @@ class DatagramProtocol(asyncio.DatagramProtocol):
             channel.close()
             return None
         peer = DatagramPeer(self, channel, address)
-        for other_peer in [it for it in self._peers.values() if _same(it, peer)]:
+        for other_peer in [it for it in self._peers.values() if _replaces(peer, begun.address, it)]:
             self._lose(other_peer, None)
         if len(self._peers) >= self._most_peers:
             self._lose(min(self._peers.values(), key=lambda it: it.heard), None)
@@ -374,6 +374,7 @@ class DatagramProtocol(asyncio.DatagramProtocol):
             logger.error("handshake with %s: %s", address, fault, exc_info=cause)
 
 
-def _same(one: DatagramPeer, other: DatagramPeer) -> bool:
-    """Whether two sessions are of one program: one that has begun anew."""
-    return one.address == other.address and one.noise.peer_key == other.noise.peer_key
+def _replaces(peer: DatagramPeer, address: Any, other: DatagramPeer) -> bool:
+    """Whether a new session is of the same program as another one: one that has begun anew. What counts is the address
+    of the handshake, since anybody can send the first transport datagram in the name of another address."""
+    return other.address == address and other.noise.peer_key == peer.noise.peer_key

@@ -1,0 +1,178 @@
+package noise
+
+import (
+	"bytes"
+	"context"
+	"errors"
+	"net"
+	"os"
+	"testing"
+	"time"
+)
+
+// rawPacket is a client of a listener without an endpoint: a socket for each address that it has.
+type rawPacket struct {
+	t       *testing.T
+	to      net.Addr
+	channel *packetChannel
+}
+
+func newRawPacket(t *testing.T, config *Config, to net.Addr) *rawPacket {
+	t.Helper()
+	channel, err := newPacketChannel(context.Background(), config, true, 64, to)
+	if err != nil {
+		t.Fatal(err)
+	}
+	t.Cleanup(channel.close)
+	return &rawPacket{t, to, channel}
+}
+
+func rawSocket(t *testing.T) net.PacketConn {
+	t.Helper()
+	conn, err := net.ListenPacket("udp", "127.0.0.1:0")
+	if err != nil {
+		t.Fatal(err)
+	}
+	t.Cleanup(func() { conn.Close() })
+	return conn
+}
+
+// send sends what the channel has to send.
+func (r *rawPacket) send(conn net.PacketConn) {
+	r.t.Helper()
+	for _, it := range r.channel.toSend() {
+		if _, err := conn.WriteTo(it, r.to); err != nil {
+			r.t.Fatal(err)
+		}
+	}
+}
+
+// next returns the next datagram; nil if none comes.
+func (r *rawPacket) next(conn net.PacketConn, limit time.Duration) []byte {
+	r.t.Helper()
+	room := make([]byte, 65536)
+	conn.SetReadDeadline(time.Now().Add(limit))
+	n, _, err := conn.ReadFrom(room)
+	if errors.Is(err, os.ErrDeadlineExceeded) {
+		return nil
+	} else if err != nil {
+		r.t.Fatal(err)
+	}
+	return room[:n]
+}
+
+// shake runs the handshake of a pattern whose last message is the responder's, until a transport datagram is due.
+func (r *rawPacket) shake(conn net.PacketConn) {
+	r.t.Helper()
+	for r.send(conn); !r.channel.isDone; {
+		datagram := r.next(conn, 20*time.Second)
+		if datagram == nil {
+			r.t.Fatal("no message comes")
+		}
+		r.channel.take(context.Background(), datagram)
+	}
+}
+
+// echoes reports whether a payload that is sent from one socket comes back at another.
+func (r *rawPacket) echoes(from, at net.PacketConn, payload string) bool {
+	r.t.Helper()
+	r.sendTo(from, r.seal(payload))
+	for {
+		datagram := r.next(at, time.Second)
+		if datagram == nil {
+			return false
+		}
+		if datagram[0] == transportByte {
+			if got, isOpen, _ := r.channel.open(datagram); isOpen && string(got) == payload {
+				return true
+			}
+		}
+	}
+}
+
+func (r *rawPacket) seal(payload string) []byte {
+	r.t.Helper()
+	datagram, err := r.channel.seal([]byte(payload))
+	if err != nil {
+		r.t.Fatal(err)
+	}
+	return datagram
+}
+
+func (r *rawPacket) sendTo(from net.PacketConn, datagram []byte) {
+	r.t.Helper()
+	if _, err := from.WriteTo(datagram, r.to); err != nil {
+		r.t.Fatal(err)
+	}
+}
+
+func listenRaw(t *testing.T, pattern string) (l *PacketListener, initiator *Config) {
+	t.Helper()
+	initiator, responder := packetConfigs(t, pattern)
+	l, err := ListenPacket("udp", "127.0.0.1:0", responder)
+	if err != nil {
+		t.Fatal(err)
+	}
+	t.Cleanup(func() { l.Close() })
+	return l, initiator
+}
+
+// TestPacketMoves has a session's address follow the newest datagram that opens, and no other.
+func TestPacketMoves(t *testing.T) {
+	l, initiator := listenRaw(t, "IK")
+	echoPackets(l)
+	client, first, second, stranger := newRawPacket(t, initiator, l.Addr()), rawSocket(t), rawSocket(t), rawSocket(t)
+	client.shake(first)
+	client.send(first)
+	if !client.echoes(first, first, "here") {
+		t.Fatal("nothing comes back")
+	}
+	late, newest := client.seal("late"), client.seal("newest")
+	client.sendTo(first, newest)
+	forged := client.seal("forged")
+	forged[len(forged)-1] ^= 1
+	ahead := append(append([]byte(nil), newest[:9]...), bytes.Repeat([]byte{0x7f}, 40)...) // of a greater nonce
+	for _, it := range [][]byte{forged, ahead, newest, late} {
+		client.sendTo(stranger, it)
+	}
+	client.sendTo(first, client.seal("here")) // of the greatest nonce, so all others were taken before it comes back
+	for _, want := range []string{"newest", "late", "here"} {
+		datagram := client.next(first, 20*time.Second)
+		if datagram == nil {
+			t.Fatalf("%q doesn't come back", want)
+		}
+		if got, isOpen, _ := client.channel.open(datagram); !isOpen || string(got) != want {
+			t.Errorf("%q, and not %q", got, want)
+		}
+	}
+	if client.next(stranger, 50*time.Millisecond) != nil {
+		t.Error("a session has moved to a stranger")
+	}
+	if !client.echoes(second, second, "moved") {
+		t.Error("a session doesn't follow its client")
+	}
+}
+
+// TestPacketBeginsElsewhere has a stranger begin a session in the name of another client: where clients have no static
+// key, that must not end the other's.
+func TestPacketBeginsElsewhere(t *testing.T) {
+	l, initiator := listenRaw(t, "NN")
+	accepted := echoPackets(l)
+	client, own := newRawPacket(t, initiator, l.Addr()), rawSocket(t)
+	client.shake(own)
+	client.send(own)
+	if !client.echoes(own, own, "here") {
+		t.Fatal("nothing comes back")
+	}
+	stranger, theirs := newRawPacket(t, initiator, l.Addr()), rawSocket(t)
+	stranger.shake(theirs)
+	stranger.send(own) // the empty datagram, from the client's address
+	for until := time.Now().Add(20 * time.Second); accepted() < 2; time.Sleep(time.Millisecond) {
+		if time.Now().After(until) {
+			t.Fatal("the second session isn't there")
+		}
+	}
+	if !client.echoes(own, own, "still here") {
+		t.Error("a stranger has ended a session")
+	}
+}
