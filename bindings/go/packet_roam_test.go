@@ -176,3 +176,24 @@ func TestPacketBeginsElsewhere(t *testing.T) {
 		t.Error("a stranger has ended a session")
 	}
 }
+
+// TestPacketDoneHasTime has a client that is done late in its time, and sends its first transport datagram after that.
+func TestPacketDoneHasTime(t *testing.T) {
+	initiator, responder := packetConfigs(t, "XX")
+	responder.HandshakeTimeout = 1500 * time.Millisecond
+	l, err := ListenPacket("udp", "127.0.0.1:0", responder)
+	if err != nil {
+		t.Fatal(err)
+	}
+	defer l.Close()
+	echoPackets(l)
+	client, own := newRawPacket(t, initiator, l.Addr()), rawSocket(t)
+	client.send(own)
+	client.channel.take(context.Background(), client.next(own, 20*time.Second))
+	time.Sleep(1100 * time.Millisecond)
+	client.send(own) // message 2
+	time.Sleep(800 * time.Millisecond)
+	if !client.echoes(own, own, "late") {
+		t.Error("the listener has forgotten a session of which its client knows")
+	}
+}

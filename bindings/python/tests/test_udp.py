@@ -248,6 +248,26 @@ def test_a_peer_that_is_closed_as_it_connects_gets_no_payload(each_loop, monkeyp
     run(main)
 
 
+def test_a_handshake_that_is_done_has_its_time_anew(each_loop):
+    """Else a client that is the first to know of the session would have one of which the server knows nothing."""
+    async def main(_result):
+        first, second = configs("XX", handshake_timeout=1.5)
+        async with server_behind(second) as (server, address), raw_at(address) as raw:
+            channel = DatagramChannel(first, True)
+            raw.transport.sendto(channel.datagrams_to_send()[0])
+            channel.receive(await raw.next())
+            await asyncio.sleep(1.1)
+            raw.transport.sendto(channel.datagrams_to_send()[0])
+            while channel.agreed is None:
+                channel.receive(await raw.next())
+            await asyncio.sleep(0.8)    # 1.9 s after message 0
+            channel.send(b"text")
+            raw.transport.sendto(channel.datagrams_to_send()[-1])
+            await until(lambda: server.peers)
+            channel.close()
+    run(main)
+
+
 def test_a_session_that_begins_at_another_address_than_its_handshake_replaces_none(each_loop):
     """Where clients have no static key, somebody who sends in the name of another could end that one's session."""
     async def main(_result):

@@ -254,7 +254,11 @@ class DatagramProtocol(asyncio.DatagramProtocol):
     def _see(self, begun: _Begun) -> None:
         """Sends what a handshake has to send, and notes its index once it has one."""
         index = begun.channel.index
-        if index is not None and (index in self._peers or self._done.setdefault(index, begun) is not begun):
+        if index is not None and index not in self._peers and index not in self._done:
+            self._done[index] = begun
+            if not self._initiator:
+                begun.since = self.loop.time()    # its time begins anew: the other party may know of the session now
+        elif index is not None and self._done.get(index) is not begun:
             self._close(begun)    # two sessions have the same index
         for datagram in begun.channel.datagrams_to_send():
             if self._initiator or begun.may_send(len(datagram)):
