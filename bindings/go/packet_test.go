@@ -527,8 +527,13 @@ func TestPacketCookies(t *testing.T) {
 	}
 	defer s.Close()
 	same(t, "the payload", len(s.ConnectionState().Payloads[1]), 1000)
-	if line := <-lines; !strings.Contains(line, "it needs a cookie") {
-		t.Error(line)
+	select {
+	case line := <-lines:
+		if !strings.Contains(line, "it needs a cookie") {
+			t.Error(line)
+		}
+	case <-time.After(20 * time.Second):
+		t.Error("the log has no line on the cookie")
 	}
 	channel, err := newPacketChannel(context.Background(), initiator, true, 64, l.Addr())
 	if err != nil {
