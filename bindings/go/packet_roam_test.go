@@ -135,8 +135,7 @@ func TestPacketMoves(t *testing.T) {
 	for _, it := range [][]byte{forged, ahead, newest, late} {
 		client.sendTo(stranger, it)
 	}
-	client.sendTo(first, client.seal("here")) // of the greatest nonce, so all others were taken before it comes back
-	for _, want := range []string{"newest", "late", "here"} {
+	for _, want := range []string{"newest", "late"} { // nothing else is sent before: it would move the session back
 		datagram := client.next(first, 20*time.Second)
 		if datagram == nil {
 			t.Fatalf("%q doesn't come back", want)
@@ -195,5 +194,40 @@ func TestPacketDoneHasTime(t *testing.T) {
 	time.Sleep(800 * time.Millisecond)
 	if !client.echoes(own, own, "late") {
 		t.Error("the listener has forgotten a session of which its client knows")
+	}
+}
+
+// TestPacketBeginsAnew has a responder that is silent: the initiator begins a handshake each second, and repeats the
+// newest alone.
+func TestPacketBeginsAnew(t *testing.T) {
+	initiator, _ := packetConfigs(t, "XX")
+	initiator.HandshakeTimeout = 2500 * time.Millisecond
+	silent := rawSocket(t)
+	ended := make(chan error, 1)
+	go func() {
+		_, err := DialPacket("udp", silent.LocalAddr().String(), initiator)
+		ended <- err
+	}()
+	var begun [][]byte
+	silent.SetReadDeadline(time.Now().Add(20 * time.Second))
+	for room := make([]byte, 65536); len(begun) < 3; {
+		n, _, err := silent.ReadFrom(room)
+		if err != nil {
+			t.Fatalf("%d handshakes were begun: %v", len(begun), err)
+		}
+		place := len(begun)
+		for i, it := range begun {
+			if bytes.Equal(it, room[:n]) {
+				place = i
+			}
+		}
+		if place == len(begun) {
+			begun = append(begun, append([]byte(nil), room[:n]...))
+		} else if place < len(begun)-1 {
+			t.Error("a handshake that isn't the newest was repeated")
+		}
+	}
+	if err := <-ended; err != ErrHandshakeTimeout {
+		t.Error(err)
 	}
 }
