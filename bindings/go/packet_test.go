@@ -551,6 +551,32 @@ func TestPacketCookies(t *testing.T) {
 	channel.close()
 }
 
+// TestPacketQueueIsBounded has a session that nobody reads: what waits for Read is bounded by its bytes, and comes in its
+// order once it is read.
+func TestPacketQueueIsBounded(t *testing.T) {
+	s := newPacketSession(nil, &packetChannel{}, nil, nil)
+	for i := 0; i < 1000; i++ {
+		s.deliver(append(make([]byte, 60000), byte(i)))
+	}
+	room, whole := make([]byte, 65536), 0
+	for i := 0; len(s.queue) > 0; i++ {
+		n, err := s.Read(room)
+		if err != nil || room[n-1] != byte(i) {
+			t.Fatal(i, n, err)
+		}
+		whole += n
+	}
+	if whole < 60000 || whole > packetQueueBytes {
+		t.Errorf("%d bytes have waited", whole)
+	}
+	for i := 0; i < 1000; i++ { // as much as is read comes in again
+		s.deliver(make([]byte, 60000))
+		if n, err := s.Read(room); n != 60000 || err != nil {
+			t.Fatal(i, n, err)
+		}
+	}
+}
+
 type writerFunc func(line []byte)
 
 func (f writerFunc) Write(line []byte) (int, error) {

@@ -99,6 +99,10 @@ class Flood:
         while self.sent < count:
             await asyncio.sleep(0.01)
 
+    def came(self) -> list[bytes]:
+        """What has come to those who don't answer."""
+        return [datagram for stranger in self._strangers for datagram in stranger.datagrams()]
+
     async def _run(self) -> None:
         loop = asyncio.get_running_loop()
         begun, sent = loop.time(), dict[bytes, bytes]()    # first messages by their hashes

@@ -74,6 +74,9 @@ async def get_in(pair: Pair, addresses: list[str], rate: int, answers: bool = Fa
         clients = await pair.ask(relay.port, 20)
         said = await clients.line(" of 20", PATIENCE * 2)
         wanted(said == "20 of 20", f"{said} right clients got in, while {flood.sent} datagrams came")
+        if not answers:
+            made = sum(it[0] == 1 for it in flood.came())
+            wanted(made < flood.sent / 5, f"{made} of {flood.sent} strangers got message 1 without a cookie")
 
 
 async def flood_from_many(pair: Pair) -> None:
