@@ -231,3 +231,29 @@ func TestPacketBeginsAnew(t *testing.T) {
 		t.Error(err)
 	}
 }
+
+// TestPacketEstablishedAnswersNone has message 0 of an established session repeated, from its address and another one.
+func TestPacketEstablishedAnswersNone(t *testing.T) {
+	l, initiator := listenRaw(t, "IK")
+	echoPackets(l)
+	client, own, other := newRawPacket(t, initiator, l.Addr()), rawSocket(t), rawSocket(t)
+	first := append([]byte{0}, client.channel.first...)
+	client.shake(own)
+	client.send(own)
+	if !client.echoes(own, own, "here") {
+		t.Fatal("nothing comes back")
+	}
+	for _, from := range []net.PacketConn{own, other, own} {
+		client.sendTo(from, first)
+	}
+	client.sendTo(own, client.seal("still here"))
+	if datagram := client.next(own, 20*time.Second); datagram == nil || datagram[0] != transportByte {
+		t.Errorf("%x, and no payload", datagram)
+	}
+	if client.next(other, 50*time.Millisecond) != nil || client.next(own, 50*time.Millisecond) != nil {
+		t.Error("message 0 of an established session was answered")
+	}
+	l.mutex.Lock()
+	defer l.mutex.Unlock()
+	same(t, "handshakes", len(l.begun), 0)
+}
