@@ -551,8 +551,8 @@ func TestPacketCookies(t *testing.T) {
 	channel.close()
 }
 
-// TestPacketQueueIsBounded has a session that nobody reads: what waits for Read is bounded by its bytes, and comes in its
-// order once it is read.
+// TestPacketQueueIsBounded has a session that nobody reads: what waits for Read is bounded by its bytes, and comes in
+// its order once it is read.
 func TestPacketQueueIsBounded(t *testing.T) {
 	s := newPacketSession(nil, &packetChannel{}, nil, nil)
 	for i := 0; i < 1000; i++ {
