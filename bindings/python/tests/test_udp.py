@@ -288,3 +288,30 @@ def test_a_session_that_begins_at_another_address_than_its_handshake_replaces_no
             for it in (channel, stranger):
                 it.close()
     run(main)
+
+
+def test_nothing_is_kept_for_a_socket_that_takes_no_more(each_loop):
+    """asyncio keeps what a socket doesn't take: strangers could make that grow."""
+    class Full(asyncio.DatagramTransport):
+        sent, kept = 0, 0
+
+        def sendto(self, data, addr=None):
+            self.sent, self.kept = self.sent + 1, self.kept + len(data)
+            if self.kept > 1 << 16:
+                server.pause_writing()
+
+    async def main(_result):
+        nonlocal server
+        server = udp.DatagramProtocol(configs("XX")[1], False)
+        full = Full()
+        server.connection_made(full)
+        for number in range(5000):
+            server.datagram_received(first_message(number), ("127.0.0.1", 1 + number))
+        assert full.kept < 66000
+        before, full.kept = full.sent, 0
+        server.resume_writing()
+        server.datagram_received(first_message(5000), ("127.0.0.1", 9999))
+        assert full.sent == before + 1
+        server.connection_lost(None)
+    server = None
+    run(main)

@@ -90,6 +90,7 @@ class DatagramProtocol(asyncio.DatagramProtocol):
         self._at: dict[Any, list[_Begun]] = {}    # the same by address alone
         self._done: dict[bytes, _Begun] = {}    # those whose messages have all passed, by index
         self._cookies, self._rate = rules.Cookies(), rules.Rate()
+        self._is_full = False    # whether the socket takes no more
         self._told = False    # whether the log has a line on answers that need a cookie
         self._started = 0.0    # when an initiator has begun the first
         self._timer: asyncio.TimerHandle | None = None
@@ -122,6 +123,13 @@ class DatagramProtocol(asyncio.DatagramProtocol):
             self._lose(peer, exc)
         if not self.connected.done():
             self.connected.set_exception(exc or HandshakeTimeout("the socket was closed in the handshake"))
+
+    def pause_writing(self) -> None:
+        """The socket takes no more: what is sent until `resume_writing` is lost, as anybody could make it grow."""
+        self._is_full = True
+
+    def resume_writing(self) -> None:
+        self._is_full = False
 
     def error_received(self, exc: Exception) -> None:
         """A datagram couldn't be sent, as to a port where nobody listens yet: it counts as lost."""
@@ -305,7 +313,7 @@ class DatagramProtocol(asyncio.DatagramProtocol):
         return peer
 
     def _send(self, datagram: bytes, address: Any) -> None:
-        if self._transport is not None:
+        if self._transport is not None and not self._is_full:
             self._transport.sendto(datagram, address)
 
     def _flush(self, channel: DatagramChannel, address: Any) -> None:
