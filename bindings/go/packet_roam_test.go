@@ -257,3 +257,47 @@ func TestPacketEstablishedAnswersNone(t *testing.T) {
 	defer l.mutex.Unlock()
 	same(t, "handshakes", len(l.begun), 0)
 }
+
+// TestPacketCookieIsNeeded has a cookie that is wrong, one of another address, and the right one.
+func TestPacketCookieIsNeeded(t *testing.T) {
+	initiator, responder := packetConfigs(t, "XX")
+	l, err := PacketConfig{Config: responder, CookiesFrom: -1}.Listen("udp", "127.0.0.1:0")
+	if err != nil {
+		t.Fatal(err)
+	}
+	defer l.Close()
+	client, own, other := newRawPacket(t, initiator, l.Addr()), rawSocket(t), rawSocket(t)
+	client.send(own)
+	reply := client.next(own, 20*time.Second)
+	same(t, "the length of the first answer", len(reply), cookieReplyLen)
+	right := append([]byte(nil), cookieIn(reply, client.channel.first)...)
+	wrong := append([]byte(nil), right...)
+	wrong[15] ^= 1
+	for _, it := range []struct {
+		from   net.PacketConn
+		cookie []byte
+		kind   byte
+	}{{own, wrong, cookieReplyByte}, {other, right, cookieReplyByte}, {own, right, 1}, {own, wrong, 1}} {
+		client.sendTo(it.from, withCookie(it.cookie, client.channel.first))
+		if answer := client.next(it.from, 20*time.Second); answer == nil || answer[0] != it.kind {
+			t.Errorf("%x is answered by %x, and not by %d", it.cookie, answer, it.kind)
+		}
+	}
+}
+
+// TestPacketClosesOthers has a client with two handshakes: once one is established the other is closed.
+func TestPacketClosesOthers(t *testing.T) {
+	l, initiator := listenRaw(t, "NN")
+	echoPackets(l)
+	own := rawSocket(t)
+	first, second := newRawPacket(t, initiator, l.Addr()), newRawPacket(t, initiator, l.Addr())
+	second.shake(own)
+	first.shake(own)
+	first.send(own)
+	if !first.echoes(own, own, "here") {
+		t.Error("nothing comes back")
+	}
+	l.mutex.Lock()
+	defer l.mutex.Unlock()
+	same(t, "handshakes", len(l.begun)+len(l.at)+len(l.done), 0)
+}

@@ -77,7 +77,13 @@ class Flood:
     def __init__(self, port: int, addresses: list[str], rate: int, answers: bool) -> None:
         self._port, self._rate, self._answers = port, rate, answers
         self._strangers = [Stranger(address) for address in addresses]
-        self.sent = 0
+        self.sent = self.begun = 0    # datagrams, and handshakes that began by an answered cookie
+        self._since = asyncio.get_running_loop().time()
+
+    @property
+    def seconds(self) -> float:
+        """How long it lasts."""
+        return asyncio.get_running_loop().time() - self._since
 
     @classmethod
     @contextlib.asynccontextmanager
@@ -121,6 +127,7 @@ class Flood:
 
     def _answer(self, stranger: Stranger, datagram: bytes, sent: dict[bytes, bytes]) -> None:
         """Sends a first message again, with the cookie that has come for it."""
+        self.begun += datagram[:1] == b"\x01"
         if datagram[:1] == b"\x09" and datagram[1:17] in sent:
             stranger.send(b"\x0a" + datagram[17:] + sent[datagram[1:17]], self._port)
 
@@ -136,6 +143,7 @@ class Relay(asyncio.DatagramProtocol):
         self._ways: dict[object, tuple[_Sender, object]] = {}
         self._hook: tuple[int, Callable[[bytes], bool]] | None = None
         self._closing: list[_Sender] = []
+        self._holds, self.held = False, b""
         self.port = 0
         self.went: list[bytes] = []    # the last datagrams to the server
 
@@ -161,6 +169,10 @@ class Relay(asyncio.DatagramProtocol):
         """Calls a function at the first datagram of a kind from the server, which says whether that is passed on."""
         self._hook = kind, hook
 
+    def hold(self) -> None:
+        """Keeps the next transport datagram to the server, and doesn't pass it on: `held`."""
+        self._holds = True
+
     def move(self, source: str) -> None:
         """Another address for all clients; what comes to the one before is lost."""
         self._source = source
@@ -170,6 +182,9 @@ class Relay(asyncio.DatagramProtocol):
         self._ways.clear()
 
     def datagram_received(self, data: bytes, addr: object) -> None:
+        if self._holds and data[:1] == b"\x08":
+            self._holds, self.held = False, data
+            return
         self.went = [*self.went[-20:], data]
         asyncio.get_running_loop().call_later(self._delay, self._there, data, addr)
 
