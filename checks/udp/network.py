@@ -146,6 +146,7 @@ class Relay(asyncio.DatagramProtocol):
         self._holds, self.held = False, b""
         self.port = 0
         self.went: list[bytes] = []    # the last datagrams to the server
+        self.begun: set[bytes] = set()    # the first messages of clients
 
     @classmethod
     @contextlib.asynccontextmanager
@@ -186,6 +187,8 @@ class Relay(asyncio.DatagramProtocol):
             self._holds, self.held = False, data
             return
         self.went = [*self.went[-20:], data]
+        if data[:1] in (b"\x00", b"\x0a"):
+            self.begun.add(data[1 if data[:1] == b"\x00" else 17:])
         asyncio.get_running_loop().call_later(self._delay, self._there, data, addr)
 
     def _there(self, data: bytes, addr: object) -> None:
