@@ -301,3 +301,53 @@ func TestPacketClosesOthers(t *testing.T) {
 	defer l.mutex.Unlock()
 	same(t, "handshakes", len(l.begun)+len(l.at)+len(l.done), 0)
 }
+
+// TestPacketSilence has two sessions: late datagrams that open keep one; those that are forged, and messages, don't keep
+// the other.
+func TestPacketSilence(t *testing.T) {
+	initiator, responder := packetConfigs(t, "IK")
+	l, err := PacketConfig{Config: responder, Idle: 3 * time.Second}.Listen("udp", "127.0.0.1:0")
+	if err != nil {
+		t.Fatal(err)
+	}
+	defer l.Close()
+	var clients [2]*rawPacket
+	var sockets [2]net.PacketConn
+	var sessions [2]*PacketSession
+	for i := range clients {
+		clients[i], sockets[i] = newRawPacket(t, initiator, l.Addr()), rawSocket(t)
+		clients[i].shake(sockets[i])
+		clients[i].send(sockets[i])
+		if sessions[i], err = l.AcceptSession(); err != nil {
+			t.Fatal(err)
+		}
+	}
+	lost := make(chan error, 1)
+	go func() {
+		_, err := sessions[0].Read(make([]byte, 9))
+		lost <- err
+	}()
+	var late [20][]byte
+	for i := range late {
+		late[len(late)-1-i] = clients[1].seal("late")
+	}
+	forged := clients[0].seal("forged")
+	forged[len(forged)-1] ^= 1
+	for _, it := range late {
+		clients[0].sendTo(sockets[0], forged)
+		clients[0].sendTo(sockets[0], append([]byte{0}, clients[0].channel.first...))
+		clients[1].sendTo(sockets[1], it)
+		select {
+		case err := <-lost:
+			if !errors.Is(err, ErrLost) {
+				t.Error(err)
+			}
+			if isClosed(sessions[1].over) {
+				t.Error("late datagrams don't keep a session")
+			}
+			return
+		case <-time.After(300 * time.Millisecond):
+		}
+	}
+	t.Error("a session is kept by what doesn't open")
+}

@@ -315,3 +315,30 @@ def test_nothing_is_kept_for_a_socket_that_takes_no_more(each_loop):
         server.connection_lost(None)
     server = None
     run(main)
+
+
+def test_what_silence_is(each_loop):
+    """Late datagrams that open keep a session; those that are forged or repeated, and messages, don't."""
+    async def main(_result):
+        first, second = configs("XX")
+        async with server_behind(second, idle=3) as (server, at), raw_at(at) as quiet, raw_at(at) as late:
+            channels = [DatagramChannel(first, True) for _ in range(2)]
+            for number, raw in enumerate((quiet, late)):
+                await raw.shake(channels[number])
+                channels[number].send(b"text")
+                assert await raw.answer(channels[number]) == b"text"
+            for _ in range(20):
+                for channel in channels:
+                    channel.send(b"text")
+            sealed = [channel.datagrams_to_send() for channel in channels]
+            for number in range(19, 0, -1):
+                for datagram in (sealed[0][number][:-1] + b"?", sealed[0][19][:9], channels[0]._own):
+                    quiet.transport.sendto(datagram)
+                late.transport.sendto(sealed[1][number])
+                await asyncio.sleep(0.3)
+                if server.lost:
+                    break
+            assert [(peer, type(fault)) for peer, fault in server.lost] == [(server.peers[0], TimeoutError)]
+            for channel in channels:
+                channel.close()
+    run(main)
