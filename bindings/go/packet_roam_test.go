@@ -302,8 +302,8 @@ func TestPacketClosesOthers(t *testing.T) {
 	same(t, "handshakes", len(l.begun)+len(l.at)+len(l.done), 0)
 }
 
-// TestPacketSilence has two sessions: late datagrams that open keep one; those that are forged, and messages, don't keep
-// the other.
+// TestPacketSilence has two sessions: late datagrams that open keep one; those that are forged, and messages, don't
+// keep the other.
 func TestPacketSilence(t *testing.T) {
 	initiator, responder := packetConfigs(t, "IK")
 	l, err := PacketConfig{Config: responder, Idle: 3 * time.Second}.Listen("udp", "127.0.0.1:0")
