@@ -304,7 +304,8 @@ def prepare() -> None:
 
 def has_namespaces() -> bool:
     """Whether there are namespaces, with IPv6 and links between two of them."""
-    tried = "ip link set lo up && ip link add a type veth peer name b && test -w /proc/sys/net/ipv6/ip_nonlocal_bind"
+    tried = ("ip link set lo up && ip link add name one type veth peer name other && "
+             "test -w /proc/sys/net/ipv6/ip_nonlocal_bind")
     return all(map(shutil.which, ("unshare", "nsenter", "ip"))) and not subprocess.run(
         ["unshare", "-n", "sh", "-c", tried], capture_output=True
     ).returncode
@@ -327,7 +328,7 @@ def main(words: list[str]) -> int:
         print(*asyncio.run(attack(server, parties, only)))
         return 0
     if not has_namespaces():
-        print("udp: left out: attacks over UDP: root, and a network namespace (unshare, nsenter, ip) with IPv6 and veth")
+        print("udp: left out: attacks over UDP: root, a network namespace (unshare, nsenter, ip), IPv6 and veth")
         return 0
     passed, failed = each_server(parties)
     print(f"udp: {passed} attacks on {' and '.join(parties)}, {failed} failed")
