@@ -232,13 +232,15 @@ async def restart_of_the_client(pair: Pair) -> None:
 
 
 async def established(pair: Pair) -> None:
-    """A session goes on during a flood of first messages, and of datagrams with its index."""
+    """A session goes on during a flood of first messages, also of its own host, which answers cookies; and of datagrams
+    with its index."""
     server = await pair.serve()
-    relay = await pair.relay(server.port)
+    relay = await pair.relay(server.port, source="127.3.0.1")
     client = await pair.ask(relay.port)
     await client.line("1 of 1", PATIENCE * 2)
     stranger = Stranger("127.2.0.1")
-    async with pair.flood(server.port, ["127.1.0.1"] * 50, 1000):
+    async with (pair.flood(server.port, ["127.1.0.1"] * 50, 1000),
+                pair.flood(server.port, ["127.3.0.1"] * 50, 100, answers=True)):
         for number in range(20):
             for last in relay.went[-3:]:
                 stranger.send(last[:-1] + bytes([last[-1] ^ 1]), server.port)
