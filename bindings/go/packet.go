@@ -6,6 +6,7 @@ import (
 	"net"
 	"os"
 	"sync"
+	"sync/atomic"
 	"time"
 )
 
@@ -17,6 +18,7 @@ const (
 	packetLimit      = 10 * time.Second       // of a handshake, if the Config doesn't say
 	maxPacketPayload = 65507 - packetOverhead // a datagram of UDP over IPv4 has at most 65507 bytes
 	packetQueue      = 256                    // payloads that wait for Read
+	packetQueueBytes = 1 << 18                // how many bytes they have
 )
 
 // PacketConfig has the settings of sessions over datagrams; its zero values are the defaults of docs/UDP.md.
@@ -108,6 +110,7 @@ type PacketSession struct {
 	forget  func(*PacketSession) // by whom it was made
 	first   []byte               // message 0 of its handshake
 	queue   chan []byte
+	queued  atomic.Int64  // the bytes in it
 	over    chan struct{} // closed once nothing more comes
 	read    deadline
 	write   deadline
@@ -152,12 +155,24 @@ func (s *PacketSession) receive(datagram []byte, from net.Addr) {
 
 // deliver passes a payload to Read. Where nobody reads it is lost, as a datagram may be.
 func (s *PacketSession) deliver(payload []byte) {
-	if len(payload) > 0 {
+	size := int64(len(payload))
+	if size == 0 {
+		return
+	}
+	if s.queued.Add(size) <= packetQueueBytes {
 		select {
 		case s.queue <- payload:
+			return
 		default:
 		}
 	}
+	s.queued.Add(-size)
+}
+
+// taken copies a payload of the queue.
+func (s *PacketSession) taken(b, payload []byte) (int, error) {
+	s.queued.Add(-int64(len(payload)))
+	return copy(b, payload), nil
 }
 
 // Read reads the next payload. What is longer than b is lost, as with UDP. At the end it returns ErrLost, or
@@ -168,19 +183,19 @@ func (s *PacketSession) Read(b []byte) (int, error) {
 	}
 	select {
 	case payload := <-s.queue:
-		return copy(b, payload), nil
+		return s.taken(b, payload)
 	default:
 	}
 	select {
 	case payload := <-s.queue:
-		return copy(b, payload), nil
+		return s.taken(b, payload)
 	case <-s.read.wait():
 		return 0, os.ErrDeadlineExceeded
 	case <-s.over:
 	}
 	select {
 	case payload := <-s.queue: // it came before the end
-		return copy(b, payload), nil
+		return s.taken(b, payload)
 	default:
 		s.mutex.Lock()
 		defer s.mutex.Unlock()

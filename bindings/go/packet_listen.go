@@ -279,18 +279,23 @@ func (l *PacketListener) begin(key begunKey, message []byte, from net.Addr, came
 	b := &begunPackets{
 		key: key, addr: from, host: hostOf(from), in: make(chan arrival, 8), came: came, isShown: isShown,
 	}
-	ctx := l.context
-	if limit := l.settings.limit(); limit > 0 {
-		ctx, b.cancel = context.WithTimeout(ctx, limit)
-	} else {
-		ctx, b.cancel = context.WithCancel(ctx)
-	}
+	ctx := l.limited(b)
 	l.begun[key], b.element = b, l.order.PushBack(b)
 	if l.at[key.addr] == nil {
 		l.at[key.addr] = map[*begunPackets]bool{}
 	}
 	l.at[key.addr][b] = true
 	go l.shake(ctx, b, append([]byte{0}, message...))
+}
+
+// limited returns a context with the time that a handshake has. The mutex is held.
+func (l *PacketListener) limited(b *begunPackets) (ctx context.Context) {
+	if limit := l.settings.limit(); limit > 0 {
+		ctx, b.cancel = context.WithTimeout(l.context, limit)
+	} else {
+		ctx, b.cancel = context.WithCancel(l.context)
+	}
+	return ctx
 }
 
 func (l *PacketListener) givingWay() *begunPackets {
@@ -344,9 +349,11 @@ func (l *PacketListener) shake(ctx context.Context, b *begunPackets, first []byt
 func (l *PacketListener) run(ctx context.Context, b *begunPackets, channel *packetChannel) bool {
 	again := time.NewTicker(resendAfter)
 	defer again.Stop()
-	for {
-		if channel.isDone && !l.note(b, channel.index) {
-			return false
+	for isNoted := false; ; {
+		if channel.isDone && !isNoted {
+			if ctx, isNoted = l.note(b, channel.index); !isNoted {
+				return false
+			}
 		}
 		b.flush(l.conn, channel)
 		select {
@@ -381,18 +388,17 @@ func (b *begunPackets) flush(conn net.PacketConn, channel *packetChannel) {
 	}
 }
 
-// note notes the index of a handshake whose messages have all passed, and reports whether no other has it.
-func (l *PacketListener) note(b *begunPackets, index packetIndex) bool {
+// note notes the index of a handshake whose messages have all passed, and reports whether no other has it. Its time
+// begins anew, since the other party may know of the session now.
+func (l *PacketListener) note(b *begunPackets, index packetIndex) (ctx context.Context, isNoted bool) {
 	l.mutex.Lock()
 	defer l.mutex.Unlock()
-	if b.isDone || l.begun[b.key] != b {
-		return b.isDone
-	}
-	if l.sessions[index] != nil || l.done[index] != nil {
-		return false
+	if l.begun[b.key] != b || l.sessions[index] != nil || l.done[index] != nil {
+		return nil, false
 	}
 	b.isDone, b.index, l.done[index] = true, index, b
-	return true
+	b.cancel()
+	return l.limited(b), true
 }
 
 // connect makes a session of a handshake whose keys have opened a datagram, and reports whether it did.
@@ -408,7 +414,7 @@ func (l *PacketListener) connect(b *begunPackets, channel *packetChannel, from n
 	for other := range l.at[b.key.addr] {
 		l.drop(other)
 	}
-	l.makeRoom(s)
+	l.makeRoom(s, b.key.addr)
 	l.sessions[channel.index], l.firsts[b.key.first] = s, s
 	l.mutex.Unlock()
 	for _, datagram := range out {
@@ -433,11 +439,12 @@ func (l *PacketListener) connect(b *begunPackets, channel *packetChannel, from n
 	}
 }
 
-// makeRoom ends the sessions that a new one replaces: of the same address and static key, or the longest silent.
-func (l *PacketListener) makeRoom(s *PacketSession) {
+// makeRoom ends the sessions that a new one replaces: of the same address and static key, or the longest silent. The
+// address is that of the handshake, since anybody can send the first transport datagram in the name of another.
+func (l *PacketListener) makeRoom(s *PacketSession, addr string) {
 	var silent *PacketSession
 	for _, other := range l.sessions {
-		if isSame(s, other) {
+		if other.RemoteAddr().String() == addr && isSameKey(s, other) {
 			l.forgetHeld(other)
 			other.end(&packetError{"a new session of its address and key has replaced it", nil})
 		} else if silent == nil || other.silentSince().Before(silent.silentSince()) {
@@ -450,11 +457,10 @@ func (l *PacketListener) makeRoom(s *PacketSession) {
 	}
 }
 
-// isSame reports whether two sessions are of one program, which has begun anew.
-func isSame(one, other *PacketSession) bool {
+// isSameKey reports whether both have the same static key, or neither has one.
+func isSameKey(one, other *PacketSession) bool {
 	a, b := one.channel.state.PeerStatic, other.channel.state.PeerStatic
-	isSameKey := a == nil && b == nil || a != nil && b != nil && *a == *b
-	return isSameKey && one.RemoteAddr().String() == other.RemoteAddr().String()
+	return a == nil && b == nil || a != nil && b != nil && *a == *b
 }
 
 func (l *PacketListener) forget(s *PacketSession) {

@@ -208,8 +208,12 @@ func moves(nonce, newest uint64) bool { return nonce > newest }
 // cookies are a responder's secrets: one makes cookies for 120 seconds, and counts for 120 more.
 type cookies struct {
 	draw    func(to []byte) error
-	since   time.Time
-	secrets [][32]byte // the newest first
+	secrets []cookieSecret // the newest first
+}
+
+type cookieSecret struct {
+	bytes [32]byte
+	drawn time.Time
 }
 
 func drawSecret(to []byte) error {
@@ -217,20 +221,19 @@ func drawSecret(to []byte) error {
 	return err
 }
 
-// renew replaces the secret that is too old, and reports whether there is one.
+// renew forgets secrets that no longer count, draws the next one when it is due, and reports whether there is one.
 func (c *cookies) renew(now time.Time) bool {
-	age := now.Sub(c.since)
-	if len(c.secrets) > 0 && age < cookiePeriod {
+	for n := len(c.secrets); n > 0 && now.Sub(c.secrets[n-1].drawn) >= 2*cookiePeriod; n-- {
+		c.secrets = c.secrets[:n-1]
+	}
+	if len(c.secrets) > 0 && now.Sub(c.secrets[0].drawn) < cookiePeriod {
 		return true
 	}
-	made := make([][32]byte, 1, 2)
-	if c.draw(made[0][:]) != nil {
+	made := cookieSecret{drawn: now}
+	if c.draw(made.bytes[:]) != nil {
 		return false
 	}
-	if len(c.secrets) > 0 && age < 2*cookiePeriod {
-		made = append(made, c.secrets[0])
-	}
-	c.secrets, c.since = made, now
+	c.secrets = append([]cookieSecret{made}, c.secrets...)
 	return true
 }
 
@@ -239,7 +242,7 @@ func (c *cookies) make(addr net.Addr, message []byte, now time.Time) []byte {
 	if !c.renew(now) {
 		return nil
 	}
-	return cookieOf(&c.secrets[0], addr, message)
+	return cookieOf(&c.secrets[0].bytes, addr, message)
 }
 
 // accept reports whether a cookie is right.
@@ -249,7 +252,7 @@ func (c *cookies) accept(cookie []byte, addr net.Addr, message []byte, now time.
 	}
 	isRight := false
 	for i := range c.secrets {
-		isRight = hmac.Equal(cookie, cookieOf(&c.secrets[i], addr, message)) || isRight
+		isRight = hmac.Equal(cookie, cookieOf(&c.secrets[i].bytes, addr, message)) || isRight
 	}
 	return isRight
 }

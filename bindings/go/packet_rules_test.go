@@ -35,9 +35,9 @@ type ruleCases struct {
 		Message string
 		Secrets []string
 		Steps   []struct {
-			At       int
-			Cookie   string
-			Accepted bool
+			Milliseconds int
+			Cookie       string
+			Accepted     bool
 		}
 	}
 	Firsts []struct {
@@ -51,7 +51,7 @@ type ruleCases struct {
 		Shown, May         bool
 	}
 	Rates []struct {
-		At           int
+		Milliseconds int
 		Host         string
 		Count, Begin int
 	}
@@ -163,7 +163,7 @@ func TestPacketRulesOfCookies(t *testing.T) {
 	}}
 	for _, it := range given.Steps {
 		isRight := secrets.accept(unhex(t, it.Cookie), udpAddr(given.IP, given.Port), unhex(t, given.Message),
-			start.Add(time.Duration(it.At)*time.Second))
+			start.Add(time.Duration(it.Milliseconds)*time.Millisecond))
 		same(t, fmt.Sprintf("%+v", it), isRight, it.Accepted)
 	}
 	same(t, "secrets that weren't drawn", len(drawn), 0)
@@ -193,7 +193,7 @@ func TestPacketRulesOfFirstMessages(t *testing.T) {
 	for _, it := range cases.Rates {
 		begun := 0
 		for i := 0; i < it.Count; i++ {
-			if rate.allow(it.Host, time.Duration(it.At)*time.Millisecond) {
+			if rate.allow(it.Host, time.Duration(it.Milliseconds)*time.Millisecond) {
 				begun++
 			}
 		}

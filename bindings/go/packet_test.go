@@ -527,8 +527,13 @@ func TestPacketCookies(t *testing.T) {
 	}
 	defer s.Close()
 	same(t, "the payload", len(s.ConnectionState().Payloads[1]), 1000)
-	if line := <-lines; !strings.Contains(line, "it needs a cookie") {
-		t.Error(line)
+	select {
+	case line := <-lines:
+		if !strings.Contains(line, "it needs a cookie") {
+			t.Error(line)
+		}
+	case <-time.After(20 * time.Second):
+		t.Error("the log has no line on the cookie")
 	}
 	channel, err := newPacketChannel(context.Background(), initiator, true, 64, l.Addr())
 	if err != nil {
@@ -544,6 +549,32 @@ func TestPacketCookies(t *testing.T) {
 	channel.repeat()
 	same(t, "the repetition", channel.toSend(), [][]byte{withCookie(bytes.Repeat([]byte{1}, 16), channel.first)})
 	channel.close()
+}
+
+// TestPacketQueueIsBounded has a session that nobody reads: what waits for Read is bounded by its bytes, and comes in
+// its order once it is read.
+func TestPacketQueueIsBounded(t *testing.T) {
+	s := newPacketSession(nil, &packetChannel{}, nil, nil)
+	for i := 0; i < 1000; i++ {
+		s.deliver(append(make([]byte, 60000), byte(i)))
+	}
+	room, whole := make([]byte, 65536), 0
+	for i := 0; len(s.queue) > 0; i++ {
+		n, err := s.Read(room)
+		if err != nil || room[n-1] != byte(i) {
+			t.Fatal(i, n, err)
+		}
+		whole += n
+	}
+	if whole < 60000 || whole > packetQueueBytes {
+		t.Errorf("%d bytes have waited", whole)
+	}
+	for i := 0; i < 1000; i++ { // as much as is read comes in again
+		s.deliver(make([]byte, 60000))
+		if n, err := s.Read(room); n != 60000 || err != nil {
+			t.Fatal(i, n, err)
+		}
+	}
 }
 
 type writerFunc func(line []byte)

@@ -25,12 +25,12 @@ def lines(cases: dict[str, Any]) -> list[tuple[str, str]]:
         made.append((line, words(it["address"], it["cookie"], it["reply"], it["again"])))
     made += [(words("reply", it["reply"], it["message"]), words(it["cookie"])) for it in cases["replies"]]
     it = cases["secrets"]
-    steps = [word for step in it["steps"] for word in (step["at"], step["cookie"])]
+    steps = [word for step in it["steps"] for word in (step["milliseconds"], step["cookie"])]
     made.append((words("secrets", it["ip"], it["port"], it["message"], ",".join(it["secrets"]), *steps),
                  words(*(step["accepted"] for step in it["steps"]))))
     made += [(words("first", *list(it.values())[:-1]), it["does"]) for it in cases["firsts"]]
     made += [(words("send", *list(it.values())[:-1]), words(it["may"])) for it in cases["sends"]]
-    rates = [word for it in cases["rates"] for word in (it["at"], it["host"], it["count"])]
+    rates = [word for it in cases["rates"] for word in (it["milliseconds"], it["host"], it["count"])]
     made.append((words("rates", *rates), words(*(it["begin"] for it in cases["rates"]))))
     for it in cases["givesWay"]:
         hosts = "".join(one["host"].upper() if one["done"] else one["host"] for one in it["begun"])

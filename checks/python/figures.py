@@ -1,9 +1,12 @@
 """Times this package beside dissononce, beside ChaCha20Poly1305 of `cryptography` in a loop, beside the library from C,
 and beside asyncio's streams without and with TLS, in turns, in time of the processor: the least of each counts. It is
-no check. PYTHONPATH has the package: checks/python/figures.py [asyncio]; the word leaves out all but asyncio."""
+no check. PYTHONPATH has the package: checks/python/figures.py [asyncio | ssl]; the first word leaves out all but
+asyncio, the second all but messages of some lengths beside those of `ssl`."""
 import asyncio
+import concurrent.futures
 import datetime
 import os
+import socket
 import ssl
 import statistics
 import subprocess
@@ -24,7 +27,7 @@ from dissononce.processing.impl.cipherstate import CipherState
 from dissononce.processing.impl.handshakestate import HandshakeState
 from dissononce.processing.impl.symmetricstate import SymmetricState
 
-from yulimosar import Config, Handshake, KeyPair, open_connection, start_server
+from yulimosar import Config, Handshake, KeyPair, accept, connect, open_connection, start_server
 from yulimosar._noise import ffi, lib
 from yulimosar.codes import STREAM_OVERHEAD
 
@@ -277,6 +280,54 @@ def streams(rounds=ROUNDS):
               f"by the clock {max(wall):.0f} and {statistics.median(wall):.0f}; {times:.2f} of this package's speed")
 
 
+def pairs(contexts):
+    """Connected sockets, whose handshakes are done: of this package, and of ssl."""
+    made = []
+    for far_end, near_end in (
+        (lambda it: accept(it, PLAIN), lambda it: connect(it, PLAIN)),
+        (lambda it: contexts[0].wrap_socket(it, server_side=True), contexts[1].wrap_socket),
+    ):
+        near, far = socket.socketpair()
+        with concurrent.futures.ThreadPoolExecutor() as pool:
+            other = pool.submit(far_end, far)
+            made.append((near_end(near), other.result()))
+    return made
+
+
+def carried(pair, size, count=400):
+    """The seconds of the processor for a message over sockets, with both parties in this thread."""
+    payload, room, since = bytes(size), memoryview(bytearray(size)), time.process_time()
+    for _ in range(count):
+        pair[0].sendall(payload)
+        left = size
+        while left:
+            left -= pair[1].recv_into(room, left)
+    return (time.process_time() - since) / count
+
+
+def beside_ssl(rounds=ROUNDS):
+    """Prints how much longer a message takes with ssl: the median of rounds in turns, over sockets and asyncio."""
+    contexts = tls()
+    both = pairs(contexts)
+    ways = [
+        lambda size: asyncio.run(carry(lambda: start_server(echo, "127.0.0.1", 0, PLAIN),
+                                       lambda *address: open_connection(*address, PLAIN), size))[0],
+        lambda size: asyncio.run(carry(lambda: asyncio.start_server(echo, "127.0.0.1", 0, ssl=contexts[0]),
+                                       lambda *address: asyncio.open_connection(*address, ssl=contexts[1]), size))[0],
+    ]
+    print(f"a message with ssl, beside this package, {rounds} rounds, load {os.getloadavg()[0]:.1f}:")
+    for size in (64, 1024, 16384):
+        over = [carried(both[1], size) / carried(both[0], size) for _ in range(rounds)]
+        through = [ways[0](size) / ways[1](size) for _ in range(rounds)]
+        print(f"  {size} bytes: {said(over)} times the time over sockets, {said(through)} through asyncio's streams")
+
+
+def said(times):
+    """The median, and between what half of the rounds were."""
+    first, median, last = statistics.quantiles(times, n=4)
+    return f"{median:.2f} ({first:.2f} to {last:.2f})"
+
+
 def imports():
     """The time of an import, less that of a process without it."""
     def run(words):
@@ -292,6 +343,9 @@ def main():
     if sys.argv[1:] == ["asyncio"]:
         streams()
         return
+    if sys.argv[1:] == ["ssl"]:
+        beside_ssl()
+        return
     own, other = turns([ours, theirs], 5)
     print(f"XX, both parties: {own * 1e3:.2f} ms, dissononce {other * 1e3:.2f} ms: {other / own:.1f} times")
     sizes = (64, 1024, 16384)
@@ -300,6 +354,7 @@ def main():
         print(f"{size} bytes, sealed and opened: {own * 1e6:.2f} us, {other / own:.1f} times as fast as dissononce, "
               f"{loop / own:.1f} as cryptography in a loop; in place {placed * 1e6:.2f} us, {placed / least:.2f} of C")
     streams()
+    beside_ssl()
     least, median = imports()
     print(f"import: {least * 1e3:.0f} ms at least, {median * 1e3:.0f} ms as the median")
 

@@ -6,10 +6,25 @@ import asyncio
 import contextlib
 import hashlib
 import os
+import random
 import socket
 from collections.abc import Callable, Iterator
 
-HOST = "127.0.0.1"
+HOST, HOST_6 = "127.0.0.1", "::1"
+
+
+def socket_at(address: str) -> socket.socket:
+    """A socket at an address of IPv4 or IPv6."""
+    own = socket.socket(socket.AF_INET6 if ":" in address else socket.AF_INET, socket.SOCK_DGRAM)
+    own.setsockopt(socket.SOL_SOCKET, socket.SO_RCVBUF, 4 << 20)
+    own.bind((address, 0))
+    own.setblocking(False)
+    return own
+
+
+def server_of(address: str) -> str:
+    """The address at which a party of this one finds the server."""
+    return HOST_6 if ":" in address else HOST
 
 
 def first_messages(count: int) -> Iterator[bytes]:
@@ -22,17 +37,14 @@ class Stranger:
     """A socket at an address of its own."""
 
     def __init__(self, address: str) -> None:
-        self._socket = socket.socket(socket.AF_INET, socket.SOCK_DGRAM)
-        self._socket.setsockopt(socket.SOL_SOCKET, socket.SO_RCVBUF, 4 << 20)
-        self._socket.bind((address, 0))
-        self._socket.setblocking(False)
+        self._socket, self._server = socket_at(address), server_of(address)
         self.sent = 0    # bytes
 
     def send(self, datagram: bytes, port: int) -> None:
         """Sends a datagram to the server."""
         self.sent += len(datagram)
         with contextlib.suppress(OSError):
-            self._socket.sendto(datagram, (HOST, port))
+            self._socket.sendto(datagram, (self._server, port))
 
     def datagrams(self) -> list[bytes]:
         """What has come."""
@@ -46,7 +58,16 @@ class Stranger:
         """How many bytes have come."""
         return sum(map(len, self.datagrams()))
 
+    def at_each(self, call: Callable[[bytes], None]) -> None:
+        """Calls a function with each datagram that comes."""
+        def read() -> None:
+            for datagram in self.datagrams():
+                call(datagram)
+
+        asyncio.get_running_loop().add_reader(self._socket.fileno(), read)
+
     def close(self) -> None:
+        asyncio.get_running_loop().remove_reader(self._socket.fileno())
         self._socket.close()
 
 
@@ -56,7 +77,13 @@ class Flood:
     def __init__(self, port: int, addresses: list[str], rate: int, answers: bool) -> None:
         self._port, self._rate, self._answers = port, rate, answers
         self._strangers = [Stranger(address) for address in addresses]
-        self.sent = 0
+        self.sent = self.begun = 0    # datagrams, and handshakes that began by an answered cookie
+        self._since = asyncio.get_running_loop().time()
+
+    @property
+    def seconds(self) -> float:
+        """How long it lasts."""
+        return asyncio.get_running_loop().time() - self._since
 
     @classmethod
     @contextlib.asynccontextmanager
@@ -78,51 +105,57 @@ class Flood:
         while self.sent < count:
             await asyncio.sleep(0.01)
 
+    def came(self) -> list[bytes]:
+        """What has come to those who don't answer."""
+        return [datagram for stranger in self._strangers for datagram in stranger.datagrams()]
+
     async def _run(self) -> None:
         loop = asyncio.get_running_loop()
-        begun, messages = loop.time(), {}
+        begun, sent = loop.time(), dict[bytes, bytes]()    # first messages by their hashes
+        for stranger in self._strangers if self._answers else ():
+            stranger.at_each(lambda datagram, it=stranger: self._answer(it, datagram, sent))
         while True:
             due = min(int((loop.time() - begun) * self._rate), self.sent + 100)
             for message in first_messages(due - self.sent):
+                if self._answers:
+                    sent[hashlib.sha256(message[1:]).digest()[:16]] = message[1:]
                 self._strangers[self.sent % len(self._strangers)].send(message, self._port)
-                messages[self.sent % 5000] = message[1:]
                 self.sent += 1
-            if self._answers:
-                self._answer(list(messages.values()))
+            while len(sent) > 5000:
+                del sent[next(iter(sent))]
             await asyncio.sleep(0.01)
 
-    def _answer(self, messages: list[bytes]) -> None:
-        for stranger in self._strangers:
-            for datagram in stranger.datagrams():
-                if datagram[:1] == b"\x09":
-                    self._with_cookie(stranger, datagram, messages)
-
-    def _with_cookie(self, stranger: Stranger, reply: bytes, messages: list[bytes]) -> None:
-        for message in reversed(messages[-500:]):
-            if hashlib.sha256(message).digest()[:16] == reply[1:17]:
-                stranger.send(b"\x0a" + reply[17:] + message, self._port)
-                return
+    def _answer(self, stranger: Stranger, datagram: bytes, sent: dict[bytes, bytes]) -> None:
+        """Sends a first message again, with the cookie that has come for it."""
+        self.begun += datagram[:1] == b"\x01"
+        if datagram[:1] == b"\x09" and datagram[1:17] in sent:
+            stranger.send(b"\x0a" + datagram[17:] + sent[datagram[1:17]], self._port)
 
 
 class Relay(asyncio.DatagramProtocol):
-    """Passes datagrams between clients and a server, each way after `delay` seconds. The server sees an address for
-    each client; with `sticky` one for all, in turn."""
+    """Passes datagrams between clients and a server, each way after `delay` seconds, but for `loss` of them. The server
+    sees an address for each client; or `source` with a port for each, as of a NAT; with `sticky` one for all, in turn.
+    """
 
-    def __init__(self, server: int, delay: float, source: str | None, sticky: bool) -> None:
-        self._server, self._delay, self._source, self._sticky = server, delay, source, sticky
+    def __init__(self, server: int, delay: float, source: str | None, sticky: bool, loss: float) -> None:
+        self._server, self._delay, self._source, self._sticky, self._loss = server, delay, source, sticky, loss
+        self._dice = random.Random(1)
         self._ways: dict[object, tuple[_Sender, object]] = {}
         self._hook: tuple[int, Callable[[bytes], bool]] | None = None
         self._closing: list[_Sender] = []
+        self._holds, self.held = False, b""
         self.port = 0
         self.went: list[bytes] = []    # the last datagrams to the server
+        self.begun: set[bytes] = set()    # the first messages of clients
 
     @classmethod
     @contextlib.asynccontextmanager
-    async def between(cls, server: int, delay: float = 0.0, source: str | None = None, sticky: bool = False):
+    async def between(cls, server: int, delay: float = 0.0, source: str | None = None, sticky: bool = False,
+                      loss: float = 0.0):
         """Relays to a server's port."""
         loop = asyncio.get_running_loop()
         transport, relay = await loop.create_datagram_endpoint(
-            lambda: cls(server, delay, source, sticky), local_addr=(HOST, 0)
+            lambda: cls(server, delay, source, sticky, loss), local_addr=(HOST, 0)
         )
         relay._transport = transport
         relay.port = transport.get_extra_info("sockname")[1]
@@ -137,6 +170,10 @@ class Relay(asyncio.DatagramProtocol):
         """Calls a function at the first datagram of a kind from the server, which says whether that is passed on."""
         self._hook = kind, hook
 
+    def hold(self) -> None:
+        """Keeps the next transport datagram to the server, and doesn't pass it on: `held`."""
+        self._holds = True
+
     def move(self, source: str) -> None:
         """Another address for all clients; what comes to the one before is lost."""
         self._source = source
@@ -146,7 +183,12 @@ class Relay(asyncio.DatagramProtocol):
         self._ways.clear()
 
     def datagram_received(self, data: bytes, addr: object) -> None:
+        if self._holds and data[:1] == b"\x08":
+            self._holds, self.held = False, data
+            return
         self.went = [*self.went[-20:], data]
+        if data[:1] in (b"\x00", b"\x0a"):
+            self.begun.add(data[1 if data[:1] == b"\x00" else 17:])
         asyncio.get_running_loop().call_later(self._delay, self._there, data, addr)
 
     def _there(self, data: bytes, addr: object) -> None:
@@ -155,14 +197,13 @@ class Relay(asyncio.DatagramProtocol):
         if transport is None:
             transport = self._way(name)
         self._ways[name] = transport, addr
-        transport.sendto(data, (HOST, self._server))
+        if self._dice.random() >= self._loss:
+            transport.sendto(data, (server_of(self._source or HOST), self._server))
 
     def _way(self, name: object) -> _Sender:
         """A socket of its own, by which the server sees a client."""
-        loop, own = asyncio.get_running_loop(), socket.socket(socket.AF_INET, socket.SOCK_DGRAM)
-        own.bind((self._source or f"127.9.{len(self._ways) // 250}.{len(self._ways) % 250 + 1}", 0))
-        own.setblocking(False)
-        loop.add_reader(own.fileno(), self._back, own, name)
+        own = socket_at(self._source or f"127.9.{len(self._ways) // 250}.{len(self._ways) % 250 + 1}")
+        asyncio.get_running_loop().add_reader(own.fileno(), self._back, own, name)
         return _Sender(own)
 
     def _back(self, own: socket.socket, name: object) -> None:
@@ -175,7 +216,7 @@ class Relay(asyncio.DatagramProtocol):
             if not hook(data):
                 return
         _, client = self._ways.get(name, (None, None))
-        if client is not None:
+        if client is not None and self._dice.random() >= self._loss:
             asyncio.get_running_loop().call_later(self._delay, self._send, data, client)
 
     def _send(self, data: bytes, client: object) -> None:

@@ -23,7 +23,7 @@ class Party:
         finally:
             await party.end()
 
-    async def line(self, with_words: str, seconds: float = 30) -> str:
+    async def line(self, with_words: str, seconds: float = 120) -> str:
         """The next line with these words."""
         async with asyncio.timeout(seconds):
             while line := (await self._process.stdout.readline()).decode().strip():
@@ -34,7 +34,7 @@ class Party:
     async def asks(self, text: str) -> str:
         """Has a client ask for a text: what it says of it."""
         self._process.stdin.write(f"{text}\n".encode())
-        return (await asyncio.wait_for(self._process.stdout.readline(), 30)).decode().strip()
+        return (await asyncio.wait_for(self._process.stdout.readline(), 120)).decode().strip()
 
     def kill(self) -> None:
         """Ends the program at once."""

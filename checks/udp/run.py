@@ -19,11 +19,14 @@ from pathlib import Path
 
 sys.path.insert(0, str(Path(__file__).resolve().parent))
 
-from network import Flood, Relay, Stranger, first_messages  # noqa: E402
+from network import HOST, Flood, Relay, Stranger, first_messages, server_of  # noqa: E402
 from party import Party  # noqa: E402
+from routed import Routed  # noqa: E402
 
-PATIENCE = 60    # in seconds: for a handshake that has to succeed, of which most take less than one
+PATIENCE = 150    # in seconds: for a handshake that has to succeed, of which most take less than one
 ROUND_TRIP = 0.1
+OF_FOUR = "MINE4:\n  -> e\n  <- e, ee, s\n  -> es, s\n  <- se\n"
+OF_EIGHT = "MINE8:\n  -> e\n  <- e\n  -> ee\n  <- s\n  -> s\n  <- es\n  -> se\n  <- ss\n"
 
 
 class Failed(Exception):
@@ -41,17 +44,19 @@ class Pair:
     def __init__(self, server: list[str], client: list[str], stack: AsyncExitStack) -> None:
         self._server, self._client, self._stack = server, client, stack
 
-    async def serve(self, pattern: str = "XX", port: int = 0, busy: int = 16, payload: int = 0) -> Party:
-        words = ["serve", pattern, "127.0.0.1", str(port), str(busy), str(payload)]
-        party = await self._stack.enter_async_context(Party.begun([*self._server, *words]))
+    async def serve(self, pattern: str = "XX", port: int = 0, busy: int = 16, payload: int = 0, host: str = HOST,
+                    before: tuple[str, ...] = ()) -> Party:
+        """A server; `before` is a command that runs it, as in another network namespace."""
+        words = ["serve", pattern, host, str(port), str(busy), str(payload)]
+        party = await self._stack.enter_async_context(Party.begun([*before, *self._server, *words]))
         party.port = int((await party.line("ready ")).split()[1])
         return party
 
     async def relay(self, port: int, **words: object) -> Relay:
         return await self._stack.enter_async_context(Relay.between(port, **words))
 
-    async def ask(self, port: int, count: int = 1, pattern: str = "XX") -> Party:
-        words = ["ask", pattern, "127.0.0.1", str(port), str(count), str(PATIENCE)]
+    async def ask(self, port: int, count: int = 1, pattern: str = "XX", host: str = HOST) -> Party:
+        words = ["ask", pattern, host, str(port), str(count), str(PATIENCE)]
         return await self._stack.enter_async_context(Party.begun([*self._client, *words]))
 
     @asynccontextmanager
@@ -61,14 +66,20 @@ class Pair:
             yield flood
 
 
-async def get_in(pair: Pair, addresses: list[str], rate: int, answers: bool = False) -> None:
+async def get_in(pair: Pair, addresses: list[str], rate: int, answers: bool = False, source: str | None = None) -> None:
     """20 right clients at a round trip of 100 ms, while strangers send first messages."""
-    server = await pair.serve()
-    relay = await pair.relay(server.port, delay=ROUND_TRIP / 2)
+    server = await pair.serve(host=server_of(addresses[0]))
+    relay = await pair.relay(server.port, delay=ROUND_TRIP / 2, source=source)
     async with pair.flood(server.port, addresses, rate, answers=answers) as flood:
         clients = await pair.ask(relay.port, 20)
         said = await clients.line(" of 20", PATIENCE * 2)
         wanted(said == "20 of 20", f"{said} right clients got in, while {flood.sent} datagrams came")
+        if answers:
+            most = 40 * flood.seconds + 50
+            wanted(flood.begun < most, f"a host began {flood.begun} handshakes in {flood.seconds:.1f} seconds")
+        else:
+            made = sum(it[0] == 1 for it in flood.came())
+            wanted(made < flood.sent / 5, f"{made} of {flood.sent} strangers got message 1 without a cookie")
 
 
 async def flood_from_many(pair: Pair) -> None:
@@ -86,9 +97,61 @@ async def flood_that_answers(pair: Pair) -> None:
     await get_in(pair, ["127.1.0.1"] * 50, 300, answers=True)
 
 
-async def burst(pair: Pair) -> None:
-    """64 datagrams, 2,112 bytes, from as many ports, between the messages of a handshake: five times."""
+async def flood_from_a_prefix(pair: Pair) -> None:
+    """Strangers of 250 addresses of a /64, who answer cookies, while the right clients share one address of another."""
+    await get_in(pair, [f"2001:db8:0:1::{n:x}" for n in range(250)], 100, answers=True, source="2001:db8:0:2::1")
+
+
+async def behind_one_nat(pair: Pair) -> None:
+    """20 clients at one address have sessions of their own, and keep them where the NAT forgets their ports."""
     server = await pair.serve()
+    relay = await pair.relay(server.port, source="127.3.0.1")
+    async with pair.flood(server.port, ["127.1.0.1"] * 50, 300):
+        clients = await pair.ask(relay.port, 20)
+        said = await clients.line(" of 20", PATIENCE * 2)
+        wanted(said == "20 of 20", f"{said} clients behind one NAT got in")
+        relay.move("127.3.0.1")
+        said = await clients.asks("text")
+        wanted(said == "again text", "a client is silent after its NAT has given it another port")
+    said = [await server.line("", PATIENCE) for _ in range(20)]
+    wanted(said == ["connected 127.3.0.1"] * 20, f"the server says {said}")
+
+
+async def patterns(pair: Pair) -> None:
+    """Patterns of 2, 3, 4 and 8 messages, where one datagram in three is lost; with and without cookies."""
+    async def one(pattern: str, busy: int) -> None:
+        server = await pair.serve(pattern, busy=busy)
+        relay = await pair.relay(server.port, loss=1 / 3)
+        client = await pair.ask(relay.port, pattern=pattern)
+        said = await client.line(" of 1", PATIENCE * 2)
+        wanted(said == "1 of 1", f"{pattern}: a client doesn't get in where datagrams are lost")
+
+    cases = ("NNpsk0", 0), ("IK", 16), ("XXpsk3", 0), (OF_FOUR, 0), (OF_EIGHT, 16), (OF_EIGHT, 0)
+    for came in await asyncio.gather(*(one(*case) for case in cases), return_exceptions=True):
+        if came is not None:
+            raise came
+
+
+async def fragments(pair: Pair) -> None:
+    """A link of 1280 bytes behind a router: a payload of 1199 passes in one packet; a longer one in fragments, once the
+    system has learned so, and not where the server's system drops them."""
+    with Routed() as path:
+        server = await pair.serve(host=path.server, before=path.there)
+        client = await pair.ask(server.port, host=path.server)
+        wanted(await client.line(" of 1", PATIENCE * 2) == "1 of 1", "a client doesn't get in over a router")
+        for length, is_cut in ((1199, False), (1200, True), (1500, True), (30000, True)):
+            before, text = path.fragments(), "x" * length
+            wanted(await client.asks(text) == f"again {text}", f"a payload of {length} bytes doesn't pass")
+            wanted((path.fragments() > before) == is_cut, f"a payload of {length} bytes is cut otherwise")
+        path.drop_fragments()
+        wanted(await client.asks("x" * 1200) == "silence", "fragments pass a system that drops them")
+        wanted(await client.asks("y" * 1199) == "again " + "y" * 1199, "what is no fragment doesn't pass")
+
+
+async def burst(pair: Pair) -> None:
+    """64 datagrams, 2,112 bytes, from as many ports, between the messages of a handshake: five times. It goes on: where
+    the machine isn't too slow for that, the client needs no other one."""
+    server, went_on = await pair.serve(), 0
     for number in range(5):
         strangers = [Stranger(f"127.2.0.{number + 1}") for _ in range(64)]
         relay = await pair.relay(server.port, source=f"127.3.0.{number + 1}")
@@ -101,10 +164,12 @@ async def burst(pair: Pair) -> None:
         relay.once_back(1, between)
         client = await pair.ask(relay.port)
         said = await client.line(" of 1", PATIENCE * 2)
-        wanted(said == "1 of 1", f"burst {number + 1} has ended a handshake")
+        wanted(said == "1 of 1", f"a client doesn't get in after burst {number + 1}")
+        went_on += len(relay.begun) == 1
         await client.end()
         for stranger in strangers:
             stranger.close()
+    wanted(went_on > 0, "each burst has ended a handshake")
 
 
 async def reflect(pair: Pair) -> None:
@@ -167,13 +232,15 @@ async def restart_of_the_client(pair: Pair) -> None:
 
 
 async def established(pair: Pair) -> None:
-    """A session goes on during a flood of first messages, and of datagrams with its index."""
+    """A session goes on during a flood of first messages, also of its own host, which answers cookies; and of datagrams
+    with its index."""
     server = await pair.serve()
-    relay = await pair.relay(server.port)
+    relay = await pair.relay(server.port, source="127.3.0.1")
     client = await pair.ask(relay.port)
     await client.line("1 of 1", PATIENCE * 2)
     stranger = Stranger("127.2.0.1")
-    async with pair.flood(server.port, ["127.1.0.1"] * 50, 1000):
+    async with (pair.flood(server.port, ["127.1.0.1"] * 50, 1000),
+                pair.flood(server.port, ["127.3.0.1"] * 50, 100, answers=True)):
         for number in range(20):
             for last in relay.went[-3:]:
                 stranger.send(last[:-1] + bytes([last[-1] ^ 1]), server.port)
@@ -190,12 +257,15 @@ async def roam(pair: Pair) -> None:
     await client.line("1 of 1", PATIENCE * 2)
     for number in range(3):
         relay.move(f"127.3.1.{number + 1}")
+        relay.hold()
         said = await client.asks(f"text {number}")
         wanted(said == f"again text {number}", "a session whose address has changed is silent")
         stranger = Stranger("127.2.0.1")
         for datagram in relay.went[-5:]:
             stranger.send(datagram, server.port)
             stranger.send(datagram[:-1] + bytes([datagram[-1] ^ 1]), server.port)
+        stranger.send(relay.held, server.port)    # opens, and is late: what is sent back goes to the client
+        await asyncio.sleep(0.3)
         said = await client.asks(f"and {number}")
         wanted(said == f"again and {number}", "a session is silent after datagrams from elsewhere")
         transports = [it for it in stranger.datagrams() if it[:1] == b"\x08"]
@@ -204,50 +274,66 @@ async def roam(pair: Pair) -> None:
 
 
 TRIED: list[Callable[[Pair], Awaitable[None]]] = [
-    flood_from_many, flood_from_one, flood_that_answers, burst, reflect, restart_of_the_server, restart_of_the_client,
-    established, roam,
+    flood_from_many, flood_from_one, flood_that_answers, flood_from_a_prefix, burst, reflect, restart_of_the_server,
+    restart_of_the_client, established, roam, behind_one_nat, patterns, fragments,
 ]  # fmt: skip
 
 
-async def run(parties: dict[str, list[str]], only: str | None) -> tuple[int, list[str]]:
-    """How many have passed, and what has failed."""
-    passed, failed = 0, []
-    for server, first in parties.items():
-        for client, second in parties.items():
-            for tried in TRIED:
-                if only not in (None, tried.__name__):
-                    continue
-                try:
-                    async with AsyncExitStack() as stack:
-                        await tried(Pair(first, second, stack))
-                    passed += 1
-                except (Failed, TimeoutError, EOFError) as error:
-                    failed.append(f"{server}'s server, {client}'s client: {tried.__name__}: {error!r}")
-                    print(f"udp: {failed[-1]}", file=sys.stderr, flush=True)
+async def attack(server: str, parties: dict[str, list[str]], only: str | None) -> tuple[int, int]:
+    """Tries a server with each client: how many attacks have passed, and how many have failed."""
+    passed = failed = 0
+    for client, command in parties.items():
+        for tried in TRIED:
+            if only not in (None, tried.__name__):
+                continue
+            try:
+                async with AsyncExitStack() as stack:
+                    await tried(Pair(parties[server], command, stack))
+                passed += 1
+            except (Failed, TimeoutError, EOFError) as error:
+                failed += 1
+                print(f"udp: {server}'s server, {client}'s client: {tried.__name__}: {error!r}", file=sys.stderr,
+                      flush=True)
     return passed, failed
 
 
-def in_a_namespace() -> bool:
-    """Begins this program again in a network namespace, where one can be had; else whether it is in one."""
-    if os.environ.get("NOISE_NAMESPACE"):
-        subprocess.run(["ip", "link", "set", "lo", "up"], check=True)
-        return True
-    if not all(map(shutil.which, ("unshare", "ip"))) or subprocess.run(
-        ["unshare", "-n", "ip", "link", "set", "lo", "up"], capture_output=True
-    ).returncode:
-        return False
-    os.environ["NOISE_NAMESPACE"] = "1"
-    os.execvp("unshare", ["unshare", "-n", sys.executable, *sys.argv])
+def prepare() -> None:
+    """Has this namespace take any address of 2001:db8::/32, beside those of 127.0.0.0/8."""
+    subprocess.run(["ip", "link", "set", "lo", "up"], check=True)
+    Path("/proc/sys/net/ipv6/ip_nonlocal_bind").write_text("1")
+    subprocess.run(["ip", "-6", "route", "add", "local", "2001:db8::/32", "dev", "lo"], check=True)
+
+
+def has_namespaces() -> bool:
+    """Whether there are namespaces, with IPv6 and links between two of them."""
+    tried = ("ip link set lo up && ip link add name one type veth peer name other && "
+             "test -w /proc/sys/net/ipv6/ip_nonlocal_bind")
+    return all(map(shutil.which, ("unshare", "nsenter", "ip"))) and not subprocess.run(
+        ["unshare", "-n", "sh", "-c", tried], capture_output=True
+    ).returncode
+
+
+def each_server(parties: dict[str, list[str]]) -> tuple[int, int]:
+    """Attacks each server in a namespace of its own, at the same time: how many attacks have passed and failed."""
+    made = [subprocess.Popen(["unshare", "-n", sys.executable, *sys.argv], stdout=subprocess.PIPE, text=True,
+                             env={**os.environ, "NOISE_UDP_SERVER": name}) for name in parties]
+    said = [it.communicate()[0].split() for it in made]
+    counts = [(int(it[0]), int(it[1])) if len(it) == 2 else (0, 1) for it in said]
+    return sum(passed for passed, _ in counts), sum(failed for _, failed in counts)
 
 
 def main(words: list[str]) -> int:
     only = words.pop(words.index("--only") + 1) if "--only" in words else None
     parties = {name: shlex.split(command) for name, _, command in (it.partition("=") for it in words if "=" in it)}
-    if not in_a_namespace():
-        print("udp: left out: attacks over UDP: root, and a network namespace (unshare, ip)")
+    if server := os.environ.get("NOISE_UDP_SERVER"):
+        prepare()
+        print(*asyncio.run(attack(server, parties, only)))
         return 0
-    passed, failed = asyncio.run(run(parties, only))
-    print(f"udp: {passed} attacks on {' and '.join(parties)}, {len(failed)} failed")
+    if not has_namespaces():
+        print("udp: left out: attacks over UDP: root, a network namespace (unshare, nsenter, ip), IPv6 and veth")
+        return 0
+    passed, failed = each_server(parties)
+    print(f"udp: {passed} attacks on {' and '.join(parties)}, {failed} failed")
     return int(bool(failed))
 
 

@@ -20,7 +20,7 @@ TOP = Path(__file__).resolve().parent.parent.parent
 FILE = TOP / "vectors/datagrams.json"
 MESSAGE = bytes(range(32))
 LONG = bytes(range(256)) * 4
-SECRETS = [bytes([16 + n] * 32) for n in range(4)]
+SECRETS = [bytes([16 + n] * 32) for n in range(5)]
 MOST = 2**64 - 1
 
 # First byte, length, messages of the pattern, and what it is.
@@ -148,13 +148,16 @@ def replies() -> list[dict[str, Any]]:
 
 
 def secrets() -> dict[str, Any]:
-    """A responder draws its secrets in this order, and is asked at these seconds."""
-    def at(second: int, number: int, accepted: bool) -> dict[str, Any]:
-        return {"at": second, "cookie": cookie(SECRETS[number], "192.0.2.1", 4045, MESSAGE).hex(), "accepted": accepted}
+    """A responder draws its secrets in this order, and is asked at these milliseconds. The last two secrets are drawn
+    after pauses: of 760 s, and of 239 s, in which the one before goes on being right."""
+    def at(second: float, number: int, accepted: bool) -> dict[str, Any]:
+        made = cookie(SECRETS[number], "192.0.2.1", 4045, MESSAGE)
+        return {"milliseconds": round(second * 1000), "cookie": made.hex(), "accepted": accepted}
 
-    steps = [at(1000, 0, True), at(1119, 0, True), at(1119, 1, False), at(1120, 0, True), at(1120, 1, True),
-             at(1239, 0, True), at(1240, 0, False), at(1240, 1, True), at(1240, 2, True), at(2000, 1, False),
-             at(2000, 2, False), at(2000, 3, True)]  # fmt: skip
+    steps = [at(1000, 0, True), at(1119.999, 0, True), at(1119.999, 1, False), at(1120, 0, True), at(1120, 1, True),
+             at(1239.999, 0, True), at(1240, 0, False), at(1240, 1, True), at(1240, 2, True), at(2000, 1, False),
+             at(2000, 2, False), at(2000, 3, True), at(2239, 3, True), at(2239, 4, True), at(2239.999, 3, True),
+             at(2240, 3, False), at(2358.999, 4, True)]  # fmt: skip
     return {"ip": "192.0.2.1", "port": 4045, "message": MESSAGE.hex(), "secrets": [it.hex() for it in SECRETS],
             "steps": steps}  # fmt: skip
 
@@ -176,7 +179,7 @@ def whole() -> dict[str, Any]:
         "secrets": secrets(),
         "firsts": words(("halfDone", "busy", "shown", "came", "answer", "does"), FIRSTS),
         "sends": words(("came", "sent", "length", "shown", "may"), SENDS),
-        "rates": words(("at", "host", "count", "begin"), RATES),
+        "rates": words(("milliseconds", "host", "count", "begin"), RATES),
         "givesWay": words(("begun", "place"), begun),
         "moves": words(("nonce", "newest", "moves"), places),
         "indices": [

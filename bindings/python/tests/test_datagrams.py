@@ -1,8 +1,10 @@
 """Channels over datagrams: networks that lose, repeat, delay and forge, and the DatagramProtocol of asyncio."""
 import asyncio
 import contextlib
+import copy
 import gc
 import logging
+import pickle
 import random
 
 import pytest
@@ -210,6 +212,14 @@ def test_what_a_channel_refuses():
         network.ends[0].send(b"")
     network.ends[0].close()
     assert network.ends[0].receive(b"\x08" + bytes(40)) is None
+
+
+def test_a_channel_is_not_copied():
+    before, done = DatagramChannel(configs("NN")[0], True), Network("NN", 1).run().ends[0]
+    for it in (before, done):
+        for call in (copy.copy, copy.deepcopy, pickle.dumps):
+            with pytest.raises(TypeError, match="a DatagramChannel isn't copied"):
+                call(it)
 
 
 def test_a_key_of_low_order_is_dropped():

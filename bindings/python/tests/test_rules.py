@@ -60,7 +60,8 @@ def test_secrets():
     cookies = rules.Cookies(lambda _count: next(drawn))
     for step in case["steps"]:
         made = bytes.fromhex(step["cookie"])
-        accepted = cookies.accept(made, (case["ip"], case["port"]), bytes.fromhex(case["message"]), step["at"])
+        accepted = cookies.accept(made, (case["ip"], case["port"]), bytes.fromhex(case["message"]),
+                                  step["milliseconds"] / 1000)
         assert accepted == step["accepted"], step
     assert not list(drawn)
 
@@ -74,7 +75,7 @@ def test_a_cookie_is_made_by_the_newest_secret():
 def test_rates():
     rate = rules.Rate()
     for step in CASES["rates"]:
-        got = [rate.allow(step["host"].encode(), step["at"] / 1000) for _ in range(step["count"])]
+        got = [rate.allow(step["host"].encode(), step["milliseconds"] / 1000) for _ in range(step["count"])]
         assert sum(got) == step["begin"], step
 
 

@@ -79,7 +79,7 @@ def test_cookies_of_old_secrets(each_loop):
                 raw.transport.sendto(first_message(number))
                 replies.append(await raw.next())
             for number, (reply, kind) in enumerate(zip(replies, (1, 9)), 1):
-                server._cookies._since -= rules.PERIOD + 10
+                server._cookies._secrets = [(it, drawn - rules.PERIOD - 10) for it, drawn in server._cookies._secrets]
                 raw.transport.sendto(b"\x0a" + reply[17:] + first_message(number)[1:])
                 assert (await raw.next())[0] == kind
     run(main)
@@ -245,4 +245,100 @@ def test_a_peer_that_is_closed_as_it_connects_gets_no_payload(each_loop, monkeyp
             await until(lambda: closed)
             assert server.came.empty() and not server._peers and not server._firsts
             channel.close()
+    run(main)
+
+
+def test_a_handshake_that_is_done_has_its_time_anew(each_loop):
+    """Else a client that is the first to know of the session would have one of which the server knows nothing."""
+    async def main(_result):
+        first, second = configs("XX", handshake_timeout=1.5)
+        async with server_behind(second) as (server, address), raw_at(address) as raw:
+            channel = DatagramChannel(first, True)
+            raw.transport.sendto(channel.datagrams_to_send()[0])
+            channel.receive(await raw.next())
+            await asyncio.sleep(1.1)
+            raw.transport.sendto(channel.datagrams_to_send()[0])
+            while channel.agreed is None:
+                channel.receive(await raw.next())
+            await asyncio.sleep(0.8)    # 1.9 s after message 0
+            channel.send(b"text")
+            raw.transport.sendto(channel.datagrams_to_send()[-1])
+            await until(lambda: server.peers)
+            channel.close()
+    run(main)
+
+
+def test_a_session_that_begins_at_another_address_than_its_handshake_replaces_none(each_loop):
+    """Where clients have no static key, somebody who sends in the name of another could end that one's session."""
+    async def main(_result):
+        first, second = configs("NN")
+        async with server_behind(second) as (server, address), raw_at(address) as raw, raw_at(address) as other:
+            channel, stranger = DatagramChannel(first, True), DatagramChannel(first, True)
+            await raw.shake(channel)
+            await until(lambda: len(server.peers) == 1)
+            for datagram in stranger.datagrams_to_send():
+                other.transport.sendto(datagram)
+            stranger.receive(await other.next())
+            for datagram in stranger.datagrams_to_send():    # the empty one, which opens
+                raw.transport.sendto(datagram)
+            await until(lambda: len(server.peers) == 2)
+            assert not server.lost
+            channel.send(b"still here")
+            assert await raw.answer(channel) == b"still here"
+            for it in (channel, stranger):
+                it.close()
+    run(main)
+
+
+def test_nothing_is_kept_for_a_socket_that_takes_no_more(each_loop):
+    """asyncio keeps what a socket doesn't take: strangers could make that grow."""
+    class Full(asyncio.DatagramTransport):
+        sent, kept = 0, 0
+
+        def sendto(self, data, addr=None):
+            self.sent, self.kept = self.sent + 1, self.kept + len(data)
+            if self.kept > 1 << 16:
+                server.pause_writing()
+
+    async def main(_result):
+        nonlocal server
+        server = udp.DatagramProtocol(configs("XX")[1], False)
+        full = Full()
+        server.connection_made(full)
+        for number in range(5000):
+            server.datagram_received(first_message(number), ("127.0.0.1", 1 + number))
+        assert full.kept < 66000
+        before, full.kept = full.sent, 0
+        server.resume_writing()
+        server.datagram_received(first_message(5000), ("127.0.0.1", 9999))
+        assert full.sent == before + 1
+        server.connection_lost(None)
+    server = None
+    run(main)
+
+
+def test_what_silence_is(each_loop):
+    """Late datagrams that open keep a session; those that are forged or repeated, and messages, don't."""
+    async def main(_result):
+        first, second = configs("XX")
+        async with server_behind(second, idle=3) as (server, at), raw_at(at) as quiet, raw_at(at) as late:
+            channels = [DatagramChannel(first, True) for _ in range(2)]
+            for number, raw in enumerate((quiet, late)):
+                await raw.shake(channels[number])
+                channels[number].send(b"text")
+                assert await raw.answer(channels[number]) == b"text"
+            for _ in range(20):
+                for channel in channels:
+                    channel.send(b"text")
+            sealed = [channel.datagrams_to_send() for channel in channels]
+            for number in range(19, 0, -1):
+                for datagram in (sealed[0][number][:-1] + b"?", sealed[0][19][:9], channels[0]._own):
+                    quiet.transport.sendto(datagram)
+                late.transport.sendto(sealed[1][number])
+                await asyncio.sleep(0.3)
+                if server.lost:
+                    break
+            assert [(peer, type(fault)) for peer, fault in server.lost] == [(server.peers[0], TimeoutError)]
+            for channel in channels:
+                channel.close()
     run(main)

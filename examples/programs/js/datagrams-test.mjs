@@ -30,7 +30,8 @@ for (const it of cases.replies) same(hex(rules.cookieIn(bytes(it.reply), bytes(i
 const { secrets, steps, ip, port, message } = cases.secrets;
 const cookies = new rules.Cookies(() => bytes(secrets.shift()));
 for (const it of steps) {
-  same(cookies.accept(bytes(it.cookie), { address: ip, port }, bytes(message), it.at), it.accepted, it);
+  const now = it.milliseconds / 1000;
+  same(cookies.accept(bytes(it.cookie), { address: ip, port }, bytes(message), now), it.accepted, it);
 }
 for (const it of cases.firsts) {
   same(rules.firstMessage(it.halfDone, it.busy, it.shown, it.came, it.answer), it.does, it);
@@ -38,7 +39,8 @@ for (const it of cases.firsts) {
 for (const it of cases.sends) same(rules.maySend(it.came, it.sent, it.length, it.shown), it.may, it);
 const rate = new rules.Rate();
 for (const it of cases.rates) {
-  same(Array.from({ length: it.count }, () => rate.allow(it.host, it.at / 1000)).filter(Boolean).length, it.begin, it);
+  const may = Array.from({ length: it.count }, () => rate.allow(it.host, it.milliseconds / 1000));
+  same(may.filter(Boolean).length, it.begin, it);
 }
 for (const it of cases.givesWay) same(rules.givesWay(it.begun), it.place, it);
 for (const it of cases.moves) same(rules.moves(nonce(it.nonce), nonce(it.newest)), it.moves, it);

@@ -87,28 +87,27 @@ export const indexOf = (last) => Buffer.from(last.subarray(-INDEX)).toString('he
 /** A responder's secrets: one makes cookies for 120 seconds, and counts for 120 more. `now` is in seconds. */
 export class Cookies {
   #draw;
-  #since = 0;
-  #secrets = [];
+  #secrets = []; // with the time when each was drawn, the newest first
 
   constructor(draw = () => randomBytes(32)) {
     this.#draw = draw;
   }
 
-  #renew(now) {
-    const age = now - this.#since;
-    if (this.#secrets.length > 0 && age < PERIOD) return;
-    this.#secrets = [this.#draw(), ...(age < 2 * PERIOD ? this.#secrets.slice(0, 1) : [])];
-    this.#since = now;
+  // Those that count; the first one makes cookies.
+  #right(now) {
+    this.#secrets = this.#secrets.filter((it) => now - it.drawn < 2 * PERIOD);
+    if (this.#secrets.length === 0 || now - this.#secrets[0].drawn >= PERIOD) {
+      this.#secrets.unshift({ secret: this.#draw(), drawn: now });
+    }
+    return this.#secrets.map((it) => it.secret);
   }
 
   make(from, message, now) {
-    this.#renew(now);
-    return cookieOf(this.#secrets[0], from, message);
+    return cookieOf(this.#right(now)[0], from, message);
   }
 
   accept(cookie, from, message, now) {
-    this.#renew(now);
-    return this.#secrets.map((secret) => equal(cookie, cookieOf(secret, from, message))).includes(true);
+    return this.#right(now).map((secret) => equal(cookie, cookieOf(secret, from, message))).includes(true);
   }
 }
 

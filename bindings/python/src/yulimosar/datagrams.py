@@ -4,6 +4,8 @@ that its sender has the keys.
 """
 from __future__ import annotations
 
+from typing import NoReturn
+
 from . import rules
 from .channel import Agreed
 from .codes import Code
@@ -52,6 +54,9 @@ class DatagramChannel:
         self.newest = -1    # the greatest nonce of them
         if initiator:
             self._write()
+
+    def __reduce__(self) -> NoReturn:
+        raise TypeError("a DatagramChannel isn't copied: two would seal with one key and nonce")
 
     @property
     def agreed(self) -> Agreed | None:

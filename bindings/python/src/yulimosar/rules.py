@@ -151,21 +151,20 @@ class Cookies:
     """A responder's secrets: one makes cookies for 120 seconds, and counts for 120 more. `now` never goes back."""
 
     def __init__(self, draw: Callable[[int], bytes] = os.urandom) -> None:
-        self._draw, self._since = draw, 0.0
-        self._secrets: list[bytes] = []    # the newest first
+        self._draw = draw
+        self._secrets: list[tuple[bytes, float]] = []    # with the time when it was drawn, the newest first
 
-    def _renew(self, now: float) -> None:
-        age = now - self._since
-        if not self._secrets or age >= PERIOD:
-            self._secrets = [self._draw(32), *(self._secrets[:1] if age < 2 * PERIOD else [])]
-            self._since = now
+    def _right(self, now: float) -> list[bytes]:
+        """Those that count; the first one makes cookies."""
+        self._secrets = [it for it in self._secrets if now - it[1] < 2 * PERIOD]
+        if not self._secrets or now - self._secrets[0][1] >= PERIOD:
+            self._secrets.insert(0, (self._draw(32), now))
+        return [secret for secret, _ in self._secrets]
 
     def make(self, address: Any, message: bytes, now: float) -> bytes:
         """A cookie for an address and a first message."""
-        self._renew(now)
-        return cookie(self._secrets[0], address, message)
+        return cookie(self._right(now)[0], address, message)
 
     def accept(self, made: bytes, address: Any, message: bytes, now: float) -> bool:
         """Whether a cookie is right."""
-        self._renew(now)
-        return any([hmac.compare_digest(made, cookie(secret, address, message)) for secret in self._secrets])
+        return any([hmac.compare_digest(made, cookie(secret, address, message)) for secret in self._right(now)])

@@ -90,6 +90,7 @@ class DatagramProtocol(asyncio.DatagramProtocol):
         self._at: dict[Any, list[_Begun]] = {}    # the same by address alone
         self._done: dict[bytes, _Begun] = {}    # those whose messages have all passed, by index
         self._cookies, self._rate = rules.Cookies(), rules.Rate()
+        self._is_full = False    # whether the socket takes no more
         self._told = False    # whether the log has a line on answers that need a cookie
         self._started = 0.0    # when an initiator has begun the first
         self._timer: asyncio.TimerHandle | None = None
@@ -122,6 +123,13 @@ class DatagramProtocol(asyncio.DatagramProtocol):
             self._lose(peer, exc)
         if not self.connected.done():
             self.connected.set_exception(exc or HandshakeTimeout("the socket was closed in the handshake"))
+
+    def pause_writing(self) -> None:
+        """The socket takes no more: what is sent until `resume_writing` is lost, as anybody could make it grow."""
+        self._is_full = True
+
+    def resume_writing(self) -> None:
+        self._is_full = False
 
     def error_received(self, exc: Exception) -> None:
         """A datagram couldn't be sent, as to a port where nobody listens yet: it counts as lost."""
@@ -254,7 +262,11 @@ class DatagramProtocol(asyncio.DatagramProtocol):
     def _see(self, begun: _Begun) -> None:
         """Sends what a handshake has to send, and notes its index once it has one."""
         index = begun.channel.index
-        if index is not None and (index in self._peers or self._done.setdefault(index, begun) is not begun):
+        if index is not None and index not in self._peers and index not in self._done:
+            self._done[index] = begun
+            if not self._initiator:
+                begun.since = self.loop.time()    # its time begins anew: the other party may know of the session now
+        elif index is not None and self._done.get(index) is not begun:
             self._close(begun)    # two sessions have the same index
         for datagram in begun.channel.datagrams_to_send():
             if self._initiator or begun.may_send(len(datagram)):
@@ -289,7 +301,7 @@ class DatagramProtocol(asyncio.DatagramProtocol):
             channel.close()
             return None
         peer = DatagramPeer(self, channel, address)
-        for other_peer in [it for it in self._peers.values() if _same(it, peer)]:
+        for other_peer in [it for it in self._peers.values() if _replaces(peer, begun.address, it)]:
             self._lose(other_peer, None)
         if len(self._peers) >= self._most_peers:
             self._lose(min(self._peers.values(), key=lambda it: it.heard), None)
@@ -301,7 +313,7 @@ class DatagramProtocol(asyncio.DatagramProtocol):
         return peer
 
     def _send(self, datagram: bytes, address: Any) -> None:
-        if self._transport is not None:
+        if self._transport is not None and not self._is_full:
             self._transport.sendto(datagram, address)
 
     def _flush(self, channel: DatagramChannel, address: Any) -> None:
@@ -374,6 +386,7 @@ class DatagramProtocol(asyncio.DatagramProtocol):
             logger.error("handshake with %s: %s", address, fault, exc_info=cause)
 
 
-def _same(one: DatagramPeer, other: DatagramPeer) -> bool:
-    """Whether two sessions are of one program: one that has begun anew."""
-    return one.address == other.address and one.noise.peer_key == other.noise.peer_key
+def _replaces(peer: DatagramPeer, address: Any, other: DatagramPeer) -> bool:
+    """Whether a new session is of the same program as another one: one that has begun anew. What counts is the address
+    of the handshake, since anybody can send the first transport datagram in the name of another address."""
+    return other.address == address and other.noise.peer_key == peer.noise.peer_key

@@ -13,7 +13,7 @@ pub const COOKIE: usize = 16;
 const OVERHEAD: usize = 1 + INDEX + 8 + 16;
 const REPLY: usize = 1 + 2 * COOKIE;
 const TIMES: usize = 3;
-const PERIOD: u64 = 120;
+const PERIOD: u64 = 120_000;
 const MOST_A_SECOND: u32 = 32;
 
 /// What a datagram is, by its first byte and length.
@@ -135,36 +135,33 @@ pub fn index(last: &[u8]) -> &[u8] {
     &last[last.len().saturating_sub(INDEX)..]
 }
 
-/// A responder's secrets: one makes cookies for 120 seconds, and counts for 120 more. `now` is in seconds.
+/// A responder's secrets: one makes cookies for 120 seconds, and counts for 120 more. `now` is in milliseconds.
 pub struct Cookies<F> {
     draw: F,
-    since: u64,
-    secrets: Vec<[u8; 32]>,
+    secrets: Vec<([u8; 32], u64)>, // with the time when it was drawn, the newest first
 }
 
 impl<F: FnMut() -> [u8; 32]> Cookies<F> {
     pub fn new(draw: F) -> Self {
-        Self { draw, since: 0, secrets: Vec::new() }
+        Self { draw, secrets: Vec::new() }
     }
 
     fn renew(&mut self, now: u64) {
-        let age = now - self.since;
-        if self.secrets.is_empty() || age >= PERIOD {
-            self.secrets.truncate(usize::from(age < 2 * PERIOD));
-            self.secrets.insert(0, (self.draw)());
-            self.since = now;
+        self.secrets.retain(|it| now - it.1 < 2 * PERIOD);
+        if self.secrets.first().map_or(true, |it| now - it.1 >= PERIOD) {
+            self.secrets.insert(0, ((self.draw)(), now));
         }
     }
 
     pub fn make(&mut self, from: &SocketAddr, message: &[u8], now: u64) -> Option<[u8; COOKIE]> {
         self.renew(now);
-        cookie(self.secrets.first()?, from, message).ok()
+        cookie(&self.secrets.first()?.0, from, message).ok()
     }
 
     pub fn accept(&mut self, made: &[u8], from: &SocketAddr, message: &[u8], now: u64) -> bool {
         self.renew(now);
         let is_right = |secret| cookie(secret, from, message).map_or(false, |it| memcmp::eq(&it, made));
-        made.len() == COOKIE && self.secrets.iter().filter(|secret| is_right(secret)).count() > 0
+        made.len() == COOKIE && self.secrets.iter().filter(|it| is_right(&it.0)).count() > 0
     }
 }
 

@@ -49,7 +49,7 @@ fn cookie(words: &[&str]) -> Result<String> {
     Ok(all.map(|it| hex(&it)).join(" "))
 }
 
-/// The secrets, and then for each step a second and a cookie.
+/// The secrets, and then for each step a millisecond and a cookie.
 fn secrets(words: &[&str]) -> Result<String> {
     let (from, message) = (address(words[0], words[1])?, bytes(words[2])?);
     let mut drawn = words[3].split(',').map(secret).collect::<Result<Vec<_>>>()?.into_iter();
