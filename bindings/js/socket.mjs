@@ -17,6 +17,8 @@ const LINGER = 5000;
 // how long one that is left does, once all is sent, and how many bytes it reads
 const BRIEF = { patience: 200, most: 1 << 20 };
 
+const SENT = Promise.resolve();
+
 /** @typedef {import('./waiting.mjs').Signal} Signal */
 
 /**
@@ -118,18 +120,20 @@ export class NoiseSocket {
    * @param {{ signal?: Signal }} [options]
    * @returns {Promise<void>}
    */
-  async send(payload, { signal } = {}) {
-    this.#mustBeOpen();
-    mustGoOn(signal);
-    bytesOf(payload, 'payload');
-    if (signal || payload.length > SHARED) await this.#sendCopy(copyOf(payload, 'payload'), signal);
-    else if (payload.length >= ALONE && payload.length <= MOST && this.#sending.isIdle) await this.#sendAlone(payload);
-    else await this.#sending.add(payload);
-  }
-
-  async #sendAlone(payload) {
-    const taken = this.#sending.putPayload(payload);
-    if (taken) await this.#sending.take(() => taken);
+  send(payload, options = {}) {
+    // No async function: payloads of one batch have one promise, and none has another around it.
+    try {
+      const { signal } = options;
+      this.#mustBeOpen();
+      mustGoOn(signal);
+      bytesOf(payload, 'payload');
+      if (signal || payload.length > SHARED) return this.#sendCopy(copyOf(payload, 'payload'), signal);
+      if (payload.length < ALONE || payload.length > MOST || !this.#sending.isIdle) return this.#sending.add(payload);
+      const taken = this.#sending.putPayload(payload);
+      return taken ? this.#sending.take(() => taken) : SENT;
+    } catch (error) {
+      return Promise.reject(error);
+    }
   }
 
   async #sendCopy(payload, signal) {

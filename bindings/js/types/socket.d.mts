@@ -37,7 +37,7 @@ export class NoiseSocket implements AsyncIterable<Uint8Array> {
      * @param {{ signal?: Signal }} [options]
      * @returns {Promise<void>}
      */
-    send(payload: Uint8Array, { signal }?: {
+    send(payload: Uint8Array, options?: {
         signal?: import("./waiting.mjs").Signal | undefined;
     } | undefined): Promise<void>;
     /**
