@@ -113,11 +113,11 @@ export class Sending {
     return frame;
   }
 
-  /** Seals a payload of one frame at once: a promise, or nothing where the connection has taken it. */
+  /** Seals a payload at once: a promise, or nothing where the connection has taken it. */
   putPayload(payload) {
     this.#mustGoOn();
-    const frame = this.#stream.write(payload, this.#carrier.room);
-    return frame.length > 0 ? this.put([frame]) : undefined;
+    const frames = this.#stream.writeAll(payload, this.#carrier.room);
+    return frames.length > 0 ? this.put(frames) : undefined;
   }
 
   putEnd() {

@@ -128,7 +128,7 @@ export class NoiseSocket {
       mustGoOn(signal);
       bytesOf(payload, 'payload');
       if (signal || payload.length > SHARED) return this.#sendCopy(copyOf(payload, 'payload'), signal);
-      if (payload.length < ALONE || payload.length > MOST || !this.#sending.isIdle) return this.#sending.add(payload);
+      if (payload.length < ALONE || !this.#sending.isIdle) return this.#sending.add(payload);
       const taken = this.#sending.putPayload(payload);
       return taken ? this.#sending.take(() => taken) : SENT;
     } catch (error) {
@@ -158,12 +158,14 @@ export class NoiseSocket {
 
   /**
    * Sends the last message of the handshake, where it is kept back, and waits until the connection has taken all
-   * that was sent.
+   * that was sent. A signal that aborts ends the waiting alone: what was sent still leaves.
+   * @param {{ signal?: Signal }} [options]
    * @returns {Promise<void>}
    */
-  async flush() {
+  async flush({ signal } = {}) {
     this.#mustBeOpen();
-    await this.#sending.take(() => this.#sending.put());
+    mustGoOn(signal);
+    await unlessAborted(this.#sending.take(() => this.#sending.put()), signal);
   }
 
   #flushLater() {

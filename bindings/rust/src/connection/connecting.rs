@@ -76,8 +76,8 @@ impl<S: Dh, E: Ephemeral> Connecting<S, E> {
     ///
     /// # Errors
     ///
-    /// `PskCount` without `Builder::late_psks`. `WantedPsk` where the pattern never gives the other party's key; where it
-    /// gives that after the token, `step` returns it.
+    /// `PskCount` without `Builder::late_psks`. `WantedPsk` where the pattern never gives the other party's key; where
+    /// it gives that after the token, `step` returns it.
     pub fn with_late_psks(handshake: Handshake<S, E>) -> Result<Self, Error> {
         Connecting::with(handshake, Peer::Chosen)
     }
