@@ -24,7 +24,7 @@ export class Batch {
   /** Whether the stream ends after it. */
   isLast = false;
   /** Settles once it has left. */
-  sent = new Promise((resolve, reject) => { [this.resolve, this.reject] = [resolve, reject]; });
+  sent = new Promise((resolve, reject) => { this.resolve = resolve; this.reject = reject; });
 
   hasRoom(size) {
     return !this.isLast && this.#length + size <= SHARED;

@@ -8,6 +8,12 @@ const OF_SOCKET = [
   'remotePort',
 ];
 
+/**
+ * So many bytes wait before `write` returns false: with those that came last they are one frame. With the 16 KiB that a
+ * socket has in Node 20 there would be three.
+ */
+const MARK = 3 << 14;
+
 /** The class, of Node's: a browser has none, and a bundler for browsers would follow an import. */
 function classOf() {
   const stream = globalThis.process?.getBuiltinModule?.('stream');
@@ -20,7 +26,7 @@ function classOf() {
     connecting = false;
 
     constructor(channel, below, sides) {
-      super({ allowHalfOpen: false, ...sides });
+      super({ allowHalfOpen: false, writableHighWaterMark: MARK, ...sides });
       this.#channel = channel;
       this.#below = below;
     }

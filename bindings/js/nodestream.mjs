@@ -23,9 +23,17 @@ import { drain, within } from './waiting.mjs';
 
 const cut = (cause) => new NoiseError('NOISE_CUT', { cause });
 
-/** Some frames as one piece. */
+/** Some frames as one piece. Those that stand one after another in the same memory aren't copied. */
 export function joined(frames) {
   if (frames.length === 1) return frames[0];
+  const [{ buffer, byteOffset }] = frames;
+  let end = byteOffset;
+  const areInRow = frames.every((frame) => {
+    const isNext = frame.buffer === buffer && frame.byteOffset === end;
+    end += frame.length;
+    return isNext;
+  });
+  if (areInRow) return new Uint8Array(buffer, byteOffset, end - byteOffset);
   const bytes = new Uint8Array(frames.reduce((size, { length }) => size + length, 0));
   let at = 0;
   for (const frame of frames) {

@@ -79,14 +79,19 @@ export class Sending {
 
   /** Sends a batch that nothing is before, in the turn that is held for it. */
   #leave(batch) {
-    const settle = (how) => (value) => { this.#turns.release(); how(value); };
+    let written;
     try {
-      const written = this.#putBatch(batch);
-      if (written) written.then(settle(batch.resolve), settle(batch.reject));
-      else settle(batch.resolve)();
+      written = this.#putBatch(batch);
     } catch (error) {
-      settle(batch.reject)(error);
+      written = Promise.reject(error);
     }
+    const settle = (how) => (value) => { this.#turns.release(); how(value); };
+    if (written) {
+      written.then(settle(batch.resolve), settle(batch.reject));
+      return;
+    }
+    this.#turns.release();
+    batch.resolve();
   }
 
   /** Sends a batch: a promise, or nothing where the connection has taken it at once. */
@@ -108,11 +113,11 @@ export class Sending {
     return frame;
   }
 
-  /** Seals a payload of one frame at once: a promise, or nothing where the connection has taken it. */
+  /** Seals a payload at once: a promise, or nothing where the connection has taken it. */
   putPayload(payload) {
     this.#mustGoOn();
-    const frame = this.#stream.write(payload, this.#carrier.room);
-    return frame.length > 0 ? this.put([frame]) : undefined;
+    const frames = this.#stream.writeAll(payload, this.#carrier.room);
+    return frames.length > 0 ? this.put(frames) : undefined;
   }
 
   putEnd() {

@@ -17,6 +17,8 @@ const LINGER = 5000;
 // how long one that is left does, once all is sent, and how many bytes it reads
 const BRIEF = { patience: 200, most: 1 << 20 };
 
+const SENT = Promise.resolve();
+
 /** @typedef {import('./waiting.mjs').Signal} Signal */
 
 /**
@@ -118,18 +120,20 @@ export class NoiseSocket {
    * @param {{ signal?: Signal }} [options]
    * @returns {Promise<void>}
    */
-  async send(payload, { signal } = {}) {
-    this.#mustBeOpen();
-    mustGoOn(signal);
-    bytesOf(payload, 'payload');
-    if (signal || payload.length > SHARED) await this.#sendCopy(copyOf(payload, 'payload'), signal);
-    else if (payload.length >= ALONE && payload.length <= MOST && this.#sending.isIdle) await this.#sendAlone(payload);
-    else await this.#sending.add(payload);
-  }
-
-  async #sendAlone(payload) {
-    const taken = this.#sending.putPayload(payload);
-    if (taken) await this.#sending.take(() => taken);
+  send(payload, options = {}) {
+    // No async function: payloads of one batch have one promise, and none has another around it.
+    try {
+      const { signal } = options;
+      this.#mustBeOpen();
+      mustGoOn(signal);
+      bytesOf(payload, 'payload');
+      if (signal || payload.length > SHARED) return this.#sendCopy(copyOf(payload, 'payload'), signal);
+      if (payload.length < ALONE || !this.#sending.isIdle) return this.#sending.add(payload);
+      const taken = this.#sending.putPayload(payload);
+      return taken ? this.#sending.take(() => taken) : SENT;
+    } catch (error) {
+      return Promise.reject(error);
+    }
   }
 
   async #sendCopy(payload, signal) {
@@ -154,12 +158,14 @@ export class NoiseSocket {
 
   /**
    * Sends the last message of the handshake, where it is kept back, and waits until the connection has taken all
-   * that was sent.
+   * that was sent. A signal that aborts ends the waiting alone: what was sent still leaves.
+   * @param {{ signal?: Signal }} [options]
    * @returns {Promise<void>}
    */
-  async flush() {
+  async flush({ signal } = {}) {
     this.#mustBeOpen();
-    await this.#sending.take(() => this.#sending.put());
+    mustGoOn(signal);
+    await unlessAborted(this.#sending.take(() => this.#sending.put()), signal);
   }
 
   #flushLater() {

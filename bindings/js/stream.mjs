@@ -8,6 +8,8 @@ import { Sealed } from './transport.mjs';
 const ROOM = 65552;    // more than the longest frame has
 /** How many bytes a payload of one frame has at most. */
 export const MOST = 65519;
+/** How much longer a frame is than its payload. */
+const OVERHEAD = 18;
 
 /** A message after its length: its frame. NOISE_LENGTH where no frame has so many bytes. */
 export function frameOf(message) {
@@ -67,7 +69,7 @@ export class Stream extends Sealed {
   }
 
   /**
-   * The frames of a payload of any length, one after another in memory that `room` has for them, or in their own.
+   * The frames of a payload of any length, one after another in the same memory: what `room` has for one, or their own.
    */
   writeAll(payload, room) {
     if (payload.length <= MOST) {
@@ -75,7 +77,10 @@ export class Stream extends Sealed {
       return frame.length > 0 ? [frame] : [];
     }
     const frames = [];
-    for (let at = 0; at < payload.length; at += MOST) frames.push(this.write(payload.subarray(at, at + MOST)));
+    const all = new Uint8Array(payload.length + OVERHEAD * Math.ceil(payload.length / MOST));
+    let used = 0;
+    const behind = (size) => { used += size; return all.subarray(used - size, used); };
+    for (let at = 0; at < payload.length; at += MOST) frames.push(this.write(payload.subarray(at, at + MOST), behind));
     return frames;
   }
 

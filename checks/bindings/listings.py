@@ -1,12 +1,14 @@
 #!/usr/bin/env python3
-"""Writes the listing of README.md and the first ones of docs/GO.md and docs/RUST.md as modules that compile:
-listings.py FOLDER. It also compares the other listings of docs/GO.md and docs/RUST.md with the tests that run them.
+"""Writes the listing of README.md, the first ones of docs/GO.md and docs/RUST.md, and checks/bindings/programs with the
+listings of docs/RUST.md in them, as modules that compile: listings.py FOLDER. It also compares the other listings of
+docs/GO.md and docs/RUST.md with the tests that run them.
 
 FOLDER/go and FOLDER/rust get the program; their go.mod, Cargo.toml and .cargo/config.toml are those of the page, with
 the path of this repository.
 """
 import re
 import sys
+import textwrap
 from pathlib import Path
 
 TOP = Path(__file__).resolve().parent.parent.parent
@@ -57,6 +59,18 @@ def stands(page: str, listing: str, test: str) -> None:
         sys.exit(f"listings: {page}: {test} doesn't have\n{listing}")
 
 
+def programs(folder: Path) -> None:
+    """checks/bindings/programs, with the page's listings in the place of the comments that have their first lines."""
+    by_line = {listing.splitlines()[0]: listing for listing in listings("RUST.md", "rust")}
+    for path in (TOP / "checks/bindings/programs").rglob("*.*"):
+        text = path.read_text(encoding="utf-8")
+        for indentation, line in re.findall(r"^( *)// page: (.*)$", text, re.M):
+            listing = textwrap.indent(by_line.pop(line), indentation)
+            text = text.replace(f"{indentation}// page: {line}\n", listing)
+        text = text.replace("../../../bindings/rust", str(TOP / "bindings/rust"))
+        write(folder / path.relative_to(TOP / "checks/bindings/programs"), text)
+
+
 def main() -> None:
     folder = Path(sys.argv[1])
     first, *others = listings("GO.md", "go")
@@ -72,6 +86,8 @@ def main() -> None:
     write(folder / "rust/Cargo.toml", indented("RUST.md", "[package]"))
     write(folder / "rust/.cargo/config.toml", indented("RUST.md", "[source.crates-io]"))
     write(folder / "rust/src/main.rs", listings("RUST.md", "rust")[0])
+    programs(folder / "programs")
+    write(folder / "programs/.cargo/config.toml", indented("RUST.md", "[source.crates-io]"))
     for listing in listings("RUST.md", "rust")[1:]:
         stands("RUST.md", listing, "bindings/rust/tests/guide.rs")
 

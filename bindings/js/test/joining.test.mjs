@@ -206,6 +206,38 @@ test('joining', { timeout: 300000 }, async (t) => {
     }
   });
 
+  await t.test('a signal ends the wait of flush alone: what was sent still leaves', async () => {
+    const { ends, writes, keep } = waiting();
+    const [a, b] = await channels(ends);
+    await a.send(text('before'));
+    keep(true);
+    const sent = a.send(text('kept'));
+    await turn();
+    const controller = new AbortController();
+    const flushed = outcome(a.flush({ signal: controller.signal }));
+    controller.abort();
+    assert.equal(await flushed, 'AbortError');
+    assert.equal(await outcome(a.flush({ signal: AbortSignal.abort() })), 'AbortError');
+    keep(false);
+    writes[0].take();
+    await sent;
+    await Promise.all([a.flush({ signal: new AbortController().signal }), a.close()]);
+    assert.deepEqual(await received(b), text('beforekept'));
+    await b.close();
+  });
+
+  await t.test('no odd call of send throws: each is rejected, and the channel goes on', async () => {
+    const [a, b] = await channels(duplexes());
+    for (const words of [[], ['text'], [1], [null], [[1, 2]], [text('x'), null], [new Uint16Array(2)]]) {
+      const called = a.send(...words);    // throws nothing
+      assert.equal(await outcome(called), 'TypeError');
+    }
+    await a.send(text('whole'));
+    await a.close();
+    assert.deepEqual(await received(b), text('whole'));
+    await b.close();
+  });
+
   await t.test('what was passed may be changed after the call', async () => {
     const [a, b] = await channels(await overTcp());
     const reading = received(b);

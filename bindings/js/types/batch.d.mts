@@ -5,6 +5,8 @@ export class Batch {
     isLast: boolean;
     /** Settles once it has left. */
     sent: Promise<any>;
+    resolve: ((value: any) => void) | undefined;
+    reject: ((reason?: any) => void) | undefined;
     hasRoom(size: any): boolean;
     /** Copies a payload, which may change afterwards. */
     add(payload: any): void;

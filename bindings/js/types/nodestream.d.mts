@@ -1,4 +1,4 @@
-/** Some frames as one piece. */
+/** Some frames as one piece. Those that stand one after another in the same memory aren't copied. */
 export function joined(frames: any): any;
 /** By Duplex.toWeb of Node 20 an error after the close would end the program. */
 export function ofNode(stream: any): {

@@ -14,7 +14,7 @@ export class Sending {
     add(payload: any): any;
     /** Ends the stream after what was sent before, and together with that where it still waits. */
     addEnd(): any;
-    /** Seals a payload of one frame at once: a promise, or nothing where the connection has taken it. */
+    /** Seals a payload at once: a promise, or nothing where the connection has taken it. */
     putPayload(payload: any): any;
     putEnd(): any;
     /** Sends frames, after what was kept back: a promise, or nothing where the connection has taken them at once. */

@@ -37,7 +37,7 @@ export class NoiseSocket implements AsyncIterable<Uint8Array> {
      * @param {{ signal?: Signal }} [options]
      * @returns {Promise<void>}
      */
-    send(payload: Uint8Array, { signal }?: {
+    send(payload: Uint8Array, options?: {
         signal?: import("./waiting.mjs").Signal | undefined;
     } | undefined): Promise<void>;
     /**
@@ -51,10 +51,13 @@ export class NoiseSocket implements AsyncIterable<Uint8Array> {
     } | undefined): Promise<void>;
     /**
      * Sends the last message of the handshake, where it is kept back, and waits until the connection has taken all
-     * that was sent.
+     * that was sent. A signal that aborts ends the waiting alone: what was sent still leaves.
+     * @param {{ signal?: Signal }} [options]
      * @returns {Promise<void>}
      */
-    flush(): Promise<void>;
+    flush({ signal }?: {
+        signal?: import("./waiting.mjs").Signal | undefined;
+    } | undefined): Promise<void>;
     /**
      * The next payload, or undefined once the other party has ended its stream, and all of it came. Where the
      * connection has ended before that, it throws NOISE_CUT, and to the initiator of a one-way pattern nothing comes:

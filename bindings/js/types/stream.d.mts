@@ -27,7 +27,7 @@ export class Stream extends Sealed {
      */
     write(payload: any, room: any): any;
     /**
-     * The frames of a payload of any length, one after another in memory that `room` has for them, or in their own.
+     * The frames of a payload of any length, one after another in the same memory: what `room` has for one, or their own.
      */
     writeAll(payload: any, room: any): any[];
     /** The frame of the end. */

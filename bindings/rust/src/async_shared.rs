@@ -153,11 +153,13 @@ impl<T> AsyncStream<T> {
     }
 
     /// The handshake hash, the same at both parties, to bind other data to the channel (Noise, 11.2).
+    #[must_use]
     pub fn hash(&self) -> &[u8; 32] {
         &self.hash
     }
 
     /// The other party's static key; `None` if the handshake has none.
+    #[must_use]
     pub fn remote_static(&self) -> Option<&[u8; 32]> {
         self.remote_static.as_ref()
     }

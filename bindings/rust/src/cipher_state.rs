@@ -45,6 +45,10 @@ impl SendCipherState {
     /// EncryptWithAd, in place: the text is the first `text_len` bytes of `buffer`, at most 65519, and the message,
     /// whose length it returns, 16 bytes longer. Neither the data, of at most 65535 bytes, nor the nonce is in it. The
     /// next nonce is one greater; after an error nothing is changed.
+    ///
+    /// # Errors
+    ///
+    /// `Room`, `TooLong`, also of the data, `Exhausted` and `OneWay`.
     pub fn encrypt(&mut self, ad: &[u8], buffer: &mut [u8], text_len: usize) -> Result<usize, Error> {
         let mut result = CallResult::default();
         done(self.0.encrypt(ad, buffer, text_len, &mut result))?;
@@ -53,6 +57,10 @@ impl SendCipherState {
 
     /// Sets the nonce of the next message (SetNonce: Noise, 11.4). **Never encrypt twice at one nonce**: whoever sees
     /// both messages learns how the texts differ, and can forge messages of that nonce.
+    ///
+    /// # Errors
+    ///
+    /// `OneWay`.
     pub fn set_nonce(&mut self, nonce: u64) -> Result<(), Error> {
         done(self.0.set_nonce(nonce))
     }
@@ -60,6 +68,10 @@ impl SendCipherState {
 
 impl ReceiveCipherState {
     /// DecryptWithAd, in place: returns the text. The next nonce is one greater; after an error nothing is changed.
+    ///
+    /// # Errors
+    ///
+    /// `Short` and `Tag`; `TooLong`, also of the data, `Exhausted` and `OneWay`.
     pub fn decrypt<'m>(&mut self, ad: &[u8], message: &'m mut [u8]) -> Result<&'m mut [u8], Error> {
         let mut result = CallResult::default();
         done(self.0.decrypt(ad, message, &mut result))?;
@@ -67,6 +79,10 @@ impl ReceiveCipherState {
     }
 
     /// Sets the nonce of the next message (SetNonce: Noise, 11.4). Refuse one that was decrypted before.
+    ///
+    /// # Errors
+    ///
+    /// `OneWay`.
     pub fn set_nonce(&mut self, nonce: u64) -> Result<(), Error> {
         done(self.0.set_nonce(nonce))
     }
@@ -76,11 +92,16 @@ macro_rules! cipher_state {
     ($name:ident) => {
         impl $name {
             /// Replaces the key by the one that follows from it (Rekey: Noise, 11.3), and keeps the nonce.
+            ///
+            /// # Errors
+            ///
+            /// `OneWay`.
             pub fn rekey(&mut self) -> Result<(), Error> {
                 done(self.0.rekey())
             }
 
             /// The nonce of the next message.
+            #[must_use]
             pub fn nonce(&self) -> u64 {
                 self.0.nonce()
             }

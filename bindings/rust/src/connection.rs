@@ -107,6 +107,10 @@ impl Connection {
     }
 
     /// What has come: see [`StreamReceiver::event`].
+    ///
+    /// # Errors
+    ///
+    /// Those of [`StreamReceiver::event`].
     pub fn event(&mut self) -> Result<Event<'_>, Error> {
         self.receiver.event()
     }
@@ -122,16 +126,25 @@ impl Connection {
     }
 
     /// Seals bytes, and returns how many: see [`StreamSender::write`].
+    ///
+    /// # Errors
+    ///
+    /// Those of [`StreamSender::write`].
     pub fn write(&mut self, bytes: &[u8]) -> Result<usize, Error> {
         self.sender.write(bytes)
     }
 
     /// Ends this party's stream: see [`StreamSender::end`].
+    ///
+    /// # Errors
+    ///
+    /// Those of [`StreamSender::end`].
     pub fn end(&mut self) -> Result<(), Error> {
         self.sender.end()
     }
 
     /// The bytes to send: see [`StreamSender::outgoing`].
+    #[must_use]
     pub fn outgoing(&self) -> &[u8] {
         self.sender.outgoing()
     }
@@ -142,16 +155,19 @@ impl Connection {
     }
 
     /// The handshake hash, the same at both parties, to bind other data to the channel (Noise, 11.2).
+    #[must_use]
     pub fn hash(&self) -> &[u8; 32] {
         &self.hash
     }
 
     /// The other party's static key; `None` if the handshake has none.
+    #[must_use]
     pub fn remote_static(&self) -> Option<&[u8; 32]> {
         self.remote_static.as_ref()
     }
 
     /// The two directions, for two threads.
+    #[must_use]
     pub fn split(self) -> (StreamSender, StreamReceiver) {
         (self.sender, self.receiver)
     }

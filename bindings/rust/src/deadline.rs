@@ -7,12 +7,28 @@ use std::time::{Duration, Instant};
 /// A stream that can have a time limit for each `read` and each `write`, as `TcpStream` does.
 pub trait Timeouts {
     /// The time after which a `read` returns `WouldBlock` or `TimedOut`; `None` is never.
+    ///
+    /// # Errors
+    ///
+    /// What the system says.
     fn read_timeout(&self) -> io::Result<Option<Duration>>;
     /// The time after which a `write` returns `WouldBlock` or `TimedOut`; `None` is never.
+    ///
+    /// # Errors
+    ///
+    /// What the system says.
     fn write_timeout(&self) -> io::Result<Option<Duration>>;
     /// Sets the time of a `read`.
+    ///
+    /// # Errors
+    ///
+    /// What the system says.
     fn set_read_timeout(&self, time: Option<Duration>) -> io::Result<()>;
     /// Sets the time of a `write`.
+    ///
+    /// # Errors
+    ///
+    /// What the system says.
     fn set_write_timeout(&self, time: Option<Duration>) -> io::Result<()>;
 }
 
@@ -74,6 +90,10 @@ pub struct Deadline<T: Timeouts> {
 
 impl<T: Timeouts> Deadline<T> {
     /// A deadline so much time from now.
+    ///
+    /// # Errors
+    ///
+    /// What the stream below says of its timeouts; `InvalidInput` where the time is too long for a clock.
     pub fn after(below: T, time: Duration) -> io::Result<Deadline<T>> {
         let until = Instant::now().checked_add(time).ok_or(ErrorKind::InvalidInput)?;
         let (reads, writes) = (below.read_timeout()?, below.write_timeout()?);
@@ -86,6 +106,10 @@ impl<T: Timeouts> Deadline<T> {
     }
 
     /// The stream below without the deadline, with the timeouts that it had before.
+    ///
+    /// # Errors
+    ///
+    /// What the stream below says of its timeouts.
     pub fn lift(self) -> io::Result<T> {
         self.below.set_read_timeout(self.reads)?;
         self.below.set_write_timeout(self.writes)?;
@@ -147,6 +171,10 @@ impl<T: Write + Timeouts> Write for Deadline<T> {
 
 impl<T: Timeouts> Stream<Deadline<T>> {
     /// The channel without the deadline, after the handshake. The timeouts are those that the stream below had before.
+    ///
+    /// # Errors
+    ///
+    /// What the stream below says of its timeouts.
     pub fn lift_deadline(self) -> io::Result<Stream<T>> {
         self.try_map(Deadline::lift)
     }

@@ -170,6 +170,10 @@ by_what_it_leads_to! {
 /// A key pair that can be drawn: each handshake draws a new ephemeral one.
 pub trait Ephemeral: Dh + Sized {
     /// Draws a new key pair.
+    ///
+    /// # Errors
+    ///
+    /// What the key pair says, as that there are no random bytes.
     fn draw() -> Result<Self, DhError>;
 }
 

@@ -141,6 +141,10 @@ impl<S: Dh, E: Ephemeral> Handshake<S, E> {
     /// assert!(client.is_done() && server.is_done());
     /// # Ok(()) }
     /// ```
+    ///
+    /// # Errors
+    ///
+    /// Those of `read`.
     pub fn try_read<'m>(&mut self, message: &'m mut [u8]) -> Result<&'m mut [u8], Error> {
         match self.read_by(raw::Handshake::try_read, message) {
             Ok(payload) => Ok(&mut message[payload]),
@@ -244,9 +248,8 @@ impl<S: Dh, E: Ephemeral> Handshake<S, E> {
         self.options.flushes
     }
 
-    /// Passes the secret of the first psk token that has none: after `WantedPsk`, or before. `PskCount`: no token
-    /// that is still to come lacks its secret. If it is wrong, the other party's message is refused with `Tag`;
-    /// `try_read` then takes it back.
+    /// Passes the secret of the first psk token that has none: after `WantedPsk`, or before. If it is wrong, the other
+    /// party's message is refused with `Tag`; `try_read` then takes it back.
     ///
     #[cfg_attr(any(feature = "x25519", feature = "openssl"), doc = "```")]
     #[cfg_attr(not(any(feature = "x25519", feature = "openssl")), doc = "```ignore")]
@@ -270,6 +273,10 @@ impl<S: Dh, E: Ephemeral> Handshake<S, E> {
     /// assert_eq!(client.hash(), server.hash());
     /// # Ok(()) }
     /// ```
+    ///
+    /// # Errors
+    ///
+    /// `PskCount`: no token that is still to come lacks its secret.
     pub fn set_psk(&mut self, secret: &[u8; 32]) -> Result<(), Error> {
         match self.memory.set_psk(secret) {
             OK => {
@@ -282,31 +289,37 @@ impl<S: Dh, E: Ephemeral> Handshake<S, E> {
     }
 
     /// Whether a psk token that is still to come lacks its secret.
+    #[must_use]
     pub fn lacks_psk(&self) -> bool {
         self.options.lacking_psks > 0
     }
 
     /// How many bytes the next message has with a payload of this length; `None` if `write` wouldn't accept it now.
+    #[must_use]
     pub fn message_len(&self, payload_len: usize) -> Option<usize> {
         self.memory.message_len(payload_len)
     }
 
     /// Whether the next message, if there is one, is this party's to write.
+    #[must_use]
     pub fn writes_next(&self) -> bool {
         self.stage.writes_next != 0 && !self.is_done()
     }
 
     /// Whether all messages have passed.
+    #[must_use]
     pub fn is_done(&self) -> bool {
         self.stage.ended == 0 && self.stage.passed == self.stage.messages
     }
 
     /// The handshake hash so far. After the last message it is the same at both parties (Noise, 11.2).
+    #[must_use]
     pub fn hash(&self) -> [u8; 32] {
         self.memory.hash()
     }
 
     /// The other party's static key, if it is known. Compare it before you send anything that matters.
+    #[must_use]
     pub fn remote_static(&self) -> Option<[u8; 32]> {
         self.memory.remote_static()
     }

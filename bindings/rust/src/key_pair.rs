@@ -31,11 +31,19 @@ pub struct KeyPair {
 
 impl KeyPair {
     /// Draws a new key pair, from the random bytes of the system.
+    ///
+    /// # Errors
+    ///
+    /// `KeyPair`: the system has given no random bytes, or OpenSSL has failed.
     pub fn generate() -> Result<KeyPair, Error> {
         Ok(KeyPair::draw()?)
     }
 
     /// The key pair of this secret key.
+    ///
+    /// # Errors
+    ///
+    /// `KeyPair`: OpenSSL has failed.
     pub fn from_secret(secret: &[u8; 32]) -> Result<KeyPair, Error> {
         Ok(KeyPair::of(Secret::of(secret)?)?)
     }
@@ -46,11 +54,16 @@ impl KeyPair {
     }
 
     /// The public key.
+    #[must_use]
     pub fn public_key(&self) -> &[u8; 32] {
         &self.public
     }
 
     /// The secret key: keep it from others. It is overwritten when it is dropped.
+    ///
+    /// # Errors
+    ///
+    /// `KeyPair`: OpenSSL has failed.
     pub fn secret_key(&self) -> Result<Zeroizing<[u8; 32]>, Error> {
         Ok(self.secret.bytes()?)
     }

@@ -52,6 +52,7 @@
 //! ```
 #![cfg_attr(not(feature = "std"), no_std)]
 #![deny(unsafe_op_in_unsafe_fn, missing_docs, missing_debug_implementations)]
+#![warn(clippy::missing_errors_doc, clippy::must_use_candidate)]
 #![allow(unknown_lints, unexpected_cfgs)] // `sanitized`
 #![allow(clippy::duplicate_mod)] // the code of `AsyncStream` over tokio and over futures-io
 // Some link to what another feature adds.

@@ -33,6 +33,10 @@ pub struct Keys {
 
 impl Pattern {
     /// The pattern of this name or text, as [`Builder::new`](crate::Builder::new) takes it.
+    ///
+    /// # Errors
+    ///
+    /// `Name` of a name, and `Pattern` of a text, that isn't valid; `Version` where the library has another one.
     pub fn new(pattern: &str) -> Result<Pattern, Error> {
         if !raw::is_library() {
             return Err(Error::Version);
@@ -59,26 +63,31 @@ impl Pattern {
     }
 
     /// How many messages the handshake has, 1 to 8. The initiator writes the first; then the parties take turns.
+    #[must_use]
     pub fn messages(&self) -> usize {
         self.0.messages.into()
     }
 
     /// Whether it has one message alone, after which only the initiator sends (Noise, 7.4).
+    #[must_use]
     pub fn is_one_way(&self) -> bool {
         self.0.one_way != 0
     }
 
     /// How many psk tokens it has.
+    #[must_use]
     pub fn psks(&self) -> usize {
         self.0.psks.into()
     }
 
     /// What the initiator brings.
+    #[must_use]
     pub fn initiator(&self) -> Keys {
         self.keys(0)
     }
 
     /// What the responder brings.
+    #[must_use]
     pub fn responder(&self) -> Keys {
         self.keys(1)
     }

@@ -144,6 +144,10 @@ impl<T: Read + Write> Stream<T> {
     /// assert_eq!(client.hash(), server.hash());
     /// # Ok(()) }
     /// ```
+    ///
+    /// # Errors
+    ///
+    /// Those of `new`; `Refused` where there is no secret.
     pub fn with_psk_for<S: Dh, E: Ephemeral>(
         below: T,
         handshake: Handshake<S, E>,
@@ -155,11 +159,13 @@ impl<T: Read + Write> Stream<T> {
 
 impl<T> Stream<T> {
     /// The handshake hash, the same at both parties, to bind other data to the channel (Noise, 11.2).
+    #[must_use]
     pub fn hash(&self) -> &[u8; 32] {
         &self.hash
     }
 
     /// The other party's static key; `None` if the handshake has none.
+    #[must_use]
     pub fn remote_static(&self) -> Option<&[u8; 32]> {
         self.remote_static.as_ref()
     }
@@ -232,6 +238,10 @@ impl<T: Write> Stream<T> {
 
 impl<T: Write> WriteHalf<T> {
     /// Sends the end of this party's stream, as [`Stream::close_write`] does.
+    ///
+    /// # Errors
+    ///
+    /// Those of [`Stream::close_write`].
     pub fn close_write(&mut self) -> io::Result<()> {
         self.writing.end(&mut self.below)
     }

@@ -87,6 +87,10 @@ fn place<'m>(code: u32, result: &CallResult, bytes: &'m mut [u8]) -> Result<&'m 
 
 impl Sender {
     /// Seals a payload of at most 65519 bytes to the front of `out`: 16 bytes longer. At an error nothing is changed.
+    ///
+    /// # Errors
+    ///
+    /// `Room`, `TooLong`, `Exhausted` and `OneWay`.
     #[inline]
     pub fn seal(&mut self, payload: &[u8], out: &mut [u8]) -> Result<usize, Error> {
         let mut result = CallResult::default();
@@ -94,6 +98,10 @@ impl Sender {
     }
 
     /// Seals in place: the payload is the first `payload_len` bytes of `buffer`, which needs 16 bytes more.
+    ///
+    /// # Errors
+    ///
+    /// Those of `seal`.
     #[inline]
     pub fn seal_in_place(&mut self, buffer: &mut [u8], payload_len: usize) -> Result<usize, Error> {
         let mut result = CallResult::default();
@@ -101,6 +109,7 @@ impl Sender {
     }
 
     /// How many messages were sealed.
+    #[must_use]
     pub fn nonce(&self) -> u64 {
         self.0.nonce()
     }
@@ -109,6 +118,10 @@ impl Sender {
 impl Receiver {
     /// Opens the next message in place, and returns its payload. At an error nothing is changed; over a
     /// stream close at the first.
+    ///
+    /// # Errors
+    ///
+    /// `Tag` and `Short`; `TooLong`, `Exhausted` and `OneWay`.
     #[inline]
     pub fn open<'m>(&mut self, message: &'m mut [u8]) -> Result<&'m mut [u8], Error> {
         let mut result = CallResult::default();
@@ -116,6 +129,7 @@ impl Receiver {
     }
 
     /// How many messages were opened.
+    #[must_use]
     pub fn nonce(&self) -> u64 {
         self.0.nonce()
     }
@@ -127,18 +141,27 @@ impl Transport {
     }
 
     /// Seals a payload as [`Sender::seal`] does.
+    ///
+    /// # Errors
+    ///
+    /// Those of [`Sender::seal`].
     #[inline]
     pub fn seal(&mut self, payload: &[u8], out: &mut [u8]) -> Result<usize, Error> {
         self.sender.seal(payload, out)
     }
 
     /// Opens the next message as [`Receiver::open`] does.
+    ///
+    /// # Errors
+    ///
+    /// Those of [`Receiver::open`].
     #[inline]
     pub fn open<'m>(&mut self, message: &'m mut [u8]) -> Result<&'m mut [u8], Error> {
         self.receiver.open(message)
     }
 
     /// The two directions, for two threads.
+    #[must_use]
     pub fn split(self) -> (Sender, Receiver) {
         (self.sender, self.receiver)
     }
@@ -146,6 +169,10 @@ impl Transport {
 
 impl DatagramSender {
     /// Seals a payload of at most 65519 bytes to the front of `out`: 24 bytes longer. At an error nothing is changed.
+    ///
+    /// # Errors
+    ///
+    /// `Room`, `TooLong`, `Exhausted` and `OneWay`.
     #[inline]
     pub fn seal(&mut self, payload: &[u8], out: &mut [u8]) -> Result<usize, Error> {
         let mut result = CallResult::default();
@@ -154,6 +181,10 @@ impl DatagramSender {
 
     /// Seals in place: the payload is `payload_len` bytes of `buffer` from the ninth on, after which
     /// 16 bytes more are needed.
+    ///
+    /// # Errors
+    ///
+    /// Those of `seal`.
     #[inline]
     pub fn seal_in_place(&mut self, buffer: &mut [u8], payload_len: usize) -> Result<usize, Error> {
         let mut result = CallResult::default();
@@ -161,6 +192,7 @@ impl DatagramSender {
     }
 
     /// How many datagrams were sealed: the nonce of the next.
+    #[must_use]
     pub fn nonce(&self) -> u64 {
         self.0.nonce()
     }
@@ -169,6 +201,10 @@ impl DatagramSender {
 impl DatagramReceiver {
     /// Opens a datagram in place, and returns its payload. At an error nothing is changed: drop the datagram. `Old` and
     /// `Repeated` alone are no sign of an attack.
+    ///
+    /// # Errors
+    ///
+    /// `Old` and `Repeated`; `Tag`, `Short`, `TooLong`, `Reserved` and `OneWay`.
     #[inline]
     pub fn open<'m>(&mut self, datagram: &'m mut [u8]) -> Result<&'m mut [u8], Error> {
         let mut result = CallResult::default();
@@ -182,18 +218,27 @@ impl Datagrams {
     }
 
     /// Seals a payload as [`DatagramSender::seal`] does.
+    ///
+    /// # Errors
+    ///
+    /// Those of [`DatagramSender::seal`].
     #[inline]
     pub fn seal(&mut self, payload: &[u8], out: &mut [u8]) -> Result<usize, Error> {
         self.sender.seal(payload, out)
     }
 
     /// Opens a datagram as [`DatagramReceiver::open`] does.
+    ///
+    /// # Errors
+    ///
+    /// Those of [`DatagramReceiver::open`].
     #[inline]
     pub fn open<'m>(&mut self, datagram: &'m mut [u8]) -> Result<&'m mut [u8], Error> {
         self.receiver.open(datagram)
     }
 
     /// The two directions, for two threads.
+    #[must_use]
     pub fn split(self) -> (DatagramSender, DatagramReceiver) {
         (self.sender, self.receiver)
     }

@@ -53,19 +53,31 @@ pub(crate) enum Peer {
 impl<S: Dh, E: Ephemeral> Connecting<S, E> {
     /// A handshake in which you verify the other party's static key: [`Step::Verify`] comes as soon as it is known. A
     /// pattern without such a key, as NN, is refused: see `anonymous`.
+    ///
+    /// # Errors
+    ///
+    /// `Refused` where the other party has no static key; `PskCount` after `Builder::late_psks`.
     pub fn new(handshake: Handshake<S, E>) -> Result<Self, Error> {
         Connecting::with(handshake, Peer::Verified)
     }
 
     /// A handshake in which the other party has no static key, or one that you don't compare: with a secret that both
     /// have (psk), or with anybody.
+    ///
+    /// # Errors
+    ///
+    /// `PskCount` after `Builder::late_psks`.
     pub fn anonymous(handshake: Handshake<S, E>) -> Result<Self, Error> {
         Connecting::with(handshake, Peer::Anybody)
     }
 
     /// A handshake of [`Builder::late_psks`](crate::Builder::late_psks): [`Step::WantedPsk`] comes at each psk
-    /// token that lacks its secret. A pattern that doesn't give the other party's key before the token is
-    /// refused with `WantedPsk`.
+    /// token that lacks its secret.
+    ///
+    /// # Errors
+    ///
+    /// `PskCount` without `Builder::late_psks`. `WantedPsk` where the pattern never gives the other party's key; where
+    /// it gives that after the token, `step` returns it.
     pub fn with_late_psks(handshake: Handshake<S, E>) -> Result<Self, Error> {
         Connecting::with(handshake, Peer::Chosen)
     }
@@ -92,6 +104,11 @@ impl<S: Dh, E: Ephemeral> Connecting<S, E> {
     }
 
     /// What to do next.
+    ///
+    /// # Errors
+    ///
+    /// `Tag`, `Short`, `TooLong`, `Cut`, `KeyPair` and `Zeros` end the handshake, and each later call returns the same.
+    /// After `KeyPair` with [`DhError::later`](crate::DhError::later) call it again.
     pub fn step(&mut self) -> Result<Step<'_>, Error> {
         if let Some(failure) = &self.failure {
             return Err(failure.clone());
@@ -187,12 +204,21 @@ impl<S: Dh, E: Ephemeral> Connecting<S, E> {
     }
 
     /// Passes the secret of [`Step::WantedPsk`].
+    ///
+    /// # Errors
+    ///
+    /// `PskCount`: no psk token that is still to come lacks its secret.
     pub fn set_psk(&mut self, secret: &[u8; 32]) -> Result<(), Error> {
         self.handshake.set_psk(secret)
     }
 
-    /// The channel, after [`Step::Done`]; `NotDone` before it, and `Refused` if the other party's static key wasn't
-    /// accepted. Where the last message is still to be sent, the channel sends it before its first frame.
+    /// The channel, after [`Step::Done`]. Where the last message is still to be sent, the channel sends it before its
+    /// first frame.
+    ///
+    /// # Errors
+    ///
+    /// `NotDone` before [`Step::Done`], `Refused` if the other party's static key wasn't accepted, or the error that
+    /// ended the handshake.
     pub fn finish(self) -> Result<Connection, Error> {
         if let Some(failure) = self.failure {
             return Err(failure);

@@ -62,8 +62,12 @@ impl StreamReceiver {
         }
     }
 
-    /// What has come. After an error each later call returns the same; [`Error::OneWay`] alone, in the silent direction
-    /// of a one-way pattern, leaves the channel as it was.
+    /// What has come. After an error each later call returns the same.
+    ///
+    /// # Errors
+    ///
+    /// `Tag`, `Short`, `Exhausted` and `Cut` end the channel. [`Error::OneWay`] alone, in the silent direction of a
+    /// one-way pattern, leaves it as it was.
     pub fn event(&mut self) -> Result<Event<'_>, Error> {
         match self.due()? {
             Due::Data => {

@@ -19,8 +19,12 @@ impl StreamSender {
     }
 
     /// Seals the first bytes, at most 65519, as a frame to send, and returns how many: none while an earlier frame is
-    /// still to be sent; of the handshake's last message alone the frame is put after it. [`Error::Closed`]: this party
-    /// has ended its stream. [`Error::Aborted`]: the channel is over.
+    /// still to be sent; of the handshake's last message alone the frame is put after it.
+    ///
+    /// # Errors
+    ///
+    /// `Closed`: this party has ended its stream. `Aborted`: the channel is over. `Exhausted`: only the end can be
+    /// written. `OneWay`.
     pub fn write(&mut self, bytes: &[u8]) -> Result<usize, Error> {
         self.check()?;
         if !self.takes() {
@@ -39,6 +43,10 @@ impl StreamSender {
     }
 
     /// Ends this party's stream: its last frame is to be sent. A second time it changes nothing.
+    ///
+    /// # Errors
+    ///
+    /// `Aborted`: the channel is over. `OneWay`.
     pub fn end(&mut self) -> Result<(), Error> {
         self.check()?;
         let mut result = StreamResult::default();
@@ -64,6 +72,7 @@ impl StreamSender {
 
     /// The bytes to send, at most 131090: a message of the handshake, a frame, and the end. Once the
     /// channel is over there are none.
+    #[must_use]
     pub fn outgoing(&self) -> &[u8] {
         if self.over.is_set() {
             return &[];

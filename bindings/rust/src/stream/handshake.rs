@@ -130,6 +130,7 @@ impl<T: Read + Write, S: Dh, E: Ephemeral> Parts<T, S, E> {
 
 impl<T, S: Dh, E: Ephemeral> MidHandshake<T, S, E> {
     /// The error that interrupted the handshake: `WouldBlock` or `TimedOut`.
+    #[must_use]
     pub fn error(&self) -> &io::Error {
         &self.0.error
     }
@@ -148,6 +149,7 @@ impl<T, S: Dh, E: Ephemeral> MidHandshake<T, S, E> {
     }
 
     /// The stream below, to wait for it. To read from it or write to it breaks the handshake.
+    #[must_use]
     pub fn get_ref(&self) -> &T {
         &self.0.below
     }
