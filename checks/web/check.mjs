@@ -11,6 +11,7 @@ import { figures, weight } from './figures.mjs';
 import { links } from './links.mjs';
 import { Keyboard, Pointer } from './hands.mjs';
 import { Page } from './page.mjs';
+import { secrets } from './secrets.mjs';
 import { serve } from './server.mjs';
 import { sizes } from './sizes.mjs';
 import { EXPECTED, takeChannels } from './socket-server.mjs';
@@ -20,7 +21,8 @@ import { DEFERRED, FUNDAMENTAL } from '../../web/patterns.mjs';
 
 const [top, room, built] = process.argv.slice(2);
 const server = await serve(top);
-const browser = await Browser.start();
+// Each key's address is looked at: there are more of them than a page may set in ten seconds.
+const browser = await Browser.start('--disable-ipc-flooding-protection');
 const page = new Page(browser, `${server.url}web/`, room);
 const report = (text) => console.log(`web: ${text}`);
 const quoted = JSON.stringify;
@@ -260,6 +262,7 @@ try {
   report(await sizes(page, top));
   report(await links(page));
   report(await workbench(page));
+  report(await secrets(page, top));
   await walks();
   report(await designs(page));
   await page.resize(1100);
