@@ -207,6 +207,15 @@ async function follow({ state }) {
   return refocus(activeElement, at('step'));
 }
 
+/** The help to choose a pattern comes when it is opened: by its heading, or by the address that ends with its name. */
+function wireChoosing() {
+  at('choose').addEventListener('toggle', async () => {
+    const { choosing } = await import('./choose.mjs');
+    choosing(at('choosing'), (text) => takeIn({ text }, ''));
+  }, { once: true });
+  at('choose').open = location.hash === '#choose';
+}
+
 function wire() {
   for (const [name, read] of Object.entries(READ)) {
     at(name).addEventListener('input', ({ target }) => {
@@ -240,6 +249,7 @@ try {
   page.shape = new (await shaping).Shape(page, besideChosen);
   document.body.classList.remove('loading');
   late = await loadLate();
+  wireChoosing();
   editor.mendsOf = late.mendsOf;
   editor.showMends();
   showRun();

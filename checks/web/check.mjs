@@ -6,6 +6,7 @@ import { join } from 'node:path';
 import { Browser } from './browser.mjs';
 import { speech } from './access.mjs';
 import { axe } from './axe.mjs';
+import { choices } from './choices.mjs';
 import { designs } from './designs.mjs';
 import { figures, weight } from './figures.mjs';
 import { links } from './links.mjs';
@@ -263,6 +264,7 @@ try {
   report(await links(page));
   report(await workbench(page));
   report(await secrets(page, top));
+  report(await choices(page));
   await walks();
   report(await designs(page));
   await page.resize(1100);

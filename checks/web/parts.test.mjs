@@ -2,12 +2,14 @@
 // --test parts.test.mjs.
 import assert from 'node:assert/strict';
 import { before, test } from 'node:test';
+import { checkPattern } from '../../bindings/js/check.mjs';
 import { load } from '../../bindings/js/module.mjs';
 import { visible } from '../../web/bytes.mjs';
+import { PURPOSES, TABLE, pskNames, rowOf } from '../../web/choose.mjs';
 import { intake } from '../../web/intake.mjs';
 import * as own from '../../web/own.mjs';
 import { MOST_TEXT, address, faultOf, isLocal, isSetup, read, readRun, whyNot, write } from '../../web/link.mjs';
-import { textOf } from '../../web/patterns.mjs';
+import { DEFERRED, FUNDAMENTAL, textOf, textOfName } from '../../web/patterns.mjs';
 import { picture, words } from '../../web/picture.mjs';
 import { layout } from '../../web/plan.mjs';
 import { Run } from '../../web/run.mjs';
@@ -258,4 +260,52 @@ test('a refusal before the psk isn’t laid to it', async () => {
   );
   await assert.rejects(run.deliver('responder', 0, [400]), { message: 'The message has no such byte.' });
   run.dispose();
+});
+
+/** Source and destination of what a party writes as payload N, by the definitions of 7.7. */
+function gradeOf(from, seen, writers, n) {
+  const other = from === 'initiator' ? 'responder' : 'initiator';
+  const dh = (ours, theirs) => (from === 'initiator' ? ours + theirs : theirs + ours);
+  const has = (name) => seen.some(({ token }) => token === name);
+  const source = has(dh('s', 'e')) ? 2 : Number(has('ss'));
+  if (!has(dh('e', 's')) && !has('ss')) return `${source} ${has('ee') ? 1 : 0}`;
+  if (!has('ee')) return `${source} 2`;
+  // strong where the reader has written after its s was mixed with an e, so that its own e is known to be its
+  const mixed = seen.find(({ token }) => token === dh('e', 's')).n;
+  if (writers.slice(mixed, n).includes(other)) return `${source} 5`;
+  return `${source} ${has('ss') ? 4 : 3}`;
+}
+
+test('the table of 7.7 is that of its definitions', () => {
+  for (const [base, cells] of Object.entries(TABLE)) {
+    const text = textOf(base);
+    const { messages, oneWay } = layout(text);
+    const writers = [...messages.map(({ from }) => from), 'initiator', 'responder'];
+    if (messages.at(-1).from === 'initiator') writers.splice(messages.length, 1);
+    const seen = [];
+    const graded = cells.split('|').map((_, n) => {
+      const from = writers[n];
+      for (const token of messages[n]?.tokens ?? []) seen.push({ token, n });
+      return gradeOf(from, seen, writers, n);
+    });
+    assert.equal(graded.join('|'), cells, base);
+    assert.equal(oneWay, cells.length === 3, base);
+  }
+  assert.deepEqual(Object.keys(TABLE), FUNDAMENTAL);
+});
+
+test('what helps to choose says what the layouts show', () => {
+  assert.match(rowOf('XK1').says, /It is XK with es in message 2\.$/);
+  assert.match(rowOf('X1X1').says, /It is XX with es in message 3 and se in message 4\.$/);
+  assert.equal(
+    rowOf('IK').says, 'The client knows the server’s key before, and the client’s key is sent encrypted in message 1; '
+      + 'message 1 takes encrypted data. 2 messages.',
+  );
+  // the names of 9.4
+  const named = 'Npsk0 Kpsk0 Xpsk1 NNpsk0 NNpsk2 NKpsk0 NKpsk2 NXpsk2 XNpsk3 XKpsk3 XXpsk3 KNpsk0 KNpsk2 KKpsk0 KKpsk2 '
+    + 'KXpsk2 INpsk1 INpsk2 IKpsk1 IKpsk2 IXpsk2';
+  const made = [...FUNDAMENTAL, ...DEFERRED].flatMap((base) => pskNames(base));
+  for (const name of named.split(' ')) assert.ok(made.includes(name), name);
+  for (const name of made) assert.ok(checkPattern(textOfName(name)).valid, name);
+  for (const [, name] of PURPOSES) assert.ok(checkPattern(textOfName(name)).valid, name);
 });
