@@ -48,6 +48,7 @@ async function loadLate() {
   all.wireOpening({
     take: takeIn,
     follow: (fragment) => { location.hash = fragment; },
+    compare: openLog,
     notice: (says) => notice([says]),
   });
   return { ...all, undo, control: new all.Control(page, acted, takeBack), take: new all.Take(page) };
@@ -55,12 +56,8 @@ async function loadLate() {
 
 /** Says what of a link is left out; and that it has a run, which is further down. */
 function notice(sentences, hasRun) {
-  const toRun = Object.assign(element('a', '', 'See the run'), { href: '#run' });
   const text = sentences.filter(Boolean).join(' ');
-  at('notice').replaceChildren(
-    text,
-    ...(hasRun ? ['This link has a run, which is done again with new keys. ', toRun] : []),
-  );
+  at('notice').replaceChildren(text, ...(hasRun ? [at('has-run').content.cloneNode(true)] : []));
   if (text) speak(text);
 }
 
@@ -131,6 +128,7 @@ function patternChanged(text, plan, isTyped) {
   page.setup.text = text;
   page.plan = plan;
   page.shape?.show();
+  late?.showCapture?.();
   changed(isTyped);
 }
 
@@ -207,13 +205,32 @@ async function follow({ state }) {
   return refocus(activeElement, at('step'));
 }
 
-/** The help to choose a pattern comes when it is opened: by its heading, or by the address that ends with its name. */
-function wireChoosing() {
-  at('choose').addEventListener('toggle', async () => {
+/** What is folded comes when it is opened: by its heading, or by an address that ends with its name. */
+function wireFolded() {
+  const fold = (id, fill) => {
+    at(id).addEventListener('toggle', fill, { once: true });
+    at(id).open ||= location.hash === `#${id}`;
+  };
+  fold('choose', async () => {
     const { choosing } = await import('./choose.mjs');
     choosing(at('choosing'), (text) => takeIn({ text }, ''));
-  }, { once: true });
-  at('choose').open = location.hash === '#choose';
+  });
+  fold('compare', openLog);
+  fold('capture', async () => {
+    const { capturing } = await import('./compareview.mjs');
+    late.showCapture = capturing(at('capturing'), page);
+  });
+}
+
+/** Opens the comparison of a log, with this text in its place. */
+async function openLog(text) {
+  at('compare').open = true;
+  const { comparing } = await import('./compareview.mjs');
+  if (!at('log-text')) comparing(at('comparing'), page);
+  if (typeof text !== 'string') return;
+  at('log-text').value = text;
+  at('compare').scrollIntoView({ block: 'start' });
+  at('vector-text').focus({ preventScroll: true });
 }
 
 function wire() {
@@ -237,8 +254,6 @@ const full = () => notice([`This design isn’t kept: this browser has ${MOST} o
 
 try {
   const shaping = import('./shape.mjs');
-  // before anything is drawn, so that nothing moves
-  notice([], isOpened() && link.readRun(location.hash).steps.length > 0);
   await load();
   showInputs();
   wire();
@@ -249,7 +264,7 @@ try {
   page.shape = new (await shaping).Shape(page, besideChosen);
   document.body.classList.remove('loading');
   late = await loadLate();
-  wireChoosing();
+  wireFolded();
   editor.mendsOf = late.mendsOf;
   editor.showMends();
   showRun();

@@ -23,7 +23,7 @@ export class Control {
   #shown;
   #log = new Log(at('log'), at('earlier'), (entry) => this.#pick(entry));
   #current = new Current(
-    { box: at('current'), title: at('current-h'), acts: at('current-acts'), body: at('current-body') },
+    { box: at('current'), title: at('current-h'), acts: at('current-acts'), body: at('current-body'), more: at('current-more') },
     {
       act: (work) => this.#act(work), whyNot: () => this.#whyNot(), looked: () => this.#draw(),
     },
@@ -130,6 +130,7 @@ export class Control {
     this.#log.show(run);
     showWindows(at('windows'), run);
     at('stale').hidden = !isStale;
+    document.documentElement.classList.toggle('running', Boolean(run));    // its bytes and log are beside the picture
     at('ran').classList.toggle('stale', isStale);    // greyed: nothing more happens in it
   }
 

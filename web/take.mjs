@@ -50,6 +50,8 @@ export class Take {
   #language = 'C';
   #shown = '';
   #coding;
+  /** The program is made anew when it comes into view; one that is out of it waits. */
+  #isInView = false;
 
   /** `page` has `setup`, `plan`, `run` and `text`. */
   constructor(page) {
@@ -66,7 +68,14 @@ export class Take {
     wire('copy-log', async () =>
       copy((await scheduleOf(page.run)).whole.map((line) => `${line}\n`).join(''), 'The key schedule'),
     );
-    for (const name of LANGUAGES) at('languages').append(button(name, () => { this.#language = name; this.show(); }));
+    for (const name of LANGUAGES) {
+      at('languages').append(button(name, () => { this.#language = name; this.show(); this.#showCode(); }));
+    }
+    new IntersectionObserver(([{ isIntersecting }]) => {
+      this.#isInView = isIntersecting;
+      if (isIntersecting) this.#showCode();
+    }, { rootMargin: '200px' }).observe(at('code'));
+    addEventListener('beforeprint', () => this.#showCode());
     at('program-row').append(copier('the program', () => this.#program().text));
   }
 
@@ -102,7 +111,7 @@ export class Take {
     at('code-old').hidden = Boolean(plan) || !this.#shown;
     at('code').hidden = !plan && !this.#shown;
     clearTimeout(this.#coding);
-    this.#coding = setTimeout(() => this.#showCode(), 0);
+    if (this.#isInView) this.#coding = setTimeout(() => this.#showCode(), 0);
   }
 
   /** The program, once the keys that came have been seen to. */

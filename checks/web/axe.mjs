@@ -55,7 +55,7 @@ async function fill(page) {
   await page.passAll();
   await page.write('initiator');
   await page.deliver(2, [3]);
-  await page.run('for (const it of document.querySelectorAll("#how, #keys, #current-body details")) it.open = true');
+  await page.run('for (const it of document.querySelectorAll("#how, #keys, #current-more details")) it.open = true');
   await page.type('beside', 'NK1');
   await page.until('document.querySelectorAll(".schedule").length >= 1');
 }

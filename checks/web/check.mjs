@@ -36,7 +36,7 @@ async function allPatterns() {
     await page.passAll();
     assert.match(await page.textOf('state'), /initiator is open .*responder is open/, base);
     assert.match(
-      await page.evaluate('document.querySelector("#current-body .hash").textContent'),
+      await page.evaluate('document.querySelector("#current-more .hash").textContent'),
       /^hash at both parties [0-9a-f]{64} /, base,
     );
     // Each length in the picture is that of the message that the library has written, with a payload of two bytes.

@@ -249,10 +249,10 @@ async function touch(page) {
   assert.equal(await page.evaluate('document.querySelectorAll("#current-body [aria-pressed=true]").length'), 0);
   await page.click('#current-body .flip');
   assert.equal(await page.evaluate('document.querySelectorAll("#current-body [aria-pressed=true]").length'), 1);
-  await page.click('#current-body .schedules summary');
-  await page.until('document.querySelectorAll("#current-body .schedule dd").length > 3');
+  await page.click('#current-more .schedules summary');
+  await page.until('document.querySelectorAll("#current-more .schedule dd").length > 3');
   assert.match(
-    await page.evaluate('document.querySelector("#current-body .schedule dd").textContent'), /^h [0-9a-f]{64}$/,
+    await page.evaluate('document.querySelector("#current-more .schedule dd").textContent'), /^h [0-9a-f]{64}$/,
   );
 }
 
