@@ -33,21 +33,27 @@ function placesOf({ pieces, length }, message) {
     if (long === 0) return [];
     const bytes = message.slice(start, end);
     const isClear = ['e', 's', 'payload'].includes(piece.kind) && !piece.sealed;
-    return [{ name: TITLES[kindOf(piece)], start, end: end - 1, clear: isClear && (piece.kind === 'payload' ? shown(bytes) : hex(bytes)) }];
+    const words = piece.kind === 'payload' ? shown(bytes) : hex(bytes);
+    return [{ name: TITLES[kindOf(piece)], start, end: end - 1, clear: isClear && words }];
   });
+}
+
+function transport(message, isDatagrams) {
+  const { length } = message;
+  const head = isDatagrams ? 8 : 0;
+  if (length < head + 16) return { title: `Transport: ${length} bytes, fewer than a tag has`, isBad: true };
+  const nonce = isDatagrams ? [{ name: TITLES.nonce, start: 0, end: 7, clear: hex(message.slice(0, 8)) }] : [];
+  const text = length > head + 16 ? [{ name: TITLES.text, start: head, end: length - 17 }] : [];
+  return {
+    title: `${isDatagrams ? 'Datagram' : 'Transport message'}: ${length} bytes, `
+      + `of which ${length - head - 16} are the payload`,
+    pieces: [...nonce, ...text, { name: TITLES.tag, start: length - 16, end: length - 1 }],
+  };
 }
 
 function read(plan, message, n, isDatagrams) {
   const part = plan.messages[n];
-  if (!part) {
-    const head = isDatagrams ? 8 : 0;
-    if (message.length < head + 16) return { title: `Transport: ${message.length} bytes, fewer than a tag has`, isBad: true };
-    const title = `${isDatagrams ? 'Datagram' : 'Transport message'}: ${message.length} bytes, `
-      + `of which ${message.length - head - 16} are the payload`;
-    const nonce = isDatagrams ? [{ name: TITLES.nonce, start: 0, end: 7, clear: hex(message.slice(0, 8)) }] : [];
-    const text = message.length > head + 16 ? [{ name: TITLES.text, start: head, end: message.length - 17 }] : [];
-    return { title, pieces: [...nonce, ...text, { name: TITLES.tag, start: message.length - 16, end: message.length - 1 }] };
-  }
+  if (!part) return transport(message, isDatagrams);
   const title = `Message ${n + 1}, from the ${part.from}: ${message.length} bytes`;
   if (message.length < part.length) return { title: `${title}, and it has at least ${part.length}`, isBad: true };
   return { title, pieces: placesOf(part, message) };

@@ -86,7 +86,7 @@ export const placeOf = ({ words }) => `${words[1]}, ${/^\d/.test(words[2]) ? 'me
 
 /** The values of two lines that differ: `[name, right, yours]`. */
 const valuesOf = ({ line, right }) =>
-  (right ? VALUES.filter(([, n]) => !isSame(line, right, n)).map(([name, n]) => [name, right.words[n], line.words[n]]) : []);
+  VALUES.filter(([, n]) => right && !isSame(line, right, n)).map(([name, n]) => [name, right.words[n], line.words[n]]);
 
 /**
  * What comes of a log and the right lines: `finding` is agrees, ends or differs, or `fault` where the log can't be

@@ -39,7 +39,7 @@ const MORE = {
 function outcome(found) {
   if (found.fault) return [element('p', 'bad', `The log can’t be compared: ${found.fault}.`)];
   const { finding, text: [first], values = [], skipped } = found;
-  const table = values.length ? [element('div', 'scroll', element('table', 'values', element('tbody', '', ...valueRows(values))))] : [];
+  const table = values.length ? [element('table', 'values', element('tbody', '', ...valueRows(values)))] : [];
   return [
     element('p', finding === 'agrees' ? 'title good' : 'title bad', first),
     ...table,
@@ -72,7 +72,8 @@ export function comparing(box, page) {
     element('p', '', 'Have your party log its state after each step, as lines ', element('code', '', 'trace …'),
       '. The library runs the vector file, and the first line that differs from its key schedule is shown. ',
       'With no vector file it is the run above. ', more, ' has the format, and ',
-      element('code', '', 'noise compare'), ' also names the mistake. Neither field is kept or sent: they have secrets.'),
+      element('code', '', 'noise compare'), ' also names the mistake. ',
+      'Neither field is kept or sent: they have secrets.'),
     element('div', 'fields', logLabel, vectorLabel),
     element('div', 'row', button('Compare', act, 'main')),
     result,
@@ -87,7 +88,7 @@ function messageItem({ title, pieces = [], isBad }) {
 
 /** Fills the box of captured messages, which are read by the pattern of the page as it is then. */
 export function capturing(box, page) {
-  const [text, label] = field('capture-text', 'Messages in hex, a line each, or with a length of two bytes in front of each', 5);
+  const [text, label] = field('capture-text', 'Messages in hex: a line each, or with two bytes of length in front', 5);
   const result = element('div', 'captured');
   const show = () => {
     const { plan, setup } = page;

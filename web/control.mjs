@@ -23,7 +23,10 @@ export class Control {
   #shown;
   #log = new Log(at('log'), at('earlier'), (entry) => this.#pick(entry));
   #current = new Current(
-    { box: at('current'), title: at('current-h'), acts: at('current-acts'), body: at('current-body'), more: at('current-more') },
+    {
+      box: at('current'), title: at('current-h'), acts: at('current-acts'), body: at('current-body'),
+      more: at('current-more'),
+    },
     {
       act: (work) => this.#act(work), whyNot: () => this.#whyNot(), looked: () => this.#draw(),
     },

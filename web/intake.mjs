@@ -35,8 +35,8 @@ function ofName(word) {
   const text = parts && textOfName(parts[1]);
   if (!text) return undefined;
   if (parts[2] === '25519_ChaChaPoly_SHA256') return { setup: { text }, says: 'The pattern of this name is taken.' };
-  const says = `The suite ${visible(parts[2])} isn’t here: the pattern of this name is taken, with 25519_ChaChaPoly_SHA256, `
-    + 'which this library has alone.';
+  const says = `The suite ${visible(parts[2])} isn’t here: the pattern of this name is taken, `
+    + 'with 25519_ChaChaPoly_SHA256, which this library has alone.';
   return { setup: { text }, says };
 }
 

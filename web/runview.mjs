@@ -113,8 +113,8 @@ export class Current {
   #row;
 
   /**
-   * `parts` are elements: `box`, `title`, `acts`, `body` and `more`. `hands` has `act(work)`, `whyNot()` and `looked()`, which
-   * is called after another message is shown.
+   * `parts` are elements: `box`, `title`, `acts`, `body` and `more`. `hands` has `act(work)`, `whyNot()` and
+   * `looked()`, which is called after another message is shown.
    */
   constructor(parts, hands) {
     this.#parts = parts;

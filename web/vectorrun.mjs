@@ -49,7 +49,7 @@ class Lines {
   }
 }
 
-/** A key pair of the file: X25519 is what its `answer` lines say, or in a file with `xor` the xor of the public keys. */
+/** A key pair of the file: X25519 is what its `answer` lines say, or after `xor` the xor of the public keys. */
 function pairOf(own, publicKey, isXor, answers) {
   if (publicKey === '-') return undefined;
   const key = unhex(publicKey);
@@ -74,6 +74,8 @@ function keysOf(lines, role) {
   return { e: pairOf('e', e, how === 'xor', answers), s: pairOf('s', s, how === 'xor', answers) };
 }
 
+const EVENT = /^(?:(?:say|write|deliver|raw|seal|open|foreign) (?:initiator|responder) .*|datagrams \d+)$/;
+
 /** What a vector file says: the set-up, the parties’ keys, and the events. */
 export function readVector(text) {
   const lines = new Lines(text);
@@ -91,7 +93,7 @@ export function readVector(text) {
   const interval = Number(lines.must(/^interval (0|[1-9]\d*)$/)[1]);
   const psks = lines.some(/^psk ([0-9a-f]{64})$/).map(([, psk]) => unhex(psk));
   const keys = { initiator: keysOf(lines, 'initiator'), responder: keysOf(lines, 'responder') };
-  const events = lines.some(/^(?:(?:say|write|deliver|raw|seal|open|foreign) (?:initiator|responder) .*|datagrams \d+)$/);
+  const events = lines.some(EVENT);
   lines.some(/^expect ./);
   if (lines.at < lines.all.length) throw new WrongFile(lines.at + 1);
   return { setup: { text: pattern, prologue, interval, psks }, keys, events: events.map(([line]) => line.split(' ')) };

@@ -9,6 +9,7 @@ import { axe } from './axe.mjs';
 import { choices } from './choices.mjs';
 import { designs } from './designs.mjs';
 import { figures, weight } from './figures.mjs';
+import { finding } from './finding.mjs';
 import { links } from './links.mjs';
 import { Keyboard, Pointer } from './hands.mjs';
 import { Page } from './page.mjs';
@@ -265,6 +266,7 @@ try {
   report(await workbench(page));
   report(await secrets(page, top));
   report(await choices(page));
+  report(await finding(page, top));
   await walks();
   report(await designs(page));
   await page.resize(1100);

@@ -5,6 +5,7 @@ import { before, test } from 'node:test';
 import { checkPattern } from '../../bindings/js/check.mjs';
 import { load } from '../../bindings/js/module.mjs';
 import { visible } from '../../web/bytes.mjs';
+import { readCapture } from '../../web/capture.mjs';
 import { PURPOSES, TABLE, pskNames, rowOf } from '../../web/choose.mjs';
 import { intake } from '../../web/intake.mjs';
 import * as own from '../../web/own.mjs';
@@ -136,6 +137,55 @@ test('names, comments, vector files and links are taken', () => {
   assert.deepEqual(setup, { text: 'M:\n  -> e\n', interval: 3, mode: 'datagrams', window: 256, prologue: '' });
   assert.match(says, /isn’t text/);
   assert.match(intake('vector 1\nprotocol Noise_NK1_25519\n').says, /no pattern that the page knows/);
+});
+
+test('texts of others are taken for what they are', () => {
+  assert.deepEqual(intake('Noise_XX_25519_AESGCM_SHA256').setup, { text: textOf('XX') });
+  assert.match(intake('Noise_XXpsk3_448_ChaChaPoly_BLAKE2b').says, /^The suite 448_ChaChaPoly_BLAKE2b isn’t here:/);
+  assert.equal(intake('Noise_XXfallback_25519_AESGCM_SHA256'), undefined);
+  for (const [base, places] of [['XX', []], ['N', []], ['IK', [2]], ['NK1', []]]) {
+    const text = textOf(base, places);
+    const found = intake(forExplorer(layout(text), text));
+    assert.deepEqual(found.setup, { text }, base);
+    assert.match(found.says, /lines of an arrow alone/);
+  }
+  const theirs = 'XX:\n  -> e\n  <- e, ee, s, es\n  -> s, se\n  <-\n  ->';
+  assert.deepEqual(intake(theirs.replaceAll('\n', '\r\n')).setup, { text: textOf('XX') });
+  const line = `trace responder 1 0 e MixHash 0 ${'ab'.repeat(32)} ${'cd'.repeat(32)} ${'ef'.repeat(32)} - 0\n`;
+  for (const log of [line, `2026 debug ${line}`, `\n${line}`, `# mine\n${line}${line}`]) {
+    assert.deepEqual([intake(log).log, intake(log).setup], [log, undefined], log);
+  }
+  assert.equal(intake(line.toUpperCase()).log, undefined);
+  assert.ok(intake(`vector 2\nprotocol Noise_NN_25519_ChaChaPoly_SHA256\n`).setup);
+});
+
+test('captured messages are read by their lengths', () => {
+  const nk = layout(textOf('NK'));
+  const [first, second] = ['11'.repeat(32) + '22'.repeat(16), `${'33'.repeat(32)}${'44'.repeat(2)}${'55'.repeat(16)}`];
+  const captured = (text, isDatagrams) => readCapture(nk, text, isDatagrams);
+  const lines = ({ messages }) => messages.flatMap(({ title, pieces = [] }) => [
+    title, ...pieces.map(({ name, start, end, clear }) => `${start} ${end} ${name}${clear ? ` ${clear}` : ''}`),
+  ]);
+  const wanted = [
+    'Message 1, from the initiator: 48 bytes', `0 31 ephemeral key ${'11'.repeat(32)}`, '32 47 tag',
+    'Message 2, from the responder: 50 bytes', `0 31 ephemeral key ${'33'.repeat(32)}`, '32 33 payload, encrypted',
+    '34 49 tag',
+  ];
+  assert.deepEqual(lines(captured(`${first}\n${second}\n`)), wanted);
+  assert.deepEqual(lines(captured(`0030${first}0032${second}`)), wanted);
+  assert.equal(captured(`0030${first}\n0032${second}`).isFramed, true);
+  assert.deepEqual(lines(captured(` 0x${first.toUpperCase()}\n\n${second.match(/../g).join(':')}`)), wanted);
+  assert.deepEqual(lines(captured(`${first}\n${second}\n${'66'.repeat(17)}`)).slice(-3), [
+    'Transport message: 17 bytes, of which 1 are the payload', '0 0 payload, encrypted', '1 16 tag',
+  ]);
+  assert.deepEqual(lines(captured(`${first}\n${second}\n${'00'.repeat(7)}09${'66'.repeat(17)}`, true)).slice(-3), [
+    '0 7 nonce 0000000000000009', '8 8 payload, encrypted', '9 24 tag',
+  ]);
+  assert.match(lines(captured(first.slice(2)))[0], /47 bytes, and it has at least 48$/);
+  assert.equal(captured('abc').fault, 'Line 1 isn’t hex.');
+  assert.deepEqual(lines(readCapture(layout(textOf('NN')), `${'11'.repeat(32)}6869`)), [
+    'Message 1, from the initiator: 34 bytes', `0 31 ephemeral key ${'11'.repeat(32)}`, '32 33 payload, clear “hi”',
+  ]);
 });
 
 test('a text for Noise Explorer ends with an arrow alone for each party', () => {
