@@ -20,6 +20,7 @@ const READ = {
 const page = {
   setup: link.read(location.hash, STARTED),
   plan: undefined,
+  faults: [],
   run: undefined,
   isStale: false,
   shape: undefined,
@@ -123,10 +124,10 @@ function tellSecret(text, before) {
   notice(hasSecret(text) ? [SAYS, 'It goes into no address, and the page doesn’t keep it.'] : []);
 }
 
-function patternChanged(text, plan, isTyped) {
+function patternChanged(text, plan, isTyped, faults) {
   tellSecret(text, page.setup.text);
   page.setup.text = text;
-  page.plan = plan;
+  Object.assign(page, { plan, faults });
   page.shape?.show();
   late?.showCapture?.();
   changed(isTyped);

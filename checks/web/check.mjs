@@ -17,6 +17,7 @@ import { secrets } from './secrets.mjs';
 import { serve } from './server.mjs';
 import { sizes } from './sizes.mjs';
 import { EXPECTED, takeChannels } from './socket-server.mjs';
+import { views } from './views.mjs';
 import { Walk } from './walk.mjs';
 import { workbench } from './workbench.mjs';
 import { DEFERRED, FUNDAMENTAL } from '../../web/patterns.mjs';
@@ -267,6 +268,7 @@ try {
   report(await secrets(page, top));
   report(await choices(page));
   report(await finding(page, top));
+  report(await views(page));
   await walks();
   report(await designs(page));
   await page.resize(1100);
