@@ -28,7 +28,8 @@ function unread({ line, role, tokens }, faults) {
   return {
     from: role, tokens: tokens.map(({ name }) => name),
     pieces: tokens.map(({ name }, token) => ({
-      kind: 'unread', token, length: 0, name: name.slice(0, 8) || '?', isWrong: faults.includes(token) || !WORDS.has(name),
+      kind: 'unread', token, length: 0, name: name.slice(0, 8) || '?',
+      isWrong: faults.includes(token) || !WORDS.has(name),
     })),
     isWrong: faults.length > 0,
   };
