@@ -23,6 +23,8 @@ const page = {
   faults: [],
   run: undefined,
   isStale: false,
+  /** Whether all is loaded, and the run of the address is done again. */
+  isSettled: false,
   shape: undefined,
 };
 let addressing;
@@ -271,6 +273,8 @@ try {
   showRun();
   const steps = stepsOf(location.hash, history.state, isOpened());
   if (steps.length) await late.control.repeat(steps);
+  page.isSettled = true;
+  showRun();
   keepAddress();
   // What the checks and a curious reader of the console may look at; the vector file and the key schedule of a run have
   // its secrets, but no private keys.

@@ -36,7 +36,7 @@ export class Control {
   #acting = Promise.resolve();
 
   /**
-   * `page` has `setup`, `plan`, `run` and `isStale`. `shown()` is called after each thing done, and `back()` takes the
+   * `page` has `setup`, `plan`, `run`, `isStale` and `isSettled`. `shown()` is called after each thing done, and `back()` takes the
    * run's set-up again.
    */
   constructor(page, shown, back) {
@@ -133,7 +133,8 @@ export class Control {
     this.#log.show(run);
     showWindows(at('windows'), run);
     at('stale').hidden = !isStale;
-    document.documentElement.classList.toggle('running', Boolean(run));    // its bytes and log are beside the picture
+    // Its bytes and its log are beside the picture. While the page loads, early.mjs has said whether there is one.
+    if (run || this.#page.isSettled) document.documentElement.classList.toggle('running', Boolean(run));
     at('ran').classList.toggle('stale', isStale);    // greyed: nothing more happens in it
   }
 

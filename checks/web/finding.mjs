@@ -84,7 +84,7 @@ async function aCapture(page) {
   await page.type('capture-text', frames.join(''));
   const items = () => page.evaluate('[...document.querySelectorAll(".messages > li")].map((it) => it.textContent)');
   const [first, second, third] = await items();
-  assert.match(first, /^Message 1, from the initiator: 37 bytesbytes 0 to 31: ephemeral key [0-9a-f]{64}bytes 32 to 36/);
+  assert.match(first, /^Message 1, from the initiator: 37 bytesbytes 0 to 31: ephemeral key [0-9a-f]{64}bytes 32/);
   assert.match(first, /payload, clear “hello”$/);
   assert.match(second, /^Message 2, from the responder: 101 bytes.*32 to 63: static key, encryptedbytes 64 to 79: tag/);
   assert.match(third, /^Message 3, from the initiator: 69 bytesbytes 0 to 31: static key, encrypted/);
