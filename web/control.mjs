@@ -36,8 +36,8 @@ export class Control {
   #acting = Promise.resolve();
 
   /**
-   * `page` has `setup`, `plan`, `run`, `isStale` and `isSettled`. `shown()` is called after each thing done, and `back()` takes the
-   * run's set-up again.
+   * `page` has `setup`, `plan`, `run`, `isStale` and `isSettled`. `shown()` is called after each thing done, and
+   * `back()` takes the run's set-up again.
    */
   constructor(page, shown, back) {
     this.#page = page;
