@@ -20,8 +20,11 @@ const READ = {
 const page = {
   setup: link.read(location.hash, STARTED),
   plan: undefined,
+  faults: [],
   run: undefined,
   isStale: false,
+  /** Whether all is loaded, and the run of the address is done again. */
+  isSettled: false,
   shape: undefined,
 };
 let addressing;
@@ -48,6 +51,7 @@ async function loadLate() {
   all.wireOpening({
     take: takeIn,
     follow: (fragment) => { location.hash = fragment; },
+    compare: openLog,
     notice: (says) => notice([says]),
   });
   return { ...all, undo, control: new all.Control(page, acted, takeBack), take: new all.Take(page) };
@@ -55,12 +59,8 @@ async function loadLate() {
 
 /** Says what of a link is left out; and that it has a run, which is further down. */
 function notice(sentences, hasRun) {
-  const toRun = Object.assign(element('a', '', 'See the run'), { href: '#run' });
   const text = sentences.filter(Boolean).join(' ');
-  at('notice').replaceChildren(
-    text,
-    ...(hasRun ? ['This link has a run, which is done again with new keys. ', toRun] : []),
-  );
+  at('notice').replaceChildren(text, ...(hasRun ? [at('has-run').content.cloneNode(true)] : []));
   if (text) speak(text);
 }
 
@@ -126,11 +126,12 @@ function tellSecret(text, before) {
   notice(hasSecret(text) ? [SAYS, 'It goes into no address, and the page doesn’t keep it.'] : []);
 }
 
-function patternChanged(text, plan, isTyped) {
+function patternChanged(text, plan, isTyped, faults) {
   tellSecret(text, page.setup.text);
   page.setup.text = text;
-  page.plan = plan;
+  Object.assign(page, { plan, faults });
   page.shape?.show();
+  late?.showCapture?.();
   changed(isTyped);
 }
 
@@ -207,6 +208,34 @@ async function follow({ state }) {
   return refocus(activeElement, at('step'));
 }
 
+/** What is folded comes when it is opened: by its heading, or by an address that ends with its name. */
+function wireFolded() {
+  const fold = (id, fill) => {
+    at(id).addEventListener('toggle', fill, { once: true });
+    at(id).open ||= location.hash === `#${id}`;
+  };
+  fold('choose', async () => {
+    const { choosing } = await import('./choose.mjs');
+    choosing(at('choosing'), (text) => takeIn({ text }, ''));
+  });
+  fold('compare', openLog);
+  fold('capture', async () => {
+    const { capturing } = await import('./compareview.mjs');
+    late.showCapture = capturing(at('capturing'), page);
+  });
+}
+
+/** Opens the comparison of a log, with this text in its place. */
+async function openLog(text) {
+  at('compare').open = true;
+  const { comparing } = await import('./compareview.mjs');
+  if (!at('log-text')) comparing(at('comparing'), page);
+  if (typeof text !== 'string') return;
+  at('log-text').value = text;
+  at('compare').scrollIntoView({ block: 'start' });
+  at('vector-text').focus({ preventScroll: true });
+}
+
 function wire() {
   for (const [name, read] of Object.entries(READ)) {
     at(name).addEventListener('input', ({ target }) => {
@@ -228,8 +257,6 @@ const full = () => notice([`This design isn’t kept: this browser has ${MOST} o
 
 try {
   const shaping = import('./shape.mjs');
-  // before anything is drawn, so that nothing moves
-  notice([], isOpened() && link.readRun(location.hash).steps.length > 0);
   await load();
   showInputs();
   wire();
@@ -240,11 +267,14 @@ try {
   page.shape = new (await shaping).Shape(page, besideChosen);
   document.body.classList.remove('loading');
   late = await loadLate();
+  wireFolded();
   editor.mendsOf = late.mendsOf;
   editor.showMends();
   showRun();
   const steps = stepsOf(location.hash, history.state, isOpened());
   if (steps.length) await late.control.repeat(steps);
+  page.isSettled = true;
+  showRun();
   keepAddress();
   // What the checks and a curious reader of the console may look at; the vector file and the key schedule of a run have
   // its secrets, but no private keys.

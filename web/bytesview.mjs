@@ -3,14 +3,11 @@
 // the others by the arrow keys.
 import { button, element, enable } from './element.mjs';
 import { hex } from './bytes.mjs';
+import { TITLES, kindOf } from './pieces.mjs';
 
 const MOST = 128;
 const HEAD = 48;
 const TAIL = 16;
-export const TITLES = {
-  e: 'ephemeral key', s: 'static key, clear', sealed: 'static key, encrypted', tag: 'tag', payload: 'payload, clear',
-  nonce: 'nonce', text: 'payload, encrypted',
-};
 const HINT = 'Point at a byte, or press it, to see what it is.';
 
 /** The pieces of a message in bytes, for one of the handshake, the transport or datagrams. */
@@ -20,7 +17,6 @@ export function piecesOf(run, { number, message, isDatagram }) {
     return [...head, { kind: 'text', length: message.length - 16 - (isDatagram ? 8 : 0) }, { kind: 'tag', length: 16 }];
   }
   const { pieces, length } = run.plan.messages[number];
-  const kindOf = ({ kind, sealed }) => (sealed && { s: 'sealed', payload: 'text' }[kind]) || kind;
   return pieces.map((piece) => ({
     length: piece.kind === 'payload' ? message.length - length : piece.length,
     kind: kindOf(piece),

@@ -14,7 +14,7 @@ const MADE = {
   JavaScript: [javascript, '.mjs'],
   Python: [python, '.py'],
 };
-export const LANGUAGES = Object.keys(MADE);
+export { LANGUAGES } from './languages.mjs';
 
 /**
  * What the programs need to know of a pattern and its set-up. `knows` says whose static key is in the other party's

@@ -23,7 +23,10 @@ export class Control {
   #shown;
   #log = new Log(at('log'), at('earlier'), (entry) => this.#pick(entry));
   #current = new Current(
-    { box: at('current'), title: at('current-h'), acts: at('current-acts'), body: at('current-body') },
+    {
+      box: at('current'), title: at('current-h'), acts: at('current-acts'), body: at('current-body'),
+      more: at('current-more'),
+    },
     {
       act: (work) => this.#act(work), whyNot: () => this.#whyNot(), looked: () => this.#draw(),
     },
@@ -33,8 +36,8 @@ export class Control {
   #acting = Promise.resolve();
 
   /**
-   * `page` has `setup`, `plan`, `run` and `isStale`. `shown()` is called after each thing done, and `back()` takes the
-   * run's set-up again.
+   * `page` has `setup`, `plan`, `run`, `isStale` and `isSettled`. `shown()` is called after each thing done, and
+   * `back()` takes the run's set-up again.
    */
   constructor(page, shown, back) {
     this.#page = page;
@@ -130,6 +133,8 @@ export class Control {
     this.#log.show(run);
     showWindows(at('windows'), run);
     at('stale').hidden = !isStale;
+    // Its bytes and its log are beside the picture. While the page loads, early.mjs has said whether there is one.
+    if (run || this.#page.isSettled) document.documentElement.classList.toggle('running', Boolean(run));
     at('ran').classList.toggle('stale', isStale);    // greyed: nothing more happens in it
   }
 

@@ -12,8 +12,9 @@ import { hasSecret } from './secret.mjs';
 
 /** How long after the last key the verdict is said, in milliseconds. */
 const QUIET = 600;
-/** How many faults are told. */
+/** How many faults are told; and how long a text may be of which more than the library's is: no pattern is. */
 const MOST_FAULTS = 8;
+const LONGEST = 4000;
 const HEADING = /^([A-Z][A-Z0-9]{0,7})((?:psk[0-8])(?:\+psk[0-8])*)?:$/;
 
 /** A text as the library reads it: its last line ends with a line feed too. */
@@ -113,8 +114,9 @@ export class Editor {
   #isReplacing = false;
 
   /**
-   * `changed(text, plan, isTyped)` is called after each change; `leaves()` before the page puts another pattern in the
-   * place of this one; `under(place)` with the token that the caret is in; and `full()` where a design can't be kept.
+   * `changed(text, plan, isTyped, faults)` is called after each change; `leaves()` before the page puts another pattern
+   * in the place of this one; `under(place)` with the token that the caret is in; and `full()` where a design can't be
+   * kept.
    */
   constructor({ changed, leaves, under, full }) {
     Object.assign(this, { changed, leaves, full, mendsOf: () => [] });
@@ -261,19 +263,20 @@ export class Editor {
     const { text } = this;
     const verdict = checkPattern(text);
     const plan = verdict.valid ? layout(text) : undefined;
-    const faults = verdict.valid
-      ? []
-      : faultsOf(text, verdict).slice(0, MOST_FAULTS).map((fault) => explain(text, fault));
+    const all = verdict.valid || text.length > LONGEST ? [verdict] : faultsOf(text, verdict);
+    const found = verdict.valid ? [] : all.slice(0, MOST_FAULTS);
+    const faults = found.map((fault) => explain(text, fault));
     this.#verdictOf = verdict;
-    this.#mark(text, faults.map(({ span }) => span));
+    this.#mark(text.length > LONGEST ? '' : text, faults.map(({ span }) => span));
     this.#tell(verdict, plan, faults);
     this.showMends();
     this.#set(text);
-    this.changed(text, plan, !this.#isReplacing);
+    this.changed(text, plan, !this.#isReplacing, found);
   }
 
   #mark(text, spans) {
     this.#text.setAttribute('aria-invalid', String(spans.length > 0));
+    if (text === '') return this.#marks.replaceChildren();
     const parts = [];
     let at = 0;
     for (const [from, to] of spans.toSorted((a, b) => a[0] - b[0])) {
@@ -281,7 +284,7 @@ export class Editor {
       parts.push(text.slice(at, from), element('mark', '', text.slice(from, to) || ' '));
       at = to === from ? to + 1 : to;
     }
-    this.#marks.replaceChildren(...parts, text.slice(at));
+    return this.#marks.replaceChildren(...parts, text.slice(at));
   }
 
   #tell(verdict, plan, faults) {
@@ -294,10 +297,11 @@ export class Editor {
 
   /** The corrections that are offered. */
   showMends() {
-    const mends = this.#verdictOf.valid ? [] : this.mendsOf(this.text, this.#verdictOf);
-    this.#mends.replaceChildren(...mends.map(({ label, text }) => button(label, () => {
+    const { text } = this;
+    const mends = this.#verdictOf.valid || text.length > LONGEST ? [] : this.mendsOf(text, this.#verdictOf);
+    this.#mends.replaceChildren(...mends.map(({ label, text: mended }) => button(label, () => {
       this.#text.focus();
-      this.replace(text);
+      this.replace(mended);
     })));
   }
 

@@ -48,7 +48,7 @@ export function refocus(had, other) {
 export function copier(what, textOf, label = 'Copy') {
   const made = button(label, async () => {
     let isCopied = true;
-    try { await navigator.clipboard.writeText(textOf()); } catch { isCopied = false; }
+    try { await navigator.clipboard.writeText(await textOf()); } catch { isCopied = false; }
     made.textContent = isCopied ? 'Copied' : 'Not allowed';
     speak(isCopied ? `Copied: ${what}.` : 'This browser doesn’t let the page copy.');
     setTimeout(() => { made.textContent = label; }, 1500);

@@ -95,6 +95,31 @@ export function differencesOf(textA, textB) {
   return all.filter(([, left, right]) => left !== right);
 }
 
+/** The words of a text that another one hasn't in this order, marked: by a longest common subsequence. */
+export function markedWords(text, other) {
+  const [words, others] = [text, other].map((it) => it.split(' '));
+  const long = Array.from({ length: words.length + 1 }, () => new Array(others.length + 1).fill(0));
+  for (let a = words.length - 1; a >= 0; a -= 1) {
+    for (let b = others.length - 1; b >= 0; b -= 1) {
+      long[a][b] = words[a] === others[b] ? long[a + 1][b + 1] + 1 : Math.max(long[a + 1][b], long[a][b + 1]);
+    }
+  }
+  const parts = [];
+  for (let a = 0, b = 0; a < words.length; a += 1) {
+    while (b < others.length && words[a] !== others[b] && long[a][b + 1] > long[a + 1][b]) b += 1;
+    const isSame = b < others.length && words[a] === others[b] && long[a][b] === long[a + 1][b + 1] + 1;
+    if (isSame) b += 1;
+    parts.push({ word: words[a], isSame });
+  }
+  return parts;
+}
+
+/** The cell of a text beside another one. */
+function markedCell(text, other) {
+  const parts = markedWords(text, other).map(({ word, isSame }) => (isSame ? word : element('b', 'changed', word)));
+  return cell('td', ...parts.flatMap((part, n) => (n ? [' ', part] : [part])));
+}
+
 function showBeside(box, [nameA, textA], [nameB, textB]) {
   const rows = differencesOf(textA, textB);
   const count = rows.length === 1 ? 'differ in one row' : `differ in ${rows.length} rows`;
@@ -106,7 +131,8 @@ function showBeside(box, [nameA, textA], [nameB, textB]) {
       : `${nameA} and ${nameB} are alike in all rows.`,
   );
   if (!rows.length) return box.replaceChildren(says);
-  const made = rows.map(([name, left, right]) => element('tr', '', rowHead(name), cell('td', left), cell('td', right)));
+  const made = rows.map(([name, left, right]) =>
+    element('tr', '', rowHead(name), markedCell(left, right), markedCell(right, left)));
   return box.replaceChildren(
     says,
     element('table', 'beside', headed('What differs', nameA, nameB), element('tbody', '', ...made)),

@@ -2,6 +2,7 @@
 // rule is broken where. It also gives the line and the kind of a malformed text, but no contract covers these two. The
 // place in that line is this page's own reading.
 import { visible } from './bytes.mjs';
+import { lookalikeIn } from './lookalikes.mjs';
 import { linesOf } from './plan.mjs';
 
 /** For each rule a sentence, and how to mend it. Words in braces are filled in by `brokenRule`. */
@@ -257,7 +258,11 @@ export function explain(text, fault) {
   const at = spanInLine(lines, n, fault.code);
   const [start] = span(lines, n);
   const what = fault.code === 32 ? whatIs(lines[n].line, at.map((it) => it - start)) : '';
-  return { title: `Line ${fault.line}${what}`, says, mend, span: at };
+  const alike = [30, 31, 32].includes(fault.code) ? lookalikeIn(text.slice(...at)) : undefined;
+  const title = `Line ${fault.line}${what}`;
+  if (!alike) return { title, says, mend, span: at };
+  const more = `“${alike.letter}” looks like ${alike.meant}, and is another sign (${alike.code}).`;
+  return { title, says: more, mend: `Write ${alike.meant}.`, span: at };
 }
 
 /** Why a message, a datagram or a set-up was refused. */

@@ -1,6 +1,6 @@
 // What is opened, dropped or pasted: a pattern text with or without comments, a vector file, a protocol name, or a link
 // of this page. There is no DOM here.
-import { unhex } from './bytes.mjs';
+import { unhex, visible } from './bytes.mjs';
 import { textOfName } from './patterns.mjs';
 import { SAYS, hasSecret } from './secret.mjs';
 
@@ -20,6 +20,25 @@ const withoutComments = (text) =>
     .filter((line) => line.trim() !== '')
     .map((line) => `${line}\n`)
     .join('');
+
+/** Lines of a key schedule, as `noise trace` prints them and as people log them. */
+const isLog = (text) => /(?:^|[\s:])trace (?:initiator|responder) \S+ \S+ \S+ /m.test(text.replaceAll('\t', ' '));
+const LOG = 'This is a log of a key schedule: it is below, at “Find a mistake”, to be compared. It isn’t kept.';
+
+/** The lines of an arrow alone, by which Noise Explorer writes transport messages. */
+const BARE = /^[ \t]*(?:->|<-)[ \t]*(?:\n|$)/gm;
+const EXPLORER = 'The pattern is taken, without the lines of an arrow alone, which are transport messages.';
+
+/** A protocol name of another suite: its pattern is the same. */
+function ofName(word) {
+  const parts = /^Noise_([A-Z][A-Z0-9]*(?:psk[0-8](?:\+psk[0-8])*)?)_([A-Za-z0-9/_]+)$/.exec(word);
+  const text = parts && textOfName(parts[1]);
+  if (!text) return undefined;
+  if (parts[2] === '25519_ChaChaPoly_SHA256') return { setup: { text }, says: 'The pattern of this name is taken.' };
+  const says = `The suite ${visible(parts[2])} isn’t here: the pattern of this name is taken, `
+    + 'with 25519_ChaChaPoly_SHA256, which this library has alone.';
+  return { setup: { text }, says };
+}
 
 /** The prologue of a vector file as a text, or undefined. */
 function prologueOf(hex) {
@@ -64,11 +83,14 @@ export function intake(given) {
     return { fragment, says: 'The link is followed.' };
   }
   if (/^vector [12]\n/.test(text)) return ofVector(text);
-  const named = /^Noise_\S+$/.test(word) ? textOfName(word) : undefined;
-  if (named) return { setup: { text: named }, says: 'The pattern of this name is taken.' };
+  const named = ofName(word);
+  if (named) return named;
+  if (isLog(text)) return { log: text, says: LOG };
   const bare = withoutComments(text);
   if (/#/.test(text) && /^\S+:\n/.test(bare) && !hasSecret(bare)) {
-    return { setup: { text: bare }, says: 'The pattern is taken, without its comments.' };
+    return { setup: { text: bare.replace(BARE, '') }, says: 'The pattern is taken, without its comments.' };
   }
+  const plain = text.replace(BARE, '');
+  if (plain !== text && /^\S+:\n/.test(text) && !hasSecret(text)) return { setup: { text: plain }, says: EXPLORER };
   return hasSecret(text) ? REFUSED : undefined;
 }

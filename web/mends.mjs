@@ -2,7 +2,9 @@
 // takes it, or finds its next fault further on. There is no DOM here.
 import { checkPattern } from '../bindings/js/check.mjs';
 import { brokenRule, firstOf, forgottenDots, mixPlace } from './faults.mjs';
+import { lookalikeIn, withoutLookalikes } from './lookalikes.mjs';
 import { freeName } from './own.mjs';
+import { textOfName } from './patterns.mjs';
 import { linesOf } from './plan.mjs';
 
 const textOf = (lines) => lines.map((line) => `${line}\n`).join('');
@@ -23,14 +25,20 @@ function tidyLine(line, n) {
   return parts ? `  ${parts[1]} ${parts[2].toLowerCase().split(/[ ,;]+/).filter(Boolean).join(', ')}` : line;
 }
 
+/** An arrow alone, by which Noise Explorer writes a transport message. */
+const isBare = (line) => /^\s*(?:->|<-|→|←)\s*$/.test(line);
+
 function tidy(text) {
-  const lines = text.replace(/ *#.*$/gm, '').replace(/\n$/, '').split('\n').filter((line) => line.trim() !== '');
+  const bare = withoutLookalikes(text).replace(/ *#.*$/gm, '').replace(/\n$/, '');
+  const lines = bare.split('\n').filter((line) => line.trim() !== '' && !isBare(line));
   return textOf(lines.map(tidyLine).filter((line) => line.trim() !== ''));
 }
 
 /** What `tidy` has changed, in words. */
 function tidied(text) {
   if (/#/.test(text)) return 'Take the comments out';
+  if (lookalikeIn(text.replace(/[→←⟶⟵⇒⇐]/g, ''))) return 'Write the letters that are meant';
+  if (text.split('\n').some(isBare)) return 'Take out the lines of an arrow alone';
   if (text.replace(/[ \t\r]+$/gm, '') === tidy(text)) return 'Take the space at the end out';
   if (/[→←⟶⟵⇒⇐]/.test(text)) return 'Write the arrows as -> and <-';
   if (/\n\s*\n/.test(text)) return 'Leave the empty line out';
@@ -180,6 +188,15 @@ function ruleMends(lines, verdict) {
   return [[mend.replace(/\.$/, ''), mixed(lines, missing, n)]];
 }
 
+/** The pattern of the standard whose name a text is, in capitals or not: as a mend. */
+function namedBy(text) {
+  const word = withoutLookalikes(text).trim().replace(/:$/, '');
+  const [, base, places] = /^(?:noise_)?([a-z0-9]{1,8}?)((?:psk\d\+?)*)(?:_[\w/]*)?$/i.exec(word) ?? [];
+  const name = base && `${base.toUpperCase()}${places.toLowerCase()}`;
+  const found = name && textOfName(name);
+  return found ? [[`Take the pattern ${name}`, found]] : [];
+}
+
 /** The kinds of faults of a line, by code, in the order in which they are looked for. */
 const KINDS = [30, 31, 32, 33, 34, 37, 35, 36, 38];
 
@@ -198,7 +215,7 @@ const keepsPsks = (text, candidate) => pskCount(candidate) >= pskCount(text);
 export function mendsOf(text, verdict) {
   const lines = linesOf(text);
   const tidyText = tidy(text);
-  const found = tidyText === text ? [] : [[tidied(text), tidyText]];
+  const found = [...namedBy(text), ...(tidyText === text ? [] : [[tidied(text), tidyText]])];
   if (verdict.rule) {
     found.push(...ruleMends(lines, verdict));
   } else if (tidyText === text) {

@@ -5,13 +5,15 @@ const at = (id) => document.getElementById(id);
 const isField = (it) => it.matches?.('input, textarea');
 
 /**
- * `take(setup, says)` takes a set-up, `follow(fragment)` that of a link, and `notice(says)` tells what can't be taken.
+ * `take(setup, says)` takes a set-up, `follow(fragment)` that of a link, `compare(log)` a log, and `notice(says)` tells
+ * what can't be taken.
  */
-export function wireOpening({ take, follow, notice }) {
+export function wireOpening({ take, follow, compare, notice }) {
   const bring = (text, isWhole) => {
     const found = intake(text);
     if (found?.fragment) follow(found.fragment);
     else if (found?.setup) take(found.setup, found.says);
+    else if (found?.log) { notice(found.says); compare(found.log); }
     else if (found) notice(found.says);
     else if (isWhole) take({ text: text.replaceAll('\r\n', '\n') }, '');
     return Boolean(found);

@@ -13,13 +13,15 @@ export const STYLE = `
   .noise .dh{fill:none;stroke:#566074}.noise .on{fill:#141a24;forced-color-adjust:none}
   .noise text{font:13px system-ui,sans-serif}
   .noise .small{font-size:12px}.noise .bold{font-weight:600}.noise .good{fill:#116b3f}.noise .bad{fill:#a8231b}
-  .noise .way{fill:#1f5fbf}
+  .noise .way{fill:#1f5fbf}.noise .unread,.noise .wrong{fill:none;stroke:#566074;stroke-dasharray:3 2}
+  .noise .wrong{stroke:#a8231b;stroke-width:2.5;stroke-dasharray:none}
   .noise .due .line{stroke-dasharray:5 4}.noise .now .line{stroke:#1f5fbf;stroke-width:3}.noise .now .head{fill:#1f5fbf}
   .noise .under rect{stroke:#1f5fbf;stroke-width:3;stroke-dasharray:none}
   @media (prefers-color-scheme:dark){
     .noise .bg{fill:#171c25}.noise .ink{fill:#e7ebf2}.noise .dim{fill:#a3adbf}.noise .line,.noise .dh{stroke:#a3adbf}
     .noise .life{stroke:#3b4454}
     .noise .payload{fill:#2a3140;stroke:#a3adbf}.noise .payload.sealed{fill:#24483b}
+    .noise .wrong{stroke:#ff9d92}
     .noise .good{fill:#6fd3a2}.noise .bad{fill:#ff9d92}.noise .way,.noise .now .head{fill:#7fb0f5}
     .noise .now .line,.noise .under rect{stroke:#7fb0f5}
   }
@@ -40,7 +42,8 @@ const text = (x, y, cls, value, anchor = 'start') =>
   + `text-anchor="${anchor}">${escape(value)}</text>`;
 
 /** How a piece is called. */
-export function pieceName({ kind, sealed, length }) {
+export function pieceName({ kind, sealed, length, name, isWrong }) {
+  if (kind === 'unread') return `${name}, ${isWrong ? 'a fault' : 'not checked'}`;
   if (kind === 'e') return `ephemeral key, clear, ${length} bytes`;
   if (kind === 's') return `static key, ${sealed ? 'encrypted' : 'clear'}, ${length} bytes`;
   if (kind === 'tag') return `tag, ${length} bytes`;
@@ -79,6 +82,12 @@ function knownWords(known, role) {
     + `${mixed.length ? mixed.join(', ') : 'nothing'}.`;
 }
 
+/** A message that wasn't checked, in words. */
+const unreadWords = ({ from, pieces, isWrong, says }, n) => (from
+  ? `Message ${n + 1}, from the ${from}, ${isWrong ? 'has a fault' : 'isn’t checked'}: `
+    + `${pieces.map(pieceName).join('; ')}.`
+  : `Message ${n + 1} can’t be read: ${says}.`);
+
 /** The same as the picture, in words, a line for each message. */
 export function words(plan) {
   const { section, before, messages } = plan;
@@ -86,7 +95,9 @@ export function words(plan) {
   for (const role of ['initiator', 'responder']) {
     if (before[role].length) lines.push(`Known before: the ${role}’s ${before[role].join(' and ')}.`);
   }
-  messages.forEach(({ from, pieces, length, known }, n) => {
+  messages.forEach((message, n) => {
+    const { from, pieces, length, known } = message;
+    if (!known) return lines.push(unreadWords(message, n));
     const { hasKeys, psks } = coveredBefore(plan, n);
     const covered = [
       'the protocol name',
@@ -94,7 +105,7 @@ export function words(plan) {
       hasKeys && 'the keys known before',
       psks && (psks === 'psk' ? 'the psk' : psks),
     ];
-    lines.push(
+    return lines.push(
       `Message ${n + 1}, from the ${from}, ${length} bytes and the payload: ${pieces.map(pieceName).join('; ')}. `
         + `The hash then covers ${covered.filter(Boolean).join(', ')}, and all bytes of ${coveredBy(n)}. `
         + `${knownWords(known.initiator, 'initiator')} ${knownWords(known.responder, 'responder')}`,
@@ -118,6 +129,11 @@ function columnLines(known, role, most) {
 /** One piece: what it is called, how wide it is, its class and its label. */
 function drawn(piece, scale, sizes) {
   const { kind, sealed, length } = piece;
+  if (kind === 'unread') {
+    const label = `${piece.name}${piece.isWrong ? ' ✗' : ''}`;
+    const [cls, ink] = piece.isWrong ? ['wrong', 'bad'] : ['unread', 'ink'];
+    return { width: Math.max(sizes.mixed, 8 * label.length + 16), cls, label, ink, isMixed: true };
+  }
   if (kind === 'payload') {
     return { width: sizes.payload, cls: `payload${sealed ? ' sealed' : ''}`, label: 'payload', ink: 'ink' };
   }
@@ -206,6 +222,16 @@ function arrow(from, says, { state, isNow }, place, y) {
 
 const classOf = ({ state, isNow }) => `message${isNow ? ' now' : ''}${state?.cls === 'due' ? ' due' : ''}`;
 
+/** A message that wasn't checked: its tokens, and those with a fault marked. Its height is with it. */
+function unreadRow({ from, pieces, isWrong, says }, n, place, y) {
+  if (!from) return [text(place.middle, y + 14, 'bad', `✗ message ${n + 1} can’t be read: ${says}`, 'middle'), 40];
+  const [rows, high] = bars(pieces, place, y + ROW, n);
+  const what = isWrong ? '✗ a fault' : 'not checked';
+  const run = { state: { word: '', cls: 'due' } };
+  const made = arrow(from, `${arrowOf(from)} message ${n + 1}: ${what}`, run, place, y);
+  return [`<g class="message due">${made}${rows}</g>`, ROW + high + 14];
+}
+
 /** The rows of the transport: one for each party that may write, with its last message in a run. */
 function transport({ oneWay }, seen, place, y0) {
   const roles = oneWay ? ['initiator'] : ['initiator', 'responder'];
@@ -227,6 +253,10 @@ function transport({ oneWay }, seen, place, y0) {
   });
   return [drawnRows.join(''), y];
 }
+
+/** Of a text that isn't valid the transport has only its fault. */
+const transportFault = ({ transportWrong }, place, y) =>
+  (transportWrong ? [text(place.middle, y + 14, 'bad', '✗ transport: a fault', 'middle'), y + 30] : ['', y + 6]);
 
 /**
  * The picture, at least so many units wide: a unit is a pixel where a font has its usual size. `seen` is what a run has
@@ -251,7 +281,14 @@ export function picture(plan, given, seen, unit = 1) {
   const [first, height] = knows(plan.atFirst, 56);
   body += first;
   let y = 56 + height;
-  plan.messages.forEach(({ from, pieces, length, known }, n) => {
+  plan.messages.forEach((message, n) => {
+    const { from, pieces, length, known } = message;
+    if (!known) {
+      const [row, long] = unreadRow(message, n, place, y);
+      body += row;
+      y += long;
+      return;
+    }
     const { hasKeys, psks } = coveredBefore(plan, n);
     const names = ['name', 'prologue', hasKeys && (isNarrow ? 'keys' : 'known keys'), psks].filter(Boolean).join(', ');
     const whole = [`${isNarrow ? 'hash' : 'the hash covers'}: ${names},`, coveredBy(n)];
@@ -268,7 +305,7 @@ export function picture(plan, given, seen, unit = 1) {
     body += columns;
     y = isNarrow ? below + more + 32 + deep + 12 : Math.max(below + more + 32, y + 40 + deep + 10);
   });
-  const [rows, end] = transport(plan, seen, place, y);
+  const [rows, end] = plan.isPartial ? transportFault(plan, place, y) : transport(plan, seen, place, y);
   const lives = isNarrow ? '' : [left, right].map((x) => `<path class="life" d="M${x} 12V${end - 4}"/>`).join('');
   return [
     `<svg xmlns="http://www.w3.org/2000/svg" class="noise" width="${width * unit}" height="${end * unit}" `,

@@ -34,24 +34,32 @@ export class Run {
    */
   static async start(setup) {
     const plan = layout(setup.text);
-    const run = Object.assign(new Run(), { setup, plan, events: [], lines: [], log: [], steps: [], isClosed: false });
-    run.hasOwnPsks = plan.psks > 0 && Boolean(setup.ownPsks);
+    const hasOwnPsks = plan.psks > 0 && Boolean(setup.ownPsks);
     const secrets = () => Array.from({ length: plan.psks }, () => crypto.getRandomValues(new Uint8Array(32)));
-    run.psks = secrets();
-    const psks = { initiator: run.psks, responder: run.hasOwnPsks ? secrets() : run.psks };
+    const shared = secrets();
+    const psks = { initiator: shared, responder: hasOwnPsks ? secrets() : shared };
     const keys = {};
     const draw = async (own) => new Asked(await KeyPair.generate(), own);
     await Promise.all(ROLES.map(async (role) => {
       const [e, s] = await Promise.all([draw('e'), plan.static[role] ? draw('s') : undefined]);
       keys[role] = { e, s };
     }));
+    return Run.of(setup, keys, psks);
+  }
+
+  /** Makes both parties, with these keys and psks of each. */
+  static of(setup, keys, psks) {
+    const run = new Run();
+    Object.assign(run, { setup, plan: layout(setup.text), events: [], lines: [], log: [], steps: [], isClosed: false });
+    Object.assign(run, { psks: psks.initiator, hasOwnPsks: psks.initiator !== psks.responder });
     for (const role of ROLES) run[role] = run.#party(role, keys, psks[role]);
     return run;
   }
 
   #party(role, keys, psks) {
     const { text, prologue, mode } = this.setup;
-    const known = (own) => (this.plan.before[OTHER[role]].includes(own) ? keys[OTHER[role]][own].publicKey : undefined);
+    const known = (own) =>
+      (this.plan.before[OTHER[role]].includes(own) ? keys[OTHER[role]][own]?.publicKey : undefined);
     const party = new Party(role, keys[role], psks, mode);
     party.handshake = new Handshake({
       pattern: text, responder: role === 'responder', prologue, psks,
@@ -184,6 +192,13 @@ export class Run {
       bytes,
     };
     return this[role].isIn('stream') ? this.#take(role, frame(bytes), about) : this.#read(role, bytes, about);
+  }
+
+  /** Bytes come to a party as a message, which nobody may have written. */
+  async receive(role, bytes) {
+    const { sealer, handshake } = this[role];
+    const number = sealer ? undefined : handshake.stage.passed;
+    return this.#read(role, bytes, { item: { comings: [] }, number, flips: [], bytes });
   }
 
   #written(role, n) {

@@ -113,8 +113,8 @@ export class Current {
   #row;
 
   /**
-   * `parts` are elements: `box`, `title`, `acts` and `body`. `hands` has `act(work)`, `whyNot()` and `looked()`, which
-   * is called after another message is shown.
+   * `parts` are elements: `box`, `title`, `acts`, `body` and `more`. `hands` has `act(work)`, `whyNot()` and
+   * `looked()`, which is called after another message is shown.
    */
   constructor(parts, hands) {
     this.#parts = parts;
@@ -127,23 +127,19 @@ export class Current {
 
   /** Shows a message by the entry of its writing, or none. */
   pick(run, entry) {
-    const { box, acts, body } = this.#parts;
+    const { box, acts, body, more } = this.#parts;
     this.#item = entry?.item;
     this.#entry = entry;
     this.#shown = 0;
     box.hidden = !entry;
-    acts.replaceChildren();
-    body.replaceChildren();
+    for (const it of [acts, body, more]) it.replaceChildren();
     if (!entry) return;
     const { row, show } = deliverRow(run, entry, this.#hands);
     this.#row = show;
     acts.append(row);
     const flipped = () => { show(); this.#hands.looked(); };
-    body.append(
-      bytesView(run, entry.item, messageName(entry), flipped),
-      element('div', 'hashes'),
-      element('div', 'schedule-lists'),
-    );
+    body.append(bytesView(run, entry.item, messageName(entry), flipped));
+    more.append(element('div', 'hashes'), element('div', 'schedule-lists'));
     if (!(entry.payload?.length > 48)) return;
     body.append(
       element(
@@ -165,7 +161,7 @@ export class Current {
     this.#row();
     const entries = run.log.filter(({ item }) => item === this.#item);
     const hash = entries.at(-1).number === undefined ? undefined : hashLine(entries.at(-1).hash);
-    this.#parts.body.querySelector('.hashes').replaceChildren(...(hash ? [hash] : []));
+    this.#parts.more.querySelector('.hashes').replaceChildren(...(hash ? [hash] : []));
     if (!this.#entry.isDatagram) {
       const details = (entry) =>
         scheduleDetails(
@@ -175,7 +171,7 @@ export class Current {
           `Key schedule of ${entry.at}: the ${entry.role}`,
         );
       const added = entries.slice(this.#shown).map(details);
-      this.#parts.body.querySelector('.schedule-lists').append(...added);
+      this.#parts.more.querySelector('.schedule-lists').append(...added);
     }
     this.#shown = entries.length;
   }

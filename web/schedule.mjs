@@ -201,12 +201,13 @@ async function linesOf(schedules, run, entry) {
   return isDone ? [...lines, ...ROLES.flatMap((it) => schedules[it].datagrams)] : lines;
 }
 
-/** The key schedule of a run: the lines of its start, and those of each entry of its log. */
-export async function scheduleOf(run) {
+/** The key schedule of a run: the lines of its start, and those of each entry of its log; and those of datagrams. */
+export async function scheduleOf(run, hasDatagrams = false) {
   const made = await Promise.all(ROLES.map((role) => Schedule.of(run, role)));
   const schedules = Object.fromEntries(ROLES.map((role, n) => [role, made[n]]));
   const start = made.flatMap(({ lines }) => lines);
   const entries = new Map();
   for (const entry of [...run.log]) entries.set(entry, await linesOf(schedules, run, entry));
-  return { start, entries, whole: [...start, ...[...entries.values()].flat()] };
+  const last = hasDatagrams ? made.flatMap(({ datagrams }) => datagrams) : [];
+  return { start, entries, whole: [...start, ...[...entries.values()].flat(), ...last] };
 }

@@ -1,11 +1,14 @@
 // The picture of the handshake with the run in it, what follows from its tokens, and another pattern beside it.
+import { visible } from './bytes.mjs';
 import { element } from './element.mjs';
 import { Beside, showFacts } from './factsview.mjs';
+import { partial } from './partial.mjs';
 import { STYLE, picture, pieceName, words } from './picture.mjs';
 
 const at = (id) => document.getElementById(id);
 const CARET = 'The token under the caret is shown here, and in the picture.';
-const OLD = 'This is the last valid pattern, and not the text.';
+const PART = 'The text isn’t valid: this is what can be read of it. ✗ marks its faults.';
+const OLD = 'This is the last valid pattern: nothing of the text can be read.';
 /** How many pixels a unit of the picture is: its texts grow with the browser's font. */
 const unit = () => parseFloat(getComputedStyle(document.documentElement).fontSize) / 16;
 
@@ -37,14 +40,15 @@ export class Shape {
   }
 
   #draw() {
-    const { plan } = this.#page;
-    at('picture').classList.toggle('old', !plan);
-    if (plan) at('shape-of').textContent = plan.section;
+    const { plan, setup, faults } = this.#page;
+    const drawn = plan ?? partial(setup.text, faults);
+    at('picture').classList.toggle('old', !drawn);
+    if (drawn) at('shape-of').textContent = visible(drawn.section);
     at('shape-old').hidden = Boolean(plan);
-    at('shape-old').textContent = at('shape-of').textContent
-      ? OLD
-      : 'The text isn’t a valid pattern, and has no picture.';
-    if (plan) at('picture').innerHTML = picture(plan, this.#width, this.#page.isStale ? undefined : this.#seen, unit());
+    const none = at('shape-of').textContent ? OLD : 'The text isn’t a valid pattern, and has no picture.';
+    at('shape-old').textContent = drawn ? PART : none;
+    const seen = this.#page.isStale || !plan ? undefined : this.#seen;
+    if (drawn) at('picture').innerHTML = picture(drawn, this.#width, seen, unit());
     this.#mark();
   }
 
@@ -81,8 +85,8 @@ export class Shape {
   }
 
   /**
-   * After each change of the pattern: while it isn't valid, the last valid picture stays, and its title says so; its
-   * facts are left out.
+   * After each change of the pattern: while it isn't valid, the picture has what can be read, or stays if nothing can,
+   * and its title says so; its facts are left out.
    */
   show() {
     const { plan, setup } = this.#page;

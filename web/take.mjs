@@ -1,8 +1,7 @@
 // What is saved and copied, and the set-up as a program.
 import { visible } from './bytes.mjs';
-import { program, LANGUAGES } from './code.mjs';
 import { button, copier, element, enable, speak } from './element.mjs';
-import { highlighted } from './highlight.mjs';
+import { LANGUAGES } from './languages.mjs';
 import * as link from './link.mjs';
 import { pictureFile } from './picture.mjs';
 import { scheduleOf } from './schedule.mjs';
@@ -50,6 +49,9 @@ export class Take {
   #language = 'C';
   #shown = '';
   #coding;
+  /** The program is made anew when it comes into view; one that is out of it waits, and so do the scripts for it. */
+  #isInView = false;
+  #scripts;
 
   /** `page` has `setup`, `plan`, `run` and `text`. */
   constructor(page) {
@@ -59,15 +61,21 @@ export class Take {
     wire('save-vector', () => { const { name, text } = vectorFile(page.run); save(name, 'text/plain', text); });
     wire('save-pattern', () => save(`${page.plan?.base ?? 'mine'}.pattern`, 'text/plain', page.setup.text));
     wire('save-picture', () => save(`${page.plan.base}.svg`, 'image/svg+xml', pictureFile(page.plan)));
-    wire('save-program', () => { const { name, text } = this.#program(); save(name, 'text/plain', text); });
+    wire('save-program', async () => { const { name, text } = await this.#program(); save(name, 'text/plain', text); });
     wire('copy-link', () => this.#copyLink([], 'A link to this set-up'));
     wire('copy-run', () => this.#copyLink(page.run.steps, 'A link to this run'));
     wire('copy-explorer', () => copy(forExplorer(page.plan, page.setup.text), 'The pattern for Noise Explorer'));
     wire('copy-log', async () =>
       copy((await scheduleOf(page.run)).whole.map((line) => `${line}\n`).join(''), 'The key schedule'),
     );
-    for (const name of LANGUAGES) at('languages').append(button(name, () => { this.#language = name; this.show(); }));
-    at('program-row').append(copier('the program', () => this.#program().text));
+    for (const name of LANGUAGES) {
+      at('languages').append(button(name, () => { this.#language = name; this.show(); this.#showCode(); }));
+    }
+    new IntersectionObserver(([{ isIntersecting }]) => {
+      this.#isInView = isIntersecting;
+      if (isIntersecting) this.#showCode();
+    }, { rootMargin: '200px' }).observe(at('code'));
+    at('program-row').append(copier('the program', async () => (await this.#program()).text));
   }
 
   /** Copies the page's own address, wherever it is served, with a set-up and a run's steps. */
@@ -80,7 +88,15 @@ export class Take {
     return copy(location.href.split('#')[0] + link.write(this.#page.setup, steps), what, here);
   }
 
-  #program() {
+  /** What makes and colours programs. */
+  async #made() {
+    this.#scripts ??= Promise.all([import('./code.mjs'), import('./highlight.mjs')]);
+    const [{ program }, { highlighted }] = await this.#scripts;
+    return { program, highlighted };
+  }
+
+  async #program() {
+    const { program } = await this.#made();
     const { plan, setup } = this.#page;
     return program(this.#language, plan, setup);
   }
@@ -102,13 +118,15 @@ export class Take {
     at('code-old').hidden = Boolean(plan) || !this.#shown;
     at('code').hidden = !plan && !this.#shown;
     clearTimeout(this.#coding);
-    this.#coding = setTimeout(() => this.#showCode(), 0);
+    if (this.#isInView) this.#coding = setTimeout(() => this.#showCode(), 0);
   }
 
   /** The program, once the keys that came have been seen to. */
-  #showCode() {
+  async #showCode() {
     if (!this.#page.plan) return;
-    const { text } = this.#program();
+    const { highlighted } = await this.#made();
+    if (!this.#page.plan) return;
+    const { text } = await this.#program();
     if (text === this.#shown) return;
     this.#shown = text;
     at('code').replaceChildren(...highlighted(this.#language, text));

@@ -24,7 +24,7 @@ export async function speech(page) {
     ({ role, name }) => ['image', 'img'].includes(role.value) && name?.value === 'The handshake XX',
   );
   assert.match(picture?.description?.value ?? '', /Message 1, from the initiator, 32 bytes/);
-  assert.equal(shown.filter(({ role, name }) => role.value === 'region' && name?.value).length, 5);
+  assert.equal(shown.filter(({ role, name }) => role.value === 'region' && name?.value).length, 6);
   assert.ok(
     shown.some(({ role, name }) => role.value === 'toolbar' && name?.value.startsWith('The bytes of message 3')),
   );

@@ -55,7 +55,9 @@ async function fill(page) {
   await page.passAll();
   await page.write('initiator');
   await page.deliver(2, [3]);
-  await page.run('for (const it of document.querySelectorAll("#how, #keys, #current-body details")) it.open = true');
+  const folded = '#choose, #compare, #capture, #how, #keys, #current-more details';
+  await page.run(`for (const it of document.querySelectorAll('${folded}')) it.open = true;`);
+  await page.until('document.querySelectorAll("#capture-text, #log-text, #choosing table").length === 3');
   await page.type('beside', 'NK1');
   await page.until('document.querySelectorAll(".schedule").length >= 1');
 }

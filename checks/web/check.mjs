@@ -6,21 +6,26 @@ import { join } from 'node:path';
 import { Browser } from './browser.mjs';
 import { speech } from './access.mjs';
 import { axe } from './axe.mjs';
+import { choices } from './choices.mjs';
 import { designs } from './designs.mjs';
 import { figures, weight } from './figures.mjs';
+import { finding } from './finding.mjs';
 import { links } from './links.mjs';
 import { Keyboard, Pointer } from './hands.mjs';
 import { Page } from './page.mjs';
+import { secrets } from './secrets.mjs';
 import { serve } from './server.mjs';
 import { sizes } from './sizes.mjs';
 import { EXPECTED, takeChannels } from './socket-server.mjs';
+import { views } from './views.mjs';
 import { Walk } from './walk.mjs';
 import { workbench } from './workbench.mjs';
 import { DEFERRED, FUNDAMENTAL } from '../../web/patterns.mjs';
 
 const [top, room, built] = process.argv.slice(2);
 const server = await serve(top);
-const browser = await Browser.start();
+// Each key's address is looked at: there are more of them than a page may set in ten seconds.
+const browser = await Browser.start('--disable-ipc-flooding-protection');
 const page = new Page(browser, `${server.url}web/`, room);
 const report = (text) => console.log(`web: ${text}`);
 const quoted = JSON.stringify;
@@ -33,7 +38,7 @@ async function allPatterns() {
     await page.passAll();
     assert.match(await page.textOf('state'), /initiator is open .*responder is open/, base);
     assert.match(
-      await page.evaluate('document.querySelector("#current-body .hash").textContent'),
+      await page.evaluate('document.querySelector("#current-more .hash").textContent'),
       /^hash at both parties [0-9a-f]{64} /, base,
     );
     // Each length in the picture is that of the message that the library has written, with a payload of two bytes.
@@ -260,6 +265,10 @@ try {
   report(await sizes(page, top));
   report(await links(page));
   report(await workbench(page));
+  report(await secrets(page, top));
+  report(await choices(page));
+  report(await finding(page, top));
+  report(await views(page));
   await walks();
   report(await designs(page));
   await page.resize(1100);

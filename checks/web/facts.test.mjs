@@ -278,6 +278,29 @@ test('what the editor can mend it offers to', () => {
   assert.deepEqual(saidOf('MINE:\n  -> e, foo\n').offers, []);
 });
 
+test('texts of others: names, arrows alone and letters that look alike go in one mend', () => {
+  const xx = textOf('XX');
+  for (const [text, label, mended] of [
+    ['IKpsk2\n', 'Take the pattern IKpsk2', textOf('IK', [2])], ['xx\n', 'Take the pattern XX', xx],
+    ['XX:\n', 'Take the pattern XX', xx], ['Noise_XX_25519_AESGCM_SHA256\n', 'Take the pattern XX', xx],
+    ['nnPSK0\n', 'Take the pattern NNpsk0', textOf('NN', [0])],
+    [`${xx}  <-\n  ->\n`, 'Take out the lines of an arrow alone', xx],
+    [`${xx}<-\n->\n\n`, 'Take out the lines of an arrow alone', xx],
+    ['MINE:\n  -> \u0435\n', 'Write the letters that are meant', 'MINE:\n  -> e\n'],
+    ['\u041c\u0406NE:\n  -> e, \u0455\n', 'Write the letters that are meant', 'MINE:\n  -> e, s\n'],
+    ['MINE\uff1a\n  -> \uff45\n', 'Write the letters that are meant', 'MINE:\n  -> e\n'],
+  ]) {
+    const { offers } = saidOf(text);
+    assert.deepEqual(offers[0], { label, text: mended }, JSON.stringify(text));
+    assert.ok(checkPattern(mended).valid);
+  }
+  const { says, marked } = saidOf('MINE:\n  -> e, \u0435\u0435\n');
+  assert.equal(marked, '\u0435\u0435');
+  assert.equal(says, '“\u0435” looks like e, and is another sign (U+0435).');
+  assert.deepEqual(saidOf('MINE:\n  -> e, \u00e9\n').offers, []);
+  assert.ok(!saidOf('MINE\n').offers.some(({ label }) => label.startsWith('Take the pattern')));
+});
+
 test('an offer is right, or its fault is further on', () => {
   const pieces = ['e', 's', 'ee', 'es', 'se', 'ss', 'psk', 'E', 'x', ''];
   const next = numbers(5);

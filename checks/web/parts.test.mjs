@@ -2,12 +2,15 @@
 // --test parts.test.mjs.
 import assert from 'node:assert/strict';
 import { before, test } from 'node:test';
+import { checkPattern } from '../../bindings/js/check.mjs';
 import { load } from '../../bindings/js/module.mjs';
 import { visible } from '../../web/bytes.mjs';
+import { readCapture } from '../../web/capture.mjs';
+import { PURPOSES, TABLE, pskNames, rowOf } from '../../web/choose.mjs';
 import { intake } from '../../web/intake.mjs';
 import * as own from '../../web/own.mjs';
 import { MOST_TEXT, address, faultOf, isLocal, isSetup, read, readRun, whyNot, write } from '../../web/link.mjs';
-import { textOf } from '../../web/patterns.mjs';
+import { DEFERRED, FUNDAMENTAL, textOf, textOfName } from '../../web/patterns.mjs';
 import { picture, words } from '../../web/picture.mjs';
 import { layout } from '../../web/plan.mjs';
 import { Run } from '../../web/run.mjs';
@@ -136,6 +139,55 @@ test('names, comments, vector files and links are taken', () => {
   assert.match(intake('vector 1\nprotocol Noise_NK1_25519\n').says, /no pattern that the page knows/);
 });
 
+test('texts of others are taken for what they are', () => {
+  assert.deepEqual(intake('Noise_XX_25519_AESGCM_SHA256').setup, { text: textOf('XX') });
+  assert.match(intake('Noise_XXpsk3_448_ChaChaPoly_BLAKE2b').says, /^The suite 448_ChaChaPoly_BLAKE2b isn’t here:/);
+  assert.equal(intake('Noise_XXfallback_25519_AESGCM_SHA256'), undefined);
+  for (const [base, places] of [['XX', []], ['N', []], ['IK', [2]], ['NK1', []]]) {
+    const text = textOf(base, places);
+    const found = intake(forExplorer(layout(text), text));
+    assert.deepEqual(found.setup, { text }, base);
+    assert.match(found.says, /lines of an arrow alone/);
+  }
+  const theirs = 'XX:\n  -> e\n  <- e, ee, s, es\n  -> s, se\n  <-\n  ->';
+  assert.deepEqual(intake(theirs.replaceAll('\n', '\r\n')).setup, { text: textOf('XX') });
+  const line = `trace responder 1 0 e MixHash 0 ${'ab'.repeat(32)} ${'cd'.repeat(32)} ${'ef'.repeat(32)} - 0\n`;
+  for (const log of [line, `2026 debug ${line}`, `\n${line}`, `# mine\n${line}${line}`]) {
+    assert.deepEqual([intake(log).log, intake(log).setup], [log, undefined], log);
+  }
+  assert.equal(intake(line.toUpperCase()).log, undefined);
+  assert.ok(intake(`vector 2\nprotocol Noise_NN_25519_ChaChaPoly_SHA256\n`).setup);
+});
+
+test('captured messages are read by their lengths', () => {
+  const nk = layout(textOf('NK'));
+  const [first, second] = ['11'.repeat(32) + '22'.repeat(16), `${'33'.repeat(32)}${'44'.repeat(2)}${'55'.repeat(16)}`];
+  const captured = (text, isDatagrams) => readCapture(nk, text, isDatagrams);
+  const lines = ({ messages }) => messages.flatMap(({ title, pieces = [] }) => [
+    title, ...pieces.map(({ name, start, end, clear }) => `${start} ${end} ${name}${clear ? ` ${clear}` : ''}`),
+  ]);
+  const wanted = [
+    'Message 1, from the initiator: 48 bytes', `0 31 ephemeral key ${'11'.repeat(32)}`, '32 47 tag',
+    'Message 2, from the responder: 50 bytes', `0 31 ephemeral key ${'33'.repeat(32)}`, '32 33 payload, encrypted',
+    '34 49 tag',
+  ];
+  assert.deepEqual(lines(captured(`${first}\n${second}\n`)), wanted);
+  assert.deepEqual(lines(captured(`0030${first}0032${second}`)), wanted);
+  assert.equal(captured(`0030${first}\n0032${second}`).isFramed, true);
+  assert.deepEqual(lines(captured(` 0x${first.toUpperCase()}\n\n${second.match(/../g).join(':')}`)), wanted);
+  assert.deepEqual(lines(captured(`${first}\n${second}\n${'66'.repeat(17)}`)).slice(-3), [
+    'Transport message: 17 bytes, of which 1 are the payload', '0 0 payload, encrypted', '1 16 tag',
+  ]);
+  assert.deepEqual(lines(captured(`${first}\n${second}\n${'00'.repeat(7)}09${'66'.repeat(17)}`, true)).slice(-3), [
+    '0 7 nonce 0000000000000009', '8 8 payload, encrypted', '9 24 tag',
+  ]);
+  assert.match(lines(captured(first.slice(2)))[0], /47 bytes, and it has at least 48$/);
+  assert.equal(captured('abc').fault, 'Line 1 isn’t hex.');
+  assert.deepEqual(lines(readCapture(layout(textOf('NN')), `${'11'.repeat(32)}6869`)), [
+    'Message 1, from the initiator: 34 bytes', `0 31 ephemeral key ${'11'.repeat(32)}`, '32 33 payload, clear “hi”',
+  ]);
+});
+
 test('a text for Noise Explorer ends with an arrow alone for each party', () => {
   assert.equal(forExplorer(layout(textOf('NN')), textOf('NN')), 'NN:\n  -> e\n  <- e, ee\n  ->\n  <-\n');
   assert.equal(forExplorer(layout(textOf('XX')), textOf('XX')).slice(-10), '  <-\n  ->\n');
@@ -258,4 +310,52 @@ test('a refusal before the psk isn’t laid to it', async () => {
   );
   await assert.rejects(run.deliver('responder', 0, [400]), { message: 'The message has no such byte.' });
   run.dispose();
+});
+
+/** Source and destination of what a party writes as payload N, by the definitions of 7.7. */
+function gradeOf(from, seen, writers, n) {
+  const other = from === 'initiator' ? 'responder' : 'initiator';
+  const dh = (ours, theirs) => (from === 'initiator' ? ours + theirs : theirs + ours);
+  const has = (name) => seen.some(({ token }) => token === name);
+  const source = has(dh('s', 'e')) ? 2 : Number(has('ss'));
+  if (!has(dh('e', 's')) && !has('ss')) return `${source} ${has('ee') ? 1 : 0}`;
+  if (!has('ee')) return `${source} 2`;
+  // strong where the reader has written after its s was mixed with an e, so that its own e is known to be its
+  const mixed = seen.find(({ token }) => token === dh('e', 's')).n;
+  if (writers.slice(mixed, n).includes(other)) return `${source} 5`;
+  return `${source} ${has('ss') ? 4 : 3}`;
+}
+
+test('the table of 7.7 is that of its definitions', () => {
+  for (const [base, cells] of Object.entries(TABLE)) {
+    const text = textOf(base);
+    const { messages, oneWay } = layout(text);
+    const writers = [...messages.map(({ from }) => from), 'initiator', 'responder'];
+    if (messages.at(-1).from === 'initiator') writers.splice(messages.length, 1);
+    const seen = [];
+    const graded = cells.split('|').map((_, n) => {
+      const from = writers[n];
+      for (const token of messages[n]?.tokens ?? []) seen.push({ token, n });
+      return gradeOf(from, seen, writers, n);
+    });
+    assert.equal(graded.join('|'), cells, base);
+    assert.equal(oneWay, cells.length === 3, base);
+  }
+  assert.deepEqual(Object.keys(TABLE), FUNDAMENTAL);
+});
+
+test('what helps to choose says what the layouts show', () => {
+  assert.match(rowOf('XK1').says, /It is XK with es in message 2\.$/);
+  assert.match(rowOf('X1X1').says, /It is XX with es in message 3 and se in message 4\.$/);
+  assert.equal(
+    rowOf('IK').says, 'The client knows the server’s key before, and the client’s key is sent encrypted in message 1; '
+      + 'message 1 takes encrypted data. 2 messages.',
+  );
+  // the names of 9.4
+  const named = 'Npsk0 Kpsk0 Xpsk1 NNpsk0 NNpsk2 NKpsk0 NKpsk2 NXpsk2 XNpsk3 XKpsk3 XXpsk3 KNpsk0 KNpsk2 KKpsk0 KKpsk2 '
+    + 'KXpsk2 INpsk1 INpsk2 IKpsk1 IKpsk2 IXpsk2';
+  const made = [...FUNDAMENTAL, ...DEFERRED].flatMap((base) => pskNames(base));
+  for (const name of named.split(' ')) assert.ok(made.includes(name), name);
+  for (const name of made) assert.ok(checkPattern(textOfName(name)).valid, name);
+  for (const [, name] of PURPOSES) assert.ok(checkPattern(textOfName(name)).valid, name);
 });

@@ -131,10 +131,10 @@ export class Walk {
     );
     assert.notEqual(await this.page.evaluate('document.activeElement.tagName'), 'BODY');
     await this.until('document.getElementById("live").textContent === document.getElementById("said").textContent');
-    await hand.press('#current-body details.schedules summary');
-    await this.until('document.querySelector("#current-body .schedule dt") !== null');
+    await hand.press('#current-more details.schedules summary');
+    await this.until('document.querySelector("#current-more .schedule dt") !== null');
     const steps = await this.page.evaluate(
-      '[...document.querySelectorAll("#current-body .schedule dt")].map((it) => it.textContent)',
+      '[...document.querySelectorAll("#current-more .schedule dt")].map((it) => it.textContent)',
     );
     assert.deepEqual(steps, [
       'e (MixHash)',
@@ -143,7 +143,7 @@ export class Walk {
       'es (MixKey)',
       'payload (EncryptAndHash)',
     ]);
-    await hand.press('#current-body details.schedules .copy');
+    await hand.press('#current-more details.schedules .copy');
     assert.match(
       await this.clipboard(/^trace /),
       /^trace responder 2 0 e MixHash 0 [0-9a-f]{64} [0-9a-f]{64} [0-9a-f]{64} - 0\n/,

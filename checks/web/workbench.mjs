@@ -102,8 +102,25 @@ async function oldFacts(page) {
   await page.type('text', 'DEV:\n  -> e, es\n  <- e, ee, ee\n  -> e\n');
   assert.equal(await page.evaluate('document.getElementById("facts").checkVisibility()'), false);
   assert.equal(await page.evaluate('document.getElementById("words").checkVisibility()'), false);
-  assert.match(await page.textOf('shape-old'), /^This is the last valid pattern/);
-  assert.equal(await page.textOf('shape-of'), 'XX');
+  assert.match(await page.textOf('shape-old'), /^The text isn’t valid: this is what can be read of it/);
+  assert.equal(await page.textOf('shape-of'), 'DEV');
+  const drawn = () => page.evaluate(
+    '[...document.querySelectorAll("#picture g[data-piece]")].map((it) => it.textContent.replace(/^.*?(?= ✗|$)/, ""))',
+  );
+  assert.deepEqual((await drawn()).filter((it) => it !== ''), [' ✗', ' ✗', ' ✗']);
+  assert.deepEqual(
+    await page.evaluate('[...document.querySelectorAll("#picture .wrong + text")].map((it) => it.textContent)'),
+    ['es ✗', 'ee ✗', 'e ✗'],
+  );
+  assert.equal(await page.evaluate('document.getElementById("picture").className'), '');
+  await page.type('text', 'DEV:\n  -> e\n  <- e, ee, s, es\n  -> s, foo\n');
+  const marked = '[...document.querySelectorAll("#picture .wrong + text")].map((it) => it.textContent).join()';
+  assert.equal(await page.evaluate(marked), 'foo ✗');
+  assert.match(await page.textOf('picture'), /message 2: 96 bytes \+ payload.*message 3: ✗ a fault/);
+  await page.type('text', 'nothing');
+  assert.match(await page.textOf('shape-old'), /^This is the last valid pattern: nothing of the text can be read/);
+  assert.equal(await page.evaluate('document.getElementById("picture").className'), 'old');
+  await page.type('text', 'DEV:\n  -> e, es\n  <- e, ee, ee\n  -> e\n');
   assert.equal(
     await page.evaluate('document.getElementById("verdict").querySelectorAll(".title, .more li").length'), 3,
   );
@@ -249,10 +266,10 @@ async function touch(page) {
   assert.equal(await page.evaluate('document.querySelectorAll("#current-body [aria-pressed=true]").length'), 0);
   await page.click('#current-body .flip');
   assert.equal(await page.evaluate('document.querySelectorAll("#current-body [aria-pressed=true]").length'), 1);
-  await page.click('#current-body .schedules summary');
-  await page.until('document.querySelectorAll("#current-body .schedule dd").length > 3');
+  await page.click('#current-more .schedules summary');
+  await page.until('document.querySelectorAll("#current-more .schedule dd").length > 3');
   assert.match(
-    await page.evaluate('document.querySelector("#current-body .schedule dd").textContent'), /^h [0-9a-f]{64}$/,
+    await page.evaluate('document.querySelector("#current-more .schedule dd").textContent'), /^h [0-9a-f]{64}$/,
   );
 }
 

@@ -1,0 +1,108 @@
+// A log compared with a vector file, and messages in hex read by the pattern, as they are shown. Nothing of either is
+// kept: the fields are left out of what a browser restores.
+import { readCapture } from './capture.mjs';
+import { compareLog, rightLines } from './compare.mjs';
+import { button, element, speak } from './element.mjs';
+import { scheduleOfVector } from './vectorrun.mjs';
+
+/** A field for a text of several lines, with its label. */
+function field(id, label, rows) {
+  const made = element('textarea', 'lines');
+  Object.assign(made, { id, rows, spellcheck: false, autocomplete: 'off', wrap: 'off' });
+  made.setAttribute('autocapitalize', 'off');
+  return [made, element('label', 'above', label, made)];
+}
+
+/** The values that differ, whole, with the digits from the first other one on marked. */
+function valueRows(values) {
+  const row = (who, name, text, from) => element('tr', '',
+    Object.assign(element('th', '', `${who} ${name}`), { scope: 'row' }),
+    element('td', '', text.slice(0, from), element('b', 'changed', text.slice(from))));
+  return values.flatMap(([name, theirs, yours]) => {
+    let from = 0;
+    while (from < theirs.length && theirs[from] === yours[from]) from += 1;
+    return [row('right', name, theirs, from), row('yours', name, yours, from)];
+  });
+}
+
+const MORE = {
+  agrees: ({ count, split }) => `All ${count} lines are right, and nothing else was compared: `
+    + `${split ? `${split} of them are of Split` : 'none of them is of Split, so its keys may be wrong'}. `
+    + 'What your party decrypted is in no log: compare the payloads, too.',
+  ends: ({ place }) => `All lines are right, and the log ends before ${place}. `
+    + 'If it wasn’t cut off and your party should have gone on, it refused there.',
+  differs: ({ next }) => (next
+    ? 'This is the first line of your log that differs. Lines before it are right.'
+    : 'The right schedule has no further line of this role, part and name.'),
+};
+
+function outcome(found) {
+  if (found.fault) return [element('p', 'bad', `The log can’t be compared: ${found.fault}.`)];
+  const { finding, text: [first], values = [], skipped } = found;
+  const table = values.length ? [element('table', 'values', element('tbody', '', ...valueRows(values)))] : [];
+  return [
+    element('p', finding === 'agrees' ? 'title good' : 'title bad', first),
+    ...table,
+    element('p', '', MORE[finding](found)),
+    ...(skipped ? [element('p', 'hint', `Lines that aren’t of a key schedule, passed over: ${skipped}.`)] : []),
+  ];
+}
+
+/** Fills the box of the log. `page` has `run` and `isStale`. */
+export function comparing(box, page) {
+  const [log, logLabel] = field('log-text', 'Your log', 7);
+  const [vector, vectorLabel] = field('vector-text', 'The vector file', 7);
+  const result = element('div', 'compared');
+  const rightOf = async () => {
+    if (vector.value.trim() !== '') return scheduleOfVector(vector.value.replaceAll('\r\n', '\n'));
+    if (!page.run || page.isStale) throw new Error('The field of the vector file is empty.');
+    const { scheduleOf } = await import('./schedule.mjs');
+    return (await scheduleOf(page.run)).whole;
+  };
+  const act = async () => {
+    try {
+      result.replaceChildren(...outcome(compareLog(log.value, rightLines(await rightOf()))));
+    } catch (error) {
+      result.replaceChildren(element('p', 'bad', error.message));
+    }
+    speak(result.textContent);
+  };
+  const more = Object.assign(element('a', '', 'Check your own implementation'), { href: 'mistakes.html' });
+  box.replaceChildren(
+    element('p', '', 'Have your party log its state after each step, as lines ', element('code', '', 'trace …'),
+      '. The library runs the vector file, and the first line that differs from its key schedule is shown. ',
+      'With no vector file it is the run above. ', more, ' has the format, and ',
+      element('code', '', 'noise compare'), ' also names the mistake. ',
+      'Neither field is kept or sent: they have secrets.'),
+    element('div', 'fields', logLabel, vectorLabel),
+    element('div', 'row', button('Compare', act, 'main')),
+    result,
+  );
+}
+
+function messageItem({ title, pieces = [], isBad }) {
+  const items = pieces.map(({ name, start, end, clear }) => element('li', '',
+    `bytes ${start} to ${end}: ${name}`, ...(clear ? [' ', element('code', '', clear)] : [])));
+  return element('li', isBad ? 'bad' : '', element('strong', '', title), element('ul', '', ...items));
+}
+
+/** Fills the box of captured messages, which are read by the pattern of the page as it is then. */
+export function capturing(box, page) {
+  const [text, label] = field('capture-text', 'Messages in hex: a line each, or with two bytes of length in front', 5);
+  const result = element('div', 'captured');
+  const show = () => {
+    const { plan, setup } = page;
+    if (!plan) return result.replaceChildren(element('p', 'bad', 'The pattern isn’t valid.'));
+    const { fault, messages, isFramed } = readCapture(plan, text.value, setup.mode === 'datagrams');
+    if (fault) return result.replaceChildren(element('p', 'bad', fault));
+    if (!messages.length) return result.replaceChildren();
+    return result.replaceChildren(
+      element('p', 'hint', `Read as messages of ${plan.section}${isFramed ? ', with the length in front' : ''}: `
+        + 'by their lengths alone. The other pieces are encrypted.'),
+      element('ol', 'messages', ...messages.map(messageItem)),
+    );
+  };
+  text.addEventListener('input', show);
+  box.replaceChildren(label, result);
+  return show;
+}
