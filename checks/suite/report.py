@@ -95,11 +95,16 @@ def in_order(lines: list[str], tests: list[tuple[str, dict]]) -> list[str]:
     return faults
 
 
-def is_wrong(test: dict) -> bool:
-    """Whether a test of the wrong suite can't pass: it has a wrong hash or frame, or a right message to be refused."""
-    steps = test.get("steps", [])
-    wrong_steps = any(it["do"] == "hash" or it["do"] == "write" and it.get("refused") == "tag" for it in steps)
-    return test["result"] == "valid" and (wrong_steps or test.get("frame", "").startswith("ff"))
+def passes(test: dict, case: ElementTree.Element) -> bool:
+    """Whether a test of the wrong suite passes that can't: it has a wrong hash or frame, or a right message that is to
+    be refused; or fails for another reason than this."""
+    steps = test.get("steps", [{"do": "frame"}])
+    is_planted = steps[0]["do"] == "write" and steps[0].get("refused") == "tag"
+    is_wrong = is_planted or any(it["do"] == "hash" for it in steps) or test.get("frame", "").startswith("ff")
+    failure = case.find("failure")
+    if test["result"] != "valid" or not is_wrong or case.find("skipped") is not None:
+        return False
+    return failure is None or is_planted and "and has to be refused" not in failure.get("message", "")
 
 
 def is_chosen(pattern: str, test: dict, words: list[str]) -> bool:
@@ -135,7 +140,7 @@ def main(words: list[str]) -> int:
     faults += [
         f"test {test['tcId']} passes, which is wrong"
         for it, (_, test) in zip(cases, tests)
-        if is_wrong(test) and it.find("failure") is None and it.find("skipped") is None
+        if passes(test, it)
     ]
     faults += [f"JUnit has {len(cases)} tests"] if len(cases) != len(tests) else []
     print(
