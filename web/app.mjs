@@ -274,6 +274,7 @@ try {
   const steps = stepsOf(location.hash, history.state, isOpened());
   if (steps.length) await late.control.repeat(steps);
   page.isSettled = true;
+  document.documentElement.classList.add('settled');
   showRun();
   keepAddress();
   // What the checks and a curious reader of the console may look at; the vector file and the key schedule of a run have
