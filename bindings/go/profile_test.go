@@ -14,8 +14,8 @@ import (
 	"example.org/yulimosar/noise/internal/library"
 )
 
-// fields calls a function for each field of a message of Protocol Buffers, as those that profiles have: with its number,
-// and its value or content.
+// fields calls a function for each field of a message of Protocol Buffers, as those that profiles have: with its
+// number, and its value or content.
 func fields(message []byte, field func(number, value uint64, content []byte)) {
 	for len(message) > 0 {
 		key, n := binary.Uvarint(message)

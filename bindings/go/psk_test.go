@@ -3,6 +3,7 @@ package noise
 import (
 	"context"
 	"errors"
+	"strings"
 	"testing"
 )
 
@@ -170,12 +171,17 @@ func TestPSKsOfLaterMessages(t *testing.T) {
 	}
 }
 
-// TestDeferredPatterns runs the deferred patterns of the specification, of which the package has no name.
+// TestDeferredPatterns runs the deferred patterns of the specification, of which the package has no name, without a psk
+// and with one at the start of message 1.
 func TestDeferredPatterns(t *testing.T) {
 	for base := range deferred {
-		a, b := finished(t, patternOfVector("Noise_"+base+suite))
-		if a.HandshakeHash() != b.HandshakeHash() {
-			t.Errorf("%s: the hashes differ", base)
+		text := patternOfVector("Noise_" + base + suite)
+		withPSK := strings.Replace(strings.Replace(text, ":", "psk0:", 1), "-> e", "-> psk, e", 1)
+		for _, pattern := range []string{text, withPSK} {
+			a, b := finished(t, pattern)
+			if a.HandshakeHash() != b.HandshakeHash() {
+				t.Errorf("%s: the hashes differ", pattern)
+			}
 		}
 	}
 }

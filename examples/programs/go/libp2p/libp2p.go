@@ -1,6 +1,6 @@
 // Package libp2p makes a channel as libp2p's noise does, between peers with identities of Ed25519, ECDSA, secp256k1 or
-// RSA: XX with an empty prologue, each message after its length in two bytes, and in messages 2 and 3 a payload with the
-// identity and its signature of the static key.
+// RSA: XX with an empty prologue, each message after its length in two bytes, and in messages 2 and 3 a payload with
+// the identity and its signature of the static key.
 package libp2p
 
 import (
