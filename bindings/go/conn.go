@@ -365,9 +365,9 @@ func (c *Conn) failed(err error) error {
 	return err
 }
 
-// CloseWrite sends the end of this party's stream: the other party's Read returns io.EOF. What that party writes can
-// still be read. After a Write that has failed at a deadline, and has sealed bytes that it hasn't counted, it returns
-// ErrUnfinished, and sends no end, until a Write has succeeded.
+// CloseWrite runs the handshake, if that wasn't done, and sends the end of this party's stream: the other party's Read
+// returns io.EOF. What that party writes can still be read. After a Write that has failed at a deadline, and has sealed
+// bytes that it hasn't counted, it returns ErrUnfinished, and sends no end, until a Write has succeeded.
 func (c *Conn) CloseWrite() error {
 	if err := c.Handshake(); err != nil {
 		return err

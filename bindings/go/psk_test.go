@@ -3,6 +3,7 @@ package noise
 import (
 	"context"
 	"errors"
+	"strings"
 	"testing"
 )
 
@@ -139,4 +140,48 @@ func TestUnsetPSK(t *testing.T) {
 	must(t, s.SetPSK(pskOf(1)), s.SetPSK(pskOf(2))) // with none taken back the first would be one too many
 	_, err = s.TryReadMessage(context.Background(), nil, first)
 	must(t, err)
+}
+
+// TestPSKsOfLaterMessages passes the psks of all messages before the first one, one after another, to the initiator: of
+// three messages, and of eight with nine psks, the most that there may be. The responder has them from the start.
+func TestPSKsOfLaterMessages(t *testing.T) {
+	nine := "Tpsk0+psk1+psk2+psk3+psk4+psk5+psk6+psk7+psk8:\n  -> psk, e, psk\n  <- e, psk\n  -> ee, psk\n" +
+		"  <- s, psk\n  -> s, psk\n  <- es, psk\n  -> se, psk\n  <- ss, psk\n"
+	for pattern, count := range map[string]int{"XXpsk3": 1, "XXpsk0+psk3": 2, nine: 9} {
+		client, server := configs(t, pattern)
+		client.PSKs, server.PSKs = nil, nil
+		a, err := NewHandshakeState(client, true)
+		must(t, err)
+		for i := 0; i < count; i++ {
+			must(t, a.SetPSK(pskOf(byte(i+1))))
+			server.PSKs = append(server.PSKs, pskOf(byte(i+1)))
+		}
+		wants(t, a.SetPSK(pskOf(1)), ErrPSKCount)
+		b, err := NewHandshakeState(server, false)
+		must(t, err)
+		for w, r := a, b; !w.Done(); w, r = r, w {
+			message, err := w.WriteMessage(nil, nil)
+			must(t, err)
+			_, err = r.ReadMessage(nil, message)
+			must(t, err)
+		}
+		if a.HandshakeHash() != b.HandshakeHash() {
+			t.Error("the hashes differ")
+		}
+	}
+}
+
+// TestDeferredPatterns runs the deferred patterns of the specification, of which the package has no name, without a psk
+// and with one at the start of message 1.
+func TestDeferredPatterns(t *testing.T) {
+	for base := range deferred {
+		text := patternOfVector("Noise_" + base + suite)
+		withPSK := strings.Replace(strings.Replace(text, ":", "psk0:", 1), "-> e", "-> psk, e", 1)
+		for _, pattern := range []string{text, withPSK} {
+			a, b := finished(t, pattern)
+			if a.HandshakeHash() != b.HandshakeHash() {
+				t.Errorf("%s: the hashes differ", pattern)
+			}
+		}
+	}
 }

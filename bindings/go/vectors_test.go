@@ -38,12 +38,48 @@ type sharedVector struct {
 	} `json:"messages"`
 }
 
+// deferred are the deferred patterns of the specification, with a semicolon between two lines.
+var deferred = map[string]string{
+	"NK1":  "<- s; ...; -> e; <- e, ee, es",
+	"NX1":  "-> e; <- e, ee, s; -> es",
+	"X1N":  "-> e; <- e, ee; -> s; <- se",
+	"X1K":  "<- s; ...; -> e, es; <- e, ee; -> s; <- se",
+	"XK1":  "<- s; ...; -> e; <- e, ee, es; -> s, se",
+	"X1K1": "<- s; ...; -> e; <- e, ee, es; -> s; <- se",
+	"X1X":  "-> e; <- e, ee, s, es; -> s; <- se",
+	"XX1":  "-> e; <- e, ee, s; -> es, s, se",
+	"X1X1": "-> e; <- e, ee, s; -> es, s; <- se",
+	"K1N":  "-> s; ...; -> e; <- e, ee; -> se",
+	"K1K":  "-> s; <- s; ...; -> e, es; <- e, ee; -> se",
+	"KK1":  "-> s; <- s; ...; -> e; <- e, ee, se, es",
+	"K1K1": "-> s; <- s; ...; -> e; <- e, ee, es; -> se",
+	"K1X":  "-> s; ...; -> e; <- e, ee, s, es; -> se",
+	"KX1":  "-> s; ...; -> e; <- e, ee, se, s; -> es",
+	"K1X1": "-> s; ...; -> e; <- e, ee, s; -> se, es",
+	"I1N":  "-> e, s; <- e, ee; -> se",
+	"I1K":  "<- s; ...; -> e, es, s; <- e, ee; -> se",
+	"IK1":  "<- s; ...; -> e, s; <- e, ee, se, es",
+	"I1K1": "<- s; ...; -> e, s; <- e, ee, es; -> se",
+	"I1X":  "-> e, s; <- e, ee, s, es; -> se",
+	"IX1":  "-> e, s; <- e, ee, se, s; -> es",
+	"I1X1": "-> e, s; <- e, ee, s; -> se, es",
+}
+
+// patternOfVector returns the pattern of a protocol's name: a text, where the package knows no such name.
+func patternOfVector(name string) string {
+	base := strings.TrimSuffix(strings.TrimPrefix(name, "Noise_"), suite)
+	if lines, ok := deferred[base]; ok {
+		return base + ":\n  " + strings.ReplaceAll(lines, "; ", "\n  ") + "\n"
+	}
+	return name
+}
+
 // vectorParty starts a party with the keys of a vector.
 func vectorParty(
 	t *testing.T, name string, initiator bool, prologue, ephemeral, static, remote []byte, psks []hexBytes,
 ) *HandshakeState {
 	t.Helper()
-	config := &Config{Pattern: name, Prologue: prologue, InsecureAcceptAnyKey: true}
+	config := &Config{Pattern: patternOfVector(name), Prologue: prologue, InsecureAcceptAnyKey: true}
 	for _, it := range psks {
 		var psk PSK
 		copy(psk[:], it)
@@ -123,7 +159,10 @@ func TestVectors(t *testing.T) {
 	if more := os.Getenv("NOISE_VECTORS"); more != "" {
 		files = filepath.SplitList(more)
 	}
-	count := 0
+	count, unseen := 0, map[string]bool{}
+	for base := range deferred {
+		unseen[base] = true
+	}
 	for _, name := range files {
 		text, err := os.ReadFile(name)
 		if errors.Is(err, os.ErrNotExist) {
@@ -134,16 +173,17 @@ func TestVectors(t *testing.T) {
 		must(t, json.Unmarshal(text, &all))
 		for i := range all.Vectors {
 			name := all.Vectors[i].Name
-			if !strings.HasSuffix(name, suite) || errors.Is(patternOf(name).fault, ErrName) {
-				continue // another suite, or a pattern that the package knows by its text alone, as NK1
+			if !strings.HasSuffix(name, suite) || errors.Is(patternOf(patternOfVector(name)).fault, ErrName) {
+				continue // another suite, or a pattern that no text here has
 			}
 			all.Vectors[i].run(t)
+			delete(unseen, strings.TrimSuffix(strings.TrimPrefix(name, "Noise_"), suite))
 			count++
 		}
 	}
 	t.Logf("%d vectors", count)
-	if count < 100 {
-		t.Errorf("%d vectors are too few", count)
+	if count < 100 || len(unseen) > 0 {
+		t.Errorf("%d vectors are too few, and %v have none", count, unseen)
 	}
 }
 

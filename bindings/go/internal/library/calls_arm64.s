@@ -8,7 +8,7 @@
 // func Version() uint32
 TEXT ·Version(SB), 0, $160-4
 	NO_LOCAL_POINTERS
-	MOVD $block<>(SB), R9
+	MOVD $noise_c<>(SB), R9
 	ADD $53472, R9, R9
 	MOVD RSP, R19
 	ADD $160, RSP, R10
@@ -22,7 +22,7 @@ TEXT ·Version(SB), 0, $160-4
 // func HandshakeSize() uint
 TEXT ·HandshakeSize(SB), 0, $160-8
 	NO_LOCAL_POINTERS
-	MOVD $block<>(SB), R9
+	MOVD $noise_c<>(SB), R9
 	ADD $53432, R9, R9
 	MOVD RSP, R19
 	ADD $160, RSP, R10
@@ -36,7 +36,7 @@ TEXT ·HandshakeSize(SB), 0, $160-8
 // func CipherSize() uint
 TEXT ·CipherSize(SB), 0, $160-8
 	NO_LOCAL_POINTERS
-	MOVD $block<>(SB), R9
+	MOVD $noise_c<>(SB), R9
 	ADD $53232, R9, R9
 	MOVD RSP, R19
 	ADD $160, RSP, R10
@@ -50,7 +50,7 @@ TEXT ·CipherSize(SB), 0, $160-8
 // func StreamSenderSize() uint
 TEXT ·StreamSenderSize(SB), 0, $160-8
 	NO_LOCAL_POINTERS
-	MOVD $block<>(SB), R9
+	MOVD $noise_c<>(SB), R9
 	ADD $53464, R9, R9
 	MOVD RSP, R19
 	ADD $160, RSP, R10
@@ -64,7 +64,7 @@ TEXT ·StreamSenderSize(SB), 0, $160-8
 // func StreamReceiverSize() uint
 TEXT ·StreamReceiverSize(SB), 0, $160-8
 	NO_LOCAL_POINTERS
-	MOVD $block<>(SB), R9
+	MOVD $noise_c<>(SB), R9
 	ADD $53456, R9, R9
 	MOVD RSP, R19
 	ADD $160, RSP, R10
@@ -78,7 +78,7 @@ TEXT ·StreamReceiverSize(SB), 0, $160-8
 // func SenderSize() uint
 TEXT ·SenderSize(SB), 0, $160-8
 	NO_LOCAL_POINTERS
-	MOVD $block<>(SB), R9
+	MOVD $noise_c<>(SB), R9
 	ADD $53448, R9, R9
 	MOVD RSP, R19
 	ADD $160, RSP, R10
@@ -92,7 +92,7 @@ TEXT ·SenderSize(SB), 0, $160-8
 // func ReceiverSize() uint
 TEXT ·ReceiverSize(SB), 0, $160-8
 	NO_LOCAL_POINTERS
-	MOVD $block<>(SB), R9
+	MOVD $noise_c<>(SB), R9
 	ADD $53440, R9, R9
 	MOVD RSP, R19
 	ADD $160, RSP, R10
@@ -106,7 +106,7 @@ TEXT ·ReceiverSize(SB), 0, $160-8
 // func DatagramSenderSize() uint
 TEXT ·DatagramSenderSize(SB), 0, $160-8
 	NO_LOCAL_POINTERS
-	MOVD $block<>(SB), R9
+	MOVD $noise_c<>(SB), R9
 	ADD $53248, R9, R9
 	MOVD RSP, R19
 	ADD $160, RSP, R10
@@ -120,7 +120,7 @@ TEXT ·DatagramSenderSize(SB), 0, $160-8
 // func DatagramReceiverSize() uint
 TEXT ·DatagramReceiverSize(SB), 0, $160-8
 	NO_LOCAL_POINTERS
-	MOVD $block<>(SB), R9
+	MOVD $noise_c<>(SB), R9
 	ADD $53240, R9, R9
 	MOVD RSP, R19
 	ADD $160, RSP, R10
@@ -140,7 +140,7 @@ TEXT ·Start(SB), 0, $13152-52
 	MOVD prologue+24(FP), R3
 	MOVD prologueLen+32(FP), R4
 	MOVD setup+40(FP), R5
-	MOVD $block<>(SB), R9
+	MOVD $noise_c<>(SB), R9
 	ADD $58896, R9, R9
 	MOVD RSP, R19
 	ADD $13152, RSP, R10
@@ -164,7 +164,7 @@ TEXT ·Answer(SB), 0, $288-36
 	MOVBU ofStatic+8(FP), R1
 	MOVD remote+16(FP), R2
 	MOVD dhResult+24(FP), R3
-	MOVD $block<>(SB), R9
+	MOVD $noise_c<>(SB), R9
 	ADD $53480, R9, R9
 	MOVD RSP, R19
 	ADD $288, RSP, R10
@@ -186,7 +186,7 @@ TEXT ·SetPsk(SB), 0, $12048-20
 	NO_LOCAL_POINTERS
 	MOVD h+0(FP), R0
 	MOVD psk+8(FP), R1
-	MOVD $block<>(SB), R9
+	MOVD $noise_c<>(SB), R9
 	ADD $58368, R9, R9
 	MOVD RSP, R19
 	ADD $12048, RSP, R10
@@ -207,7 +207,7 @@ wipe:
 TEXT ·UnsetPsk(SB), 0, $11168-12
 	NO_LOCAL_POINTERS
 	MOVD h+0(FP), R0
-	MOVD $block<>(SB), R9
+	MOVD $noise_c<>(SB), R9
 	ADD $65376, R9, R9
 	MOVD RSP, R19
 	ADD $11168, RSP, R10
@@ -227,7 +227,7 @@ TEXT ·Write(SB), 0, $13312-52
 	MOVD out+24(FP), R3
 	MOVD outLen+32(FP), R4
 	MOVD result+40(FP), R5
-	MOVD $block<>(SB), R9
+	MOVD $noise_c<>(SB), R9
 	ADD $77880, R9, R9
 	MOVD RSP, R19
 	ADD $13312, RSP, R10
@@ -251,7 +251,7 @@ TEXT ·Read(SB), 0, $13328-36
 	MOVD message+8(FP), R1
 	MOVD messageLen+16(FP), R2
 	MOVD result+24(FP), R3
-	MOVD $block<>(SB), R9
+	MOVD $noise_c<>(SB), R9
 	ADD $58280, R9, R9
 	MOVD RSP, R19
 	ADD $13328, RSP, R10
@@ -275,7 +275,7 @@ TEXT ·TryRead(SB), 0, $13296-36
 	MOVD message+8(FP), R1
 	MOVD messageLen+16(FP), R2
 	MOVD result+24(FP), R3
-	MOVD $block<>(SB), R9
+	MOVD $noise_c<>(SB), R9
 	ADD $58348, R9, R9
 	MOVD RSP, R19
 	ADD $13296, RSP, R10
@@ -298,7 +298,7 @@ TEXT ·MessageLen(SB), 0, $11184-28
 	MOVD h+0(FP), R0
 	MOVD payloadLen+8(FP), R1
 	MOVD len+16(FP), R2
-	MOVD $block<>(SB), R9
+	MOVD $noise_c<>(SB), R9
 	ADD $57444, R9, R9
 	MOVD RSP, R19
 	ADD $11184, RSP, R10
@@ -314,7 +314,7 @@ TEXT ·Hash(SB), 0, $11168-20
 	NO_LOCAL_POINTERS
 	MOVD h+0(FP), R0
 	MOVD hash+8(FP), R1
-	MOVD $block<>(SB), R9
+	MOVD $noise_c<>(SB), R9
 	ADD $57232, R9, R9
 	MOVD RSP, R19
 	ADD $11168, RSP, R10
@@ -330,7 +330,7 @@ TEXT ·RemoteStatic(SB), 0, $11216-20
 	NO_LOCAL_POINTERS
 	MOVD h+0(FP), R0
 	MOVD key+8(FP), R1
-	MOVD $block<>(SB), R9
+	MOVD $noise_c<>(SB), R9
 	ADD $57764, R9, R9
 	MOVD RSP, R19
 	ADD $11216, RSP, R10
@@ -346,7 +346,7 @@ TEXT ·Stage(SB), 0, $11168-20
 	NO_LOCAL_POINTERS
 	MOVD h+0(FP), R0
 	MOVD result+8(FP), R1
-	MOVD $block<>(SB), R9
+	MOVD $noise_c<>(SB), R9
 	ADD $58032, R9, R9
 	MOVD RSP, R19
 	ADD $11168, RSP, R10
@@ -363,7 +363,7 @@ TEXT ·CheckPattern(SB), 0, $8496-28
 	MOVD text+0(FP), R0
 	MOVD textLen+8(FP), R1
 	MOVD result+16(FP), R2
-	MOVD $block<>(SB), R9
+	MOVD $noise_c<>(SB), R9
 	ADD $65720, R9, R9
 	MOVD RSP, R19
 	ADD $8496, RSP, R10
@@ -381,7 +381,7 @@ TEXT ·Pattern(SB), 0, $9888-36
 	MOVD patternLen+8(FP), R1
 	MOVD info+16(FP), R2
 	MOVD result+24(FP), R3
-	MOVD $block<>(SB), R9
+	MOVD $noise_c<>(SB), R9
 	ADD $66024, R9, R9
 	MOVD RSP, R19
 	ADD $9888, RSP, R10
@@ -400,7 +400,7 @@ TEXT ·Layout(SB), 0, $11248-44
 	MOVBU message+16(FP), R2
 	MOVD payloadLen+24(FP), R3
 	MOVD layout+32(FP), R4
-	MOVD $block<>(SB), R9
+	MOVD $noise_c<>(SB), R9
 	ADD $72372, R9, R9
 	MOVD RSP, R19
 	ADD $11248, RSP, R10
@@ -418,7 +418,7 @@ TEXT ·FrameMessage(SB), 0, $160-36
 	MOVD bufferLen+8(FP), R1
 	MOVD messageLen+16(FP), R2
 	MOVD result+24(FP), R3
-	MOVD $block<>(SB), R9
+	MOVD $noise_c<>(SB), R9
 	ADD $53352, R9, R9
 	MOVD RSP, R19
 	ADD $160, RSP, R10
@@ -435,7 +435,7 @@ TEXT ·FrameFind(SB), 0, $160-28
 	MOVD buffer+0(FP), R0
 	MOVD bufferLen+8(FP), R1
 	MOVD result+16(FP), R2
-	MOVD $block<>(SB), R9
+	MOVD $noise_c<>(SB), R9
 	ADD $53256, R9, R9
 	MOVD RSP, R19
 	ADD $160, RSP, R10
@@ -453,7 +453,7 @@ TEXT ·FinishStream(SB), 0, $12656-36
 	MOVD interval+8(FP), R1
 	MOVD sender+16(FP), R2
 	MOVD receiver+24(FP), R3
-	MOVD $block<>(SB), R9
+	MOVD $noise_c<>(SB), R9
 	ADD $75444, R9, R9
 	MOVD RSP, R19
 	ADD $12656, RSP, R10
@@ -479,7 +479,7 @@ TEXT ·StreamWrite(SB), 0, $1552-52
 	MOVD out+24(FP), R3
 	MOVD outLen+32(FP), R4
 	MOVD result+40(FP), R5
-	MOVD $block<>(SB), R9
+	MOVD $noise_c<>(SB), R9
 	ADD $64456, R9, R9
 	MOVD RSP, R19
 	ADD $1552, RSP, R10
@@ -497,7 +497,7 @@ TEXT ·StreamEnd(SB), 0, $1536-36
 	MOVD out+8(FP), R1
 	MOVD outLen+16(FP), R2
 	MOVD result+24(FP), R3
-	MOVD $block<>(SB), R9
+	MOVD $noise_c<>(SB), R9
 	ADD $63888, R9, R9
 	MOVD RSP, R19
 	ADD $1536, RSP, R10
@@ -515,7 +515,7 @@ TEXT ·StreamRead(SB), 0, $1536-36
 	MOVD buffer+8(FP), R1
 	MOVD bufferLen+16(FP), R2
 	MOVD result+24(FP), R3
-	MOVD $block<>(SB), R9
+	MOVD $noise_c<>(SB), R9
 	ADD $63048, R9, R9
 	MOVD RSP, R19
 	ADD $1536, RSP, R10
@@ -531,7 +531,7 @@ TEXT ·StreamIsCut(SB), 0, $160-20
 	NO_LOCAL_POINTERS
 	MOVD r+0(FP), R0
 	MOVD left+8(FP), R1
-	MOVD $block<>(SB), R9
+	MOVD $noise_c<>(SB), R9
 	ADD $62912, R9, R9
 	MOVD RSP, R19
 	ADD $160, RSP, R10
@@ -549,7 +549,7 @@ TEXT ·Finish(SB), 0, $12592-36
 	MOVD interval+8(FP), R1
 	MOVD sender+16(FP), R2
 	MOVD receiver+24(FP), R3
-	MOVD $block<>(SB), R9
+	MOVD $noise_c<>(SB), R9
 	ADD $74636, R9, R9
 	MOVD RSP, R19
 	ADD $12592, RSP, R10
@@ -575,7 +575,7 @@ TEXT ·Seal(SB), 0, $1520-52
 	MOVD out+24(FP), R3
 	MOVD outLen+32(FP), R4
 	MOVD result+40(FP), R5
-	MOVD $block<>(SB), R9
+	MOVD $noise_c<>(SB), R9
 	ADD $55928, R9, R9
 	MOVD RSP, R19
 	ADD $1520, RSP, R10
@@ -594,7 +594,7 @@ TEXT ·SealInPlace(SB), 0, $1520-44
 	MOVD bufferLen+16(FP), R2
 	MOVD payloadLen+24(FP), R3
 	MOVD result+32(FP), R4
-	MOVD $block<>(SB), R9
+	MOVD $noise_c<>(SB), R9
 	ADD $56676, R9, R9
 	MOVD RSP, R19
 	ADD $1520, RSP, R10
@@ -612,7 +612,7 @@ TEXT ·Open(SB), 0, $1520-36
 	MOVD message+8(FP), R1
 	MOVD messageLen+16(FP), R2
 	MOVD result+24(FP), R3
-	MOVD $block<>(SB), R9
+	MOVD $noise_c<>(SB), R9
 	ADD $54044, R9, R9
 	MOVD RSP, R19
 	ADD $1520, RSP, R10
@@ -628,7 +628,7 @@ TEXT ·SenderNonce(SB), 0, $160-20
 	NO_LOCAL_POINTERS
 	MOVD s+0(FP), R0
 	MOVD nonce+8(FP), R1
-	MOVD $block<>(SB), R9
+	MOVD $noise_c<>(SB), R9
 	ADD $53980, R9, R9
 	MOVD RSP, R19
 	ADD $160, RSP, R10
@@ -644,7 +644,7 @@ TEXT ·ReceiverNonce(SB), 0, $160-20
 	NO_LOCAL_POINTERS
 	MOVD r+0(FP), R0
 	MOVD nonce+8(FP), R1
-	MOVD $block<>(SB), R9
+	MOVD $noise_c<>(SB), R9
 	ADD $53916, R9, R9
 	MOVD RSP, R19
 	ADD $160, RSP, R10
@@ -662,7 +662,7 @@ TEXT ·FinishDatagrams(SB), 0, $12592-36
 	MOVWU window+8(FP), R1
 	MOVD sender+16(FP), R2
 	MOVD receiver+24(FP), R3
-	MOVD $block<>(SB), R9
+	MOVD $noise_c<>(SB), R9
 	ADD $77384, R9, R9
 	MOVD RSP, R19
 	ADD $12592, RSP, R10
@@ -688,7 +688,7 @@ TEXT ·DatagramSeal(SB), 0, $1536-52
 	MOVD out+24(FP), R3
 	MOVD outLen+32(FP), R4
 	MOVD result+40(FP), R5
-	MOVD $block<>(SB), R9
+	MOVD $noise_c<>(SB), R9
 	ADD $54664, R9, R9
 	MOVD RSP, R19
 	ADD $1536, RSP, R10
@@ -707,7 +707,7 @@ TEXT ·DatagramSealInPlace(SB), 0, $1536-44
 	MOVD bufferLen+16(FP), R2
 	MOVD payloadLen+24(FP), R3
 	MOVD result+32(FP), R4
-	MOVD $block<>(SB), R9
+	MOVD $noise_c<>(SB), R9
 	ADD $55432, R9, R9
 	MOVD RSP, R19
 	ADD $1536, RSP, R10
@@ -725,7 +725,7 @@ TEXT ·DatagramOpen(SB), 0, $1840-36
 	MOVD datagram+8(FP), R1
 	MOVD datagramLen+16(FP), R2
 	MOVD result+24(FP), R3
-	MOVD $block<>(SB), R9
+	MOVD $noise_c<>(SB), R9
 	ADD $75796, R9, R9
 	MOVD RSP, R19
 	ADD $1840, RSP, R10
@@ -741,7 +741,7 @@ TEXT ·DatagramSenderNonce(SB), 0, $160-20
 	NO_LOCAL_POINTERS
 	MOVD s+0(FP), R0
 	MOVD nonce+8(FP), R1
-	MOVD $block<>(SB), R9
+	MOVD $noise_c<>(SB), R9
 	ADD $53852, R9, R9
 	MOVD RSP, R19
 	ADD $160, RSP, R10
@@ -758,7 +758,7 @@ TEXT ·FinishCiphers(SB), 0, $12592-28
 	MOVD h+0(FP), R0
 	MOVD send+8(FP), R1
 	MOVD receive+16(FP), R2
-	MOVD $block<>(SB), R9
+	MOVD $noise_c<>(SB), R9
 	ADD $74972, R9, R9
 	MOVD RSP, R19
 	ADD $12592, RSP, R10
@@ -785,7 +785,7 @@ TEXT ·CipherEncrypt(SB), 0, $1472-60
 	MOVD bufferLen+32(FP), R4
 	MOVD textLen+40(FP), R5
 	MOVD result+48(FP), R6
-	MOVD $block<>(SB), R9
+	MOVD $noise_c<>(SB), R9
 	ADD $52568, R9, R9
 	MOVD RSP, R19
 	ADD $1472, RSP, R10
@@ -805,7 +805,7 @@ TEXT ·CipherDecrypt(SB), 0, $1472-52
 	MOVD message+24(FP), R3
 	MOVD messageLen+32(FP), R4
 	MOVD result+40(FP), R5
-	MOVD $block<>(SB), R9
+	MOVD $noise_c<>(SB), R9
 	ADD $52276, R9, R9
 	MOVD RSP, R19
 	ADD $1472, RSP, R10
@@ -820,7 +820,7 @@ TEXT ·CipherDecrypt(SB), 0, $1472-52
 TEXT ·CipherRekey(SB), 0, $784-12
 	NO_LOCAL_POINTERS
 	MOVD c+0(FP), R0
-	MOVD $block<>(SB), R9
+	MOVD $noise_c<>(SB), R9
 	ADD $52960, R9, R9
 	MOVD RSP, R19
 	ADD $784, RSP, R10
@@ -836,7 +836,7 @@ TEXT ·CipherNonce(SB), 0, $160-20
 	NO_LOCAL_POINTERS
 	MOVD c+0(FP), R0
 	MOVD nonce+8(FP), R1
-	MOVD $block<>(SB), R9
+	MOVD $noise_c<>(SB), R9
 	ADD $52892, R9, R9
 	MOVD RSP, R19
 	ADD $160, RSP, R10
@@ -852,7 +852,7 @@ TEXT ·CipherSetNonce(SB), 0, $160-20
 	NO_LOCAL_POINTERS
 	MOVD c+0(FP), R0
 	MOVD nonce+8(FP), R1
-	MOVD $block<>(SB), R9
+	MOVD $noise_c<>(SB), R9
 	ADD $53168, R9, R9
 	MOVD RSP, R19
 	ADD $160, RSP, R10
@@ -863,7 +863,7 @@ TEXT ·CipherSetNonce(SB), 0, $160-20
 	MOVW R0, ret+16(FP)
 	RET
 
-TEXT block<>(SB), NOSPLIT|NOFRAME|TOPFRAME, $0-0
+TEXT noise_c<>(SB), NOSPLIT|NOFRAME|TOPFRAME, $0-0
 	WORD $0xf100405f
 	WORD $0x54000383
 	WORD $0xcb010003
@@ -22105,11 +22105,11 @@ TEXT block<>(SB), NOSPLIT|NOFRAME|TOPFRAME, $0-0
 DATA table<>+0(SB)/8, $table<>+16(SB)
 DATA table<>+8(SB)/8, $0x1
 DATA table<>+16(SB)/8, $0x1
-DATA table<>+24(SB)/8, $block<>+84859(SB)
-DATA table<>+32(SB)/8, $block<>+84860(SB)
-DATA table<>+40(SB)/8, $block<>+84861(SB)
-DATA table<>+48(SB)/8, $block<>+84863(SB)
-DATA table<>+56(SB)/8, $block<>+84865(SB)
-DATA table<>+64(SB)/8, $block<>+84867(SB)
-DATA table<>+72(SB)/8, $block<>+84844(SB)
+DATA table<>+24(SB)/8, $noise_c<>+84859(SB)
+DATA table<>+32(SB)/8, $noise_c<>+84860(SB)
+DATA table<>+40(SB)/8, $noise_c<>+84861(SB)
+DATA table<>+48(SB)/8, $noise_c<>+84863(SB)
+DATA table<>+56(SB)/8, $noise_c<>+84865(SB)
+DATA table<>+64(SB)/8, $noise_c<>+84867(SB)
+DATA table<>+72(SB)/8, $noise_c<>+84844(SB)
 GLOBL table<>(SB), RODATA, $80

@@ -84,7 +84,7 @@ func TestCompared(t *testing.T) {
 		d.step()
 	}
 	for name := range plain {
-		if outcomes[name+" 0"] == 0 {
+		if outcomes[name+" 0"] == 0 && !testing.Short() {
 			t.Errorf("no call of %s has succeeded", name)
 		}
 	}

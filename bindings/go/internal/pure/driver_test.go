@@ -71,6 +71,7 @@ var (
 		"NK1:\n  <- s\n  ...\n  -> e\n  <- e, ee, es\n", "XA1:\n  -> e\n  <- e, ee, s, es\n  -> s, se\n",
 		"Q:\n  -> e\n  <- e, ee, ee\n", "XA1psk3:\n  -> e\n  <- e, ee, s, es\n  -> s, se, psk\n", "NN:\n  -> e\n",
 		"Z:\n  -> e, psk\n", "L:\n  <- e, s\n  ...\n  -> psk, e, ee, es, s, se, ss, psk\n  <- e, ee, se\n",
+		"KX1psk0:\n  -> s\n  ...\n  -> psk, e\n  <- e, ee, se, s\n  -> es\n",
 	}
 	lengths = []int{
 		0, 0, 1, 2, 15, 16, 17, 18, 31, 32, 47, 48, 63, 64, 65, 100, 255, 256, 257, 1000, 1024, 4096, 16384, 65503,

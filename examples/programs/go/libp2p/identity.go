@@ -17,9 +17,10 @@ const signedPrefix = "noise-libp2p-static-key:"
 
 // The fields of the payload and of a key, and the types of a key.
 const (
-	payloadKey, payloadSignature    = 1, 2
-	keyType, keyData                = 1, 2
-	typeRSA, typeEd25519, typeECDSA = 0, 1, 3 // 2 is secp256k1, which Go's standard library doesn't have
+	payloadKey, payloadSignature = 1, 2
+	keyType, keyData             = 1, 2
+
+	typeRSA, typeEd25519, typeSecp256k1, typeECDSA = 0, 1, 2, 3
 )
 
 // The sizes of RSA's keys, in bits: a longer one would take much time.
@@ -28,7 +29,7 @@ const leastRSA, mostRSA = 2048, 8192
 var (
 	errPayload  = errors.New("not a payload of libp2p's")
 	errIdentity = errors.New("the identity hasn't signed the static key")
-	errKind     = errors.New("an identity of another kind than Ed25519, ECDSA and RSA of 2048 to 8192 bits")
+	errKind     = errors.New("an identity of another kind than Ed25519, ECDSA, secp256k1 and RSA of 2048 to 8192 bits")
 )
 
 // payload returns the payload of a party: its identity, and the signature of its static key.
@@ -55,6 +56,8 @@ func encoded(public crypto.PublicKey) (kind byte, data []byte, err error) {
 	switch key := public.(type) {
 	case ed25519.PublicKey:
 		return typeEd25519, key, nil
+	case Secp256k1:
+		return typeSecp256k1, key[:], nil
 	case *ecdsa.PublicKey:
 		data, err = x509.MarshalPKIXPublicKey(key)
 		return typeECDSA, data, err
@@ -101,6 +104,14 @@ func decoded(kind uint64, data []byte) (crypto.PublicKey, error) {
 		}
 		return append(ed25519.PublicKey(nil), data...), nil
 	}
+	if kind == typeSecp256k1 {
+		var key Secp256k1
+		if len(data) != len(key) {
+			return nil, errPayload
+		}
+		copy(key[:], data)
+		return key, nil
+	}
 	if kind != typeRSA && kind != typeECDSA {
 		return nil, errKind
 	}
@@ -120,6 +131,8 @@ func verified(public crypto.PublicKey, signed, signature []byte) bool {
 	switch key := public.(type) {
 	case ed25519.PublicKey:
 		return ed25519.Verify(key, signed, signature)
+	case Secp256k1:
+		return key.verify(sum[:], signature)
 	case *ecdsa.PublicKey:
 		return ecdsa.VerifyASN1(key, sum[:], signature)
 	case *rsa.PublicKey:

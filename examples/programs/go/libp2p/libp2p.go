@@ -1,6 +1,6 @@
-// Package libp2p makes a channel as libp2p's noise does, between peers with identities of Ed25519, ECDSA or RSA: XX
-// with an empty prologue, each message after its length in two bytes, and in messages 2 and 3 a payload with the
-// identity and its signature of the static key.
+// Package libp2p makes a channel as libp2p's noise does, between peers with identities of Ed25519, ECDSA, secp256k1 or
+// RSA: XX with an empty prologue, each message after its length in two bytes, and in messages 2 and 3 a payload with
+// the identity and its signature of the static key.
 package libp2p
 
 import (
@@ -63,8 +63,8 @@ type Channel struct {
 }
 
 // Secure runs the handshake over conn, which it closes at an error, and when the context ends first. It calls verify,
-// which decides on the other party, with that party's identity: an ed25519.PublicKey, *ecdsa.PublicKey or
-// *rsa.PublicKey. This party's is a private key of these kinds, or a device's.
+// which decides on the other party, with that party's identity: an ed25519.PublicKey, *ecdsa.PublicKey,
+// Secp256k1 or *rsa.PublicKey. This party's is a private key of these kinds, or a device's; Go has none of secp256k1.
 func Secure(
 	ctx context.Context,
 	conn net.Conn,
