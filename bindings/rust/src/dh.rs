@@ -253,6 +253,7 @@ impl DhError {
 
     /// The error with this text; with the feature `std` any error is taken.
     #[cfg(not(feature = "std"))]
+    #[must_use]
     pub fn new(cause: &'static str) -> DhError {
         DhError(cause)
     }
