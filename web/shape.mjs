@@ -7,8 +7,8 @@ import { STYLE, picture, pieceName, words } from './picture.mjs';
 
 const at = (id) => document.getElementById(id);
 const CARET = 'The token under the caret is shown here, and in the picture.';
-const PART = 'The text isn’t valid: this is what can be read of it. ✗ marks its faults.';
-const OLD = 'This is the last valid pattern: nothing of the text can be read.';
+const PART = 'What can be read of the text. ✗ marks its faults.';
+const OLD = 'The last valid pattern: the text can’t be read.';
 /** How many pixels a unit of the picture is: its texts grow with the browser's font. */
 const unit = () => parseFloat(getComputedStyle(document.documentElement).fontSize) / 16;
 
