@@ -7,8 +7,8 @@ import { STYLE, picture, pieceName, words } from './picture.mjs';
 
 const at = (id) => document.getElementById(id);
 const CARET = 'The token under the caret is shown here, and in the picture.';
-const PART = 'What can be read of the text. ✗ marks its faults.';
-const OLD = 'The last valid pattern: the text can’t be read.';
+const PART = 'Not valid: ✗ marks its faults.';
+const OLD = 'The last valid pattern, not the text.';
 /** How many pixels a unit of the picture is: its texts grow with the browser's font. */
 const unit = () => parseFloat(getComputedStyle(document.documentElement).fontSize) / 16;
 

@@ -102,7 +102,7 @@ async function oldFacts(page) {
   await page.type('text', 'DEV:\n  -> e, es\n  <- e, ee, ee\n  -> e\n');
   assert.equal(await page.evaluate('document.getElementById("facts").checkVisibility()'), false);
   assert.equal(await page.evaluate('document.getElementById("words").checkVisibility()'), false);
-  assert.match(await page.textOf('shape-old'), /^What can be read of the text\. ✗ marks its faults\./);
+  assert.match(await page.textOf('shape-old'), /^Not valid: ✗ marks its faults\./);
   assert.equal(await page.textOf('shape-of'), 'DEV');
   const drawn = () => page.evaluate(
     '[...document.querySelectorAll("#picture g[data-piece]")].map((it) => it.textContent.replace(/^.*?(?= ✗|$)/, ""))',
@@ -118,7 +118,7 @@ async function oldFacts(page) {
   assert.equal(await page.evaluate(marked), 'foo ✗');
   assert.match(await page.textOf('picture'), /message 2: 96 bytes \+ payload.*message 3: ✗ a fault/);
   await page.type('text', 'nothing');
-  assert.match(await page.textOf('shape-old'), /^The last valid pattern: the text can’t be read\./);
+  assert.match(await page.textOf('shape-old'), /^The last valid pattern, not the text\./);
   assert.equal(await page.evaluate('document.getElementById("picture").className'), 'old');
   await page.type('text', 'DEV:\n  -> e, es\n  <- e, ee, ee\n  -> e\n');
   assert.equal(
