@@ -1,41 +1,40 @@
 -- Two programs that run turn by turn.
-use Rattle.std.proofs.Common.{◌≡◌, ◌<◌, inl, inr, ℕ, suc, List, [], ◌∷◌, ◌++◌, length, true, false, refl, ap, sym, subst, ◌∙◌, arith}
-use Rattle.std.specs.Prelude.{◌==◌, ◌&&◌, Option, Some, IfSome}
-use Rattle.std.proofs.lemmas.List.{append_assoc, append-nil}
-use Rattle.noise_c.proofs.Common.{Bool, None, if◌then◌else◌, Plan, IsValid, Role, fault_in, public_in, remote_of, role_in, table_of, psks_of, setup_fault, IsPatternOf, NoiseHandshake}
+use Rattle.std.proofs.Common.{◌≡◌, ◌⊎◌, ◌<◌, ◌≤◌, ◌-◌, inl, inr, ℕ, suc, List, [], ◌∷◌, ◌++◌, length, drop, true, false, refl, ap, sym, subst, ◌∙◌, arith}
+use Rattle.std.specs.Prelude.{◌==◌, ◌&&◌, ◌↔◌, All, Err, IfOk, IfSome, IsSome, MatchOption, Ok, Option, Result, Some, Vec, max, not}
+use Rattle.std.specs.Global.{Global}
+use Rattle.std.specs.declared.alloc.AllocError.{AllocError}
+use Rattle.std.proofs.lemmas.List.{append_assoc, append-nil, drop_all, map-append}
+use Rattle.std.specs.Bool.{beq}
 use Rattle.noise_names.specs.declared.token.Role.TheVariants.{Initiator, Responder}
-use Rattle.noise_c.specs.declared.structs.NoiseSetup.{NoiseSetup}
-use Rattle.noise_c.specs.HandshakeStructs.{IsStarted, psks_in}
-use Rattle.noise_c.specs.TwoPrograms.{Agree, Calls, HaveTalked, IsFront, Passed, Program, Secrets, TwoProgramsAgree, messages_in}
-use Rattle.noise_c.specs.TwoPrograms.Calls.{none}
-use Rattle.noise_c.specs.declared.two_runs.Turn.{Turn}
-use Rattle.noise_c.specs.declared.two_runs.Ran.{Ran}
-use Rattle.noise_c.specs.Finishing.{AreHalvesOf}
-use Rattle.noise_c.specs.declared.two_runs.Step.{Step}
-use Rattle.noise_c.specs.declared.codes.numbers.TheConstants.{OK}
-use Rattle.noise_c.specs.TwoRuns.{Answers, BeginAlike, Dh, agrees, passed_by, psks_of_turns, turns_of}
-use Rattle.noise_c.proofs.Alike.{Setups, meets, results_of, shown}
-use Rattle.noise_c.proofs.Sides.{Side, side-answered, side-set, side-start, side-took, side-wrote}
-use Rattle.noise_c.specs.RunSteps.{ReadsStep, Turned, WritesStep}
-use Rattle.noise_c.specs.HandshakeStructs.{WasRead, entry_in, held_psks, own_in}
-use Rattle.noise_c.specs.TwoPrograms.{TakesNext}
-use Rattle.noise_c.specs.TwoRuns.{ReadsOrAsks, RunIsRight, psk_of}
-use Rattle.noise_c.specs.declared.two_runs.Turn.TheVariants as turn
+use Rattle.noise_names.specs.Tokens.{other}
+use Rattle.noise_session.specs.Halves.{HalfValue}
+use Rattle.noise_c.specs.declared.structs.NoiseHalf.{NoiseHalf}
 use Rattle.noise_c.specs.declared.structs.NoiseResult.{NoiseResult}
+use Rattle.noise_c.specs.declared.structs.NoiseSetup.{NoiseSetup}
+use Rattle.noise_c.specs.declared.two_runs.Halves.{Halves}
+use Rattle.noise_c.specs.declared.two_runs.Ran.{Ran}
+use Rattle.noise_c.specs.declared.two_runs.Step.{Step}
+use Rattle.noise_c.specs.declared.two_runs.Turn.{Turn}
+use Rattle.noise_c.specs.declared.two_runs.Turn.TheVariants as turn
+use Rattle.noise_c.specs.declared.codes.numbers.TheConstants.{OK, RECEIVER, SENDER}
+use Rattle.noise_c.specs.Finishing.{AreHalvesOf, Finishes}
+use Rattle.noise_c.specs.HalfStructs.{half_from_c, is_half, is_party}
+use Rattle.noise_c.specs.HandshakeStructs.{ForParty, IsStarted, entry_in, held_psks, key_to_c, own_in, psks_in}
 use Rattle.noise_c.specs.Outcomes.{WriteOutcome}
 use Rattle.noise_c.specs.Outcomes.WriteOutcome.{written, wants_dh_result as write_wants, wants_psk as write_wants_psk, withheld, no_room, unusable as write_unusable}
-use Rattle.std.specs.Prelude.{◌-◌, Err, IfOk, Ok, Result}
-use Rattle.noise_c.specs.RunSteps.{IsPassedAt}
-use Rattle.noise_c.proofs.Common.{code_of, start_code}
-use Rattle.noise_c.proofs.Toying.{no-fault}
-use mathlib.Core.Bool.{beq}
-use Rattle.noise_c.proofs.Programs.{read-of}
-use Rattle.noise_c.proofs.Talking.{cons-parts}
-use Rattle.std.proofs.lemmas.List.Elements.{All-push}
-use Rattle.std.specs.Prelude.{All, not}
-use Rattle.noise_c.proofs.Common.{false≢true, nat_lt, nat_tests}
-use Rattle.std.specs.Prelude.{max}
-use Rattle.std.proofs.lemmas.List.{map-append}
+use Rattle.noise_c.specs.RunSteps.{EndsAs, IsFirst, IsPassedAt, ReadTurn, ReadsStep, Runs, Turned, WritesStep}
+use Rattle.noise_c.specs.RunSteps.Runs.{none as none_yet, initiator as by_initiator, responder as by_responder}
+use Rattle.noise_c.specs.TwoPrograms.{Agree, Calls, HaveTalked, IsFront, Passed, Program, Secrets, TakesNext, TwoProgramsAgree, messages_in}
+use Rattle.noise_c.specs.TwoPrograms.Calls.{none}
+use Rattle.noise_c.specs.TwoRuns.{Adds, Answers, AreRight, Asks, BeginAlike, Dh, IsWritten, Meet, ReadsFirst, RunIsRight, passed_at, passed_by, psks_of_turns, turns_of, waiting}
+use Rattle.noise_c.specs.TwoRuns.AreRight.{none as no_steps, one_more}
+use Rattle.noise_c.proofs.Common.{Bool, None, if◌then◌else◌, Plan, IsValid, Party, Role, WasRead, WasWritten, and_parts, code_of, drop-append_seam, false≢true, fault_in, handshake_from_c, key_from_c, nat_lt, nat_tests, pairs_in, party_with, psks_of, public_in, remote_of, role_in, setup_fault, start_code, table_of, text_from_c, IsPatternOf, NoiseHandshake}
+use Rattle.noise_c.proofs.Alike.{Setups, meets, results_of, shown}
+use Rattle.noise_c.proofs.Finished.{finish-done}
+use Rattle.noise_c.proofs.Programs.{read-of, written-of}
+use Rattle.noise_c.proofs.Sides.{Side, named-in, own-party, side-answered, side-set, side-start, side-took, side-wrote}
+use Rattle.noise_c.proofs.Toying.{code-is, no-fault}
+use Rattle.noise_c.proofs.WriteCodes.{WriteIs, role-of, write-done, write-due, write-early, write-is}
 
 -- a program that began and has come so far
 abbrev pub program_of : List ℕ → List ℕ → NoiseSetup → Secrets → NoiseHandshake → List Passed → List Passed → NoiseHandshake → Program
@@ -148,43 +147,43 @@ passed-append side reads (s ∷ ss) ts =
     ap (λ (z : List Passed). here ++ z) (passed-append side reads ss ts)
     ∙ sym (append_assoc here (passed_by side reads ss) (passed_by side reads ts)) where
       here : List Passed
-      here = if agrees s.responder side && agrees s.reads reads && (s.code == OK)
+      here = if beq s.responder side && beq s.reads reads && (s.code == OK)
           then record { message = s.message.items; payload = s.payload.items } ∷ [] else []
 
 -- a step that is none of these messages
-passed-none : (side reads : Bool) (s : Step) → (agrees s.responder side && agrees s.reads reads && (s.code == OK)) ≡ false → passed_by side reads (s ∷ []) ≡ []
+passed-none : (side reads : Bool) (s : Step) → (beq s.responder side && beq s.reads reads && (s.code == OK)) ≡ false → passed_by side reads (s ∷ []) ≡ []
 passed-none side reads s e = rw e refl
 
 passed-one : (side reads : Bool) (s : Step) → s.responder ≡ side → s.reads ≡ reads → s.code ≡ 0
     → passed_by side reads (s ∷ []) ≡ record { message = s.message.items; payload = s.payload.items } ∷ []
 passed-one side reads s e f g = rw (both e f g) refl where
-  same : (b c : Bool) → b ≡ c → agrees b c ≡ true
+  same : (b c : Bool) → b ≡ c → beq b c ≡ true
   same true true e = refl
   same false false e = refl
   same true false e = cc
   same false true e = cc
 
-  both : s.responder ≡ side → s.reads ≡ reads → s.code ≡ 0 → (agrees s.responder side && agrees s.reads reads && (s.code == OK)) ≡ true
+  both : s.responder ≡ side → s.reads ≡ reads → s.code ≡ 0 → (beq s.responder side && beq s.reads reads && (s.code == OK)) ≡ true
   both e f g = rw (same s.responder side e, same s.reads reads f, g) refl
 
-agrees-other : (b c : Bool) → b ≡ c → agrees b (not c) ≡ false
-agrees-other true true e = refl
-agrees-other false false e = refl
-agrees-other true false e = cc
-agrees-other false true e = cc
+beq-other : (b c : Bool) → b ≡ c → beq b (not c) ≡ false
+beq-other true true e = refl
+beq-other false false e = refl
+beq-other true false e = cc
+beq-other false true e = cc
 
 -- it is another program's, or written and not read, or failed
 passed-other : (side reads : Bool) (s : Step) → s.responder ≡ side → passed_by (not side) reads (s ∷ []) ≡ []
-passed-other side reads s e = passed-none (not side) reads s (rw (agrees-other s.responder side e) refl)
+passed-other side reads s e = passed-none (not side) reads s (rw (beq-other s.responder side e) refl)
 
 passed-way : (side reads : Bool) (s : Step) → s.reads ≡ reads → passed_by side (not reads) (s ∷ []) ≡ []
-passed-way side reads s e = passed-none side (not reads) s (which (agrees s.responder side)) where
-  which : (b : Bool) → (b && agrees s.reads (not reads) && (s.code == OK)) ≡ false
-  which true = rw (agrees-other s.reads reads e) refl
+passed-way side reads s e = passed-none side (not reads) s (which (beq s.responder side)) where
+  which : (b : Bool) → (b && beq s.reads (not reads) && (s.code == OK)) ≡ false
+  which true = rw (beq-other s.reads reads e) refl
   which false = refl
 
 passed-failed : (side reads : Bool) (s : Step) → 0 < s.code → passed_by side reads (s ∷ []) ≡ []
-passed-failed side reads s e = passed-none side reads s (which (agrees s.responder side) (agrees s.reads reads)) where
+passed-failed side reads s e = passed-none side reads s (which (beq s.responder side) (beq s.reads reads)) where
   wrong : (s.code == OK) ≡ false
   wrong = grind (arith, nat_tests, e)
 
@@ -195,14 +194,17 @@ passed-failed side reads s e = passed-none side reads s (which (agrees s.respond
 
 -- ---- a turn
 
--- two fronts of one list that are equally long
-pub front-same : (xs xs2 ys ys2 : List Passed) → length xs ≡ length ys → xs ++ xs2 ≡ ys ++ ys2 → ys ≡ xs
-front-same [] xs2 [] ys2 n e = refl
-front-same [] xs2 (y ∷ ys) ys2 n e = absurd (omega (arith, n))
-front-same (x ∷ xs) xs2 [] ys2 n e = absurd (omega (arith, n))
-front-same (x ∷ xs) xs2 (y ∷ ys) ys2 n e =
-    let f = cons-parts x y (xs ++ xs2) (ys ++ ys2) e in
-    ap (λ (z : List Passed). y ∷ z) (front-same xs xs2 ys ys2 (omega (arith, n)) f.1) ∙ ap (λ (z : Passed). z ∷ xs) (sym f.0)
+-- the psk that a turn hands in
+abbrev pub psk_of : Turn → List (List ℕ)
+psk_of (turn.SetPsk psk) = psk ∷ []
+psk_of _ = []
+
+psks-more : (t : Turn) (more : List Turn) → psks_of_turns (t ∷ more) ≡ psk_of t ++ psks_of_turns more
+psks-more (turn.Write payload room) more = refl
+psks-more turn.Read more = refl
+psks-more turn.TryRead more = refl
+psks-more (turn.Answer a) more = refl
+psks-more (turn.SetPsk psk) more = refl
 
 -- a DH result that this turn hands in is that of these keys
 abbrev pub Answers-with : Secrets → Turn → Type 0
@@ -210,45 +212,52 @@ Answers-with s (turn.Answer a) = s.dh_results (own_in a.of_static) a.remote ≡ 
 Answers-with s _ = Unit {0}
 
 -- what a turn of one program leaves, by what both had written and read
-pub record Gone (text : List ℕ) (p : Plan) (s : Secrets) (begun new : NoiseHandshake) (side : Bool) (ss ts : List Step) (rest : List (List ℕ)) : Type 0 where
+pub record Gone (text : List ℕ) (p : Plan) (s : Secrets) (begun new : NoiseHandshake) (side : Bool) (turn : Turn) (ss ts : List Step) (rest : List (List ℕ)) : Type 0 where
   pub stands : Side text p s begun new (passed_by side false ts) (passed_by side true ts) rest
   pub other_wrote : passed_by (not side) false ts ≡ passed_by (not side) false ss
   pub other_read : passed_by (not side) true ts ≡ passed_by (not side) true ss
   pub read_front : IsFront (passed_by side true ts) (passed_by (not side) false ss)
   pub wrote_more : IsFront (passed_by side false ss) (passed_by side false ts)
-  pub asks : All ReadsOrAsks ts
+  pub more : List Step
+  pub adds : Adds (length p.messages) side turn ss more
+  pub steps : ts ≡ ss ++ more
 
 same-end : (xs ys : List Passed) → ys ≡ [] → xs ++ ys ≡ xs
 same-end xs ys e = ap (λ (z : List Passed). xs ++ z) e ∙ append-nil xs
 
-positive : (n : ℕ) → (n ≡ 0 → ⊥) → 0 < n
-positive n e = omega (arith, e)
+-- the codes of what asks
+asked : (code : ℕ) → Asks code → (20 ≤ code) × (0 < code)
+asked code (inl e) = (omega (arith, e), omega (arith, e))
+asked code (inr e) = (omega (arith, e), omega (arith, e))
 
 module _ (text : List ℕ) (p : Plan) (s : Secrets) (begun old new : NoiseHandshake) (named : IsPatternOf text p) (one : (q : Plan) → IsPatternOf text q → q ≡ p)
-    (side : Bool) (ss ts : List Step) (read : IsFront (passed_by side true ss) (passed_by (not side) false ss)) (asks : All ReadsOrAsks ss) where
+    (side : Bool) (role : role_in begun.responder ≡ role-of side) (ss ts : List Step) (read : IsFront (passed_by side true ss) (passed_by (not side) false ss)) where
   abbrev wrote_before : List Passed
   wrote_before = passed_by side false ss
 
   abbrev read_before : List Passed
   read_before = passed_by side true ss
 
-  -- no message passed
-  still : (rest : List (List ℕ)) → Side text p s begun new wrote_before read_before rest → ts ≡ ss → Gone text p s begun new side ss ts rest
-  still rest st same = subst (λ (z : List Step). Gone text p s begun new side ss z rest) (sym same) (record {
+  -- no message passed, and there is no step
+  still : (turn : Turn) (rest : List (List ℕ)) → Side text p s begun new wrote_before read_before rest → Adds (length p.messages) side turn ss [] → ts ≡ ss
+      → Gone text p s begun new side turn ss ts rest
+  still turn rest st adds same = subst (λ (z : List Step). Gone text p s begun new side turn ss z rest) (sym same) (record {
     stands = st;
     other_wrote = refl;
     other_read = refl;
     read_front = read;
     wrote_more = ([], sym (append-nil wrote_before));
-    asks = asks;
+    more = [];
+    adds = adds;
+    steps = sym (append-nil ss);
   })
 
   -- a step of no message that passed
-  failed : (t : Step) (rest : List (List ℕ)) → Side text p s begun old wrote_before read_before rest → new ≡ old → 0 < t.code → ReadsOrAsks t
-      → ts ≡ ss ++ t ∷ [] → Gone text p s begun new side ss ts rest
-  failed t rest st same low asked e =
+  failed : (turn : Turn) (t : Step) (rest : List (List ℕ)) → Side text p s begun old wrote_before read_before rest → new ≡ old → 0 < t.code
+      → Adds (length p.messages) side turn ss (t ∷ []) → ts ≡ ss ++ t ∷ [] → Gone text p s begun new side turn ss ts rest
+  failed turn t rest st same low adds e =
       let none = λ (b r : Bool). passed-append b r ss (t ∷ []) ∙ same-end (passed_by b r ss) (passed_by b r (t ∷ [])) (passed-failed b r t low) in
-      subst (λ (z : List Step). Gone text p s begun new side ss z rest) (sym e) (record {
+      subst (λ (z : List Step). Gone text p s begun new side turn ss z rest) (sym e) (record {
         stands = subst (λ (ws : List Passed). Side text p s begun new ws (passed_by side true (ss ++ t ∷ [])) rest) (sym (none side false))
             (subst (λ (rs : List Passed). Side text p s begun new wrote_before rs rest) (sym (none side true))
             (subst (λ (k : NoiseHandshake). Side text p s begun k wrote_before read_before rest) (sym same) st));
@@ -256,111 +265,155 @@ module _ (text : List ℕ) (p : Plan) (s : Secrets) (begun old new : NoiseHandsh
         other_read = none (not side) true;
         read_front = (read.0, read.1 ∙ ap (λ (z : List Passed). z ++ read.0) (sym (none side true)));
         wrote_more = ([], none side false ∙ sym (append-nil wrote_before));
-        asks = All-push ReadsOrAsks ss t asks asked;
+        more = t ∷ [];
+        adds = adds;
+        steps = refl;
       })
 
   -- a message that the program wrote
-  wrote-one : (t : Step) (rest : List (List ℕ)) → Side text p s begun old wrote_before read_before rest → WritesStep side old new t.payload.items t → t.code ≡ 0
-      → ts ≡ ss ++ t ∷ [] → Gone text p s begun new side ss ts rest
-  wrote-one t rest st w ok e =
+  wrote-one : (turn : Turn) (t : Step) (room : ℕ) (rest : List (List ℕ)) → Side text p s begun old wrote_before read_before rest
+      → (w : WritesStep side old new t.payload.items room t) → t.code ≡ 0
+      → Adds (length p.messages) side turn ss (t ∷ []) → ts ≡ ss ++ t ∷ [] → Gone text p s begun new side turn ss ts rest
+  wrote-one turn t room rest st w ok adds e =
       let m : Passed = record { message = t.message.items; payload = t.payload.items } in
       let none = λ (b r : Bool) (empty : passed_by b r (t ∷ []) ≡ []). passed-append b r ss (t ∷ []) ∙ same-end (passed_by b r ss) (passed_by b r (t ∷ [])) empty in
       let more : passed_by side false (ss ++ t ∷ []) ≡ wrote_before ++ m ∷ [] =
       passed-append side false ss (t ∷ []) ∙ ap (λ (z : List Passed). wrote_before ++ z) (passed-one side false t w.side_is w.writes ok) in
       let reads : passed_by side true (ss ++ t ∷ []) ≡ read_before = none side true (passed-way side false t w.writes) in
-      let next = side-wrote text p s begun old new wrote_before read_before rest st named m (w.usable ok) (w.written ok) (w.held ok) (w.rest ok) in
-      subst (λ (z : List Step). Gone text p s begun new side ss z rest) (sym e) (record {
+      let o = written-of old new t.payload.items w.out w.after w.results w.next t.code w.outcome ok in
+      let next = side-wrote text p s begun old new wrote_before read_before rest st named m o.0
+      (λ q v k. subst (λ (z : List ℕ). WasWritten q v t.payload.items z new) (sym (w.message_is ok)) (o.1 q v k)) (w.held ok) (w.rest ok) in
+      subst (λ (z : List Step). Gone text p s begun new side turn ss z rest) (sym e) (record {
         stands = subst (λ (ws : List Passed). Side text p s begun new ws (passed_by side true (ss ++ t ∷ [])) rest) (sym more)
             (subst (λ (rs : List Passed). Side text p s begun new (wrote_before ++ m ∷ []) rs rest) (sym reads) next);
         other_wrote = none (not side) false (passed-other side false t w.side_is);
         other_read = none (not side) true (passed-other side true t w.side_is);
         read_front = (read.0, read.1 ∙ ap (λ (z : List Passed). z ++ read.0) (sym reads));
         wrote_more = (m ∷ [], more);
-        asks = All-push ReadsOrAsks ss t asks (λ is. absurd (false≢true (sym w.writes ∙ is)));
+        more = t ∷ [];
+        adds = adds;
+        steps = refl;
       })
 
   -- a message that it read, the next one of the other program's
-  read-one : (t : Step) (rest : List (List ℕ)) → Side text p s begun old wrote_before read_before rest → (r : ReadsStep side old new t.message.items t)
-      → (before later : List Passed) (payload : List ℕ) → length before ≡ length read_before
-      → passed_by (not side) false ss ≡ before ++ record { message = t.message.items; payload = payload } ∷ later
-      → t.payload.items ≡ payload → t.code ≡ 0 → ts ≡ ss ++ t ∷ [] → Gone text p s begun new side ss ts rest
-  read-one t rest st r before later payload count are paid ok e =
+  read-one : (turn : Turn) (t : Step) (ends : Bool) (rest : List (List ℕ)) → Side text p s begun old wrote_before read_before rest
+      → (r : ReadsStep side ends old new t.message.items t) → (later : List Passed) (payload : List ℕ)
+      → passed_by (not side) false ss ≡ read_before ++ record { message = t.message.items; payload = payload } ∷ later
+      → t.payload.items ≡ payload → t.code ≡ 0 → Adds (length p.messages) side turn ss (t ∷ []) → ts ≡ ss ++ t ∷ []
+      → Gone text p s begun new side turn ss ts rest
+  read-one turn t ends rest st r later payload are paid ok adds e =
       let m : Passed = record { message = t.message.items; payload = t.payload.items } in
       let none = λ (b d : Bool) (empty : passed_by b d (t ∷ []) ≡ []). passed-append b d ss (t ∷ []) ∙ same-end (passed_by b d ss) (passed_by b d (t ∷ [])) empty in
       let more : passed_by side true (ss ++ t ∷ []) ≡ read_before ++ m ∷ [] =
       passed-append side true ss (t ∷ []) ∙ ap (λ (z : List Passed). read_before ++ z) (passed-one side true t r.side_is r.reads ok) in
       let writes : passed_by side false (ss ++ t ∷ []) ≡ wrote_before = none side false (passed-way side true t r.reads) in
-      let f = read-of true old new t.message.items r.after r.results r.next t.code r.outcome ok in
+      let f = read-of ends old new t.message.items r.after r.results r.next t.code r.outcome ok in
       let next = side-took text p s begun old new wrote_before read_before rest st named m f.0
       (λ q v k. subst (λ (z : List ℕ). WasRead q v t.message.items z new) (sym (r.payload_is ok)) (f.1 q v k)) (r.held ok) (r.rest ok) in
-      let same : read_before ≡ before = front-same before (record { message = t.message.items; payload = payload } ∷ later) read_before read.0 count (sym are ∙ read.1) in
       let all : passed_by (not side) false ss ≡ (read_before ++ m ∷ []) ++ later =
-      are ∙ ap (λ (z : List Passed). z ++ record { message = t.message.items; payload = payload } ∷ later) (sym same)
-      ∙ ap (λ (z : List ℕ). read_before ++ record { message = t.message.items; payload = z } ∷ later) (sym paid)
+      are ∙ ap (λ (z : List ℕ). read_before ++ record { message = t.message.items; payload = z } ∷ later) (sym paid)
       ∙ sym (append_assoc read_before (m ∷ []) later) in
-      subst (λ (z : List Step). Gone text p s begun new side ss z rest) (sym e) (record {
+      subst (λ (z : List Step). Gone text p s begun new side turn ss z rest) (sym e) (record {
         stands = subst (λ (ws : List Passed). Side text p s begun new ws (passed_by side true (ss ++ t ∷ [])) rest) (sym writes)
             (subst (λ (rs : List Passed). Side text p s begun new wrote_before rs rest) (sym more) next);
         other_wrote = none (not side) false (passed-other side false t r.side_is);
         other_read = none (not side) true (passed-other side true t r.side_is);
         read_front = (later, all ∙ ap (λ (z : List Passed). z ++ later) (sym more));
         wrote_more = ([], writes ∙ sym (append-nil wrote_before));
-        asks = All-push ReadsOrAsks ss t asks (λ _. inl ok);
+        more = t ∷ [];
+        adds = adds;
+        steps = refl;
       })
 
   -- the next message of the other program isn't refused
   abbrev pub Next : Type 0
   Next = TakesNext (passed_by (not side) false ss) read_before old
 
-  pub turned : (turn : Turn) (rest : List (List ℕ)) → Turned side turn old new ss ts → Answers-with s turn → Next
-      → Side text p s begun old wrote_before read_before (psk_of turn ++ rest) → Gone text p s begun new side ss ts rest
-  turned (turn.Write payload) rest (t, w, e) is next st = at (nat_lt 0 t.code) refl where
-    w1 : WritesStep side old new t.payload.items t
-    w1 = subst (λ (z : List ℕ). WritesStep side old new z t) (sym w.payload_is) w
+  wrote-turn : (turn : Turn) (payload : List ℕ) (room : ℕ) (rest : List (List ℕ)) (t : Step)
+      → (IsWritten side payload room (length p.messages) (passed_at side ss) t → Adds (length p.messages) side turn ss (t ∷ []))
+      → WritesStep side old new payload room t → ts ≡ ss ++ t ∷ []
+      → Side text p s begun old wrote_before read_before rest → Gone text p s begun new side turn ss ts rest
+  wrote-turn turn payload room rest t adds w e st = at (nat_lt 0 t.code) refl where
+    w1 : WritesStep side old new t.payload.items room t
+    w1 = subst (λ (z : List ℕ). WritesStep side old new z room t) (sym w.payload_is) w
 
-    at : (b : Bool) → nat_lt 0 t.code ≡ b → Gone text p s begun new side ss ts rest
-    at true low = let l : 0 < t.code = grind (arith, nat_tests, low) in failed t rest st (w.unchanged l) l (λ reads. absurd (false≢true (sym w.writes ∙ reads))) e
-    at false least = wrote-one t rest st w1 (grind (arith, nat_tests, least)) e
-  turned turn.Read rest (inl idle) is next st =
-      still rest (subst (λ (k : NoiseHandshake). Side text p s begun k wrote_before read_before rest) (sym idle.0) st) idle.1
-  turned turn.Read rest (inr (message, t, at, r, e)) is next st =
-      let r1 : ReadsStep side old new t.message.items t = subst (λ (z : List ℕ). ReadsStep side old new z t) (sym r.message_is) r in
-      let are : passed_by (not side) false ss ≡ at.before ++ record { message = t.message.items; payload = at.payload } ∷ at.later =
-      at.all_is ∙ ap (λ (z : List ℕ). at.before ++ record { message = z; payload = at.payload } ∷ at.later) (sym r.message_is) in
-      let m : Passed = record { message = t.message.items; payload = at.payload } in
-      let same : read_before ≡ at.before = front-same at.before (m ∷ at.later) read_before read.0 at.number_is (sym are ∙ read.1) in
-      let taken = next m at.later (are ∙ ap (λ (z : List Passed). z ++ m ∷ at.later) (sym same)) true new r1.after r1.results r1.next t.code r1.outcome in
+    is : WriteIs p old room t.code
+    is = subst (λ (n : ℕ). WriteIs p old n t.code) w.room_is
+        (write-is p old (named-in text p s begun old wrote_before read_before rest st named) st.usable st.going new payload w.out w.after w.results w.next t.code w.outcome)
+
+    step : IsWritten side payload room (length p.messages) (passed_at side ss) t
+    step = let n : ℕ = passed_at side ss in let now : role_in old.responder ≡ role-of side = st.role ∙ role in record {
+      call = (w.side_is, w.writes);
+      payload_is = w.payload_is;
+      done = write-done p old room n side st.count now t.code is;
+      early = write-early p old room n side st.count now t.code is;
+      due = write-due p old room n side st.count now t.code is;
+    }
+
+    at : (b : Bool) → nat_lt 0 t.code ≡ b → Gone text p s begun new side turn ss ts rest
+    at true low =
+        let l : 0 < t.code = grind (arith, nat_tests, low) in
+        failed turn t rest st (write-unchanged old new payload w.out w.after w.results w.next t.code w.outcome l) l (adds step) e
+    at false least = wrote-one turn t room rest st w1 (grind (arith, nat_tests, least)) (adds step) e
+
+  read-turn : (turn : Turn) (ends : Bool) (rest : List (List ℕ))
+      → ((more : List Step) → ReadsFirst side (waiting side ss) more → Adds (length p.messages) side turn ss more)
+      → ReadTurn side ends old new ss ts → Next → Side text p s begun old wrote_before read_before rest → Gone text p s begun new side turn ss ts rest
+  read-turn turn ends rest adds (inl idle) next st =
+      still turn rest (subst (λ (k : NoiseHandshake). Side text p s begun k wrote_before read_before rest) (sym idle.1) st)
+      (adds [] (subst (λ (z : List Passed). ReadsFirst side z []) (sym idle.0) refl)) idle.2
+  read-turn turn ends rest adds (inr (message, t, first, r, e)) next st =
+      let r1 : ReadsStep side ends old new t.message.items t = subst (λ (z : List ℕ). ReadsStep side ends old new z t) (sym r.message_is) r in
+      let m : Passed = record { message = t.message.items; payload = first.payload } in
+      let waits : waiting side ss ≡ m ∷ first.later =
+      first.all_is ∙ ap (λ (z : List ℕ). record { message = z; payload = first.payload } ∷ first.later) (sym r.message_is) in
+      let are : passed_by (not side) false ss ≡ read_before ++ m ∷ first.later =
+      read.1 ∙ ap (λ (z : List Passed). read_before ++ z)
+      (sym (drop-append_seam read_before read.0) ∙ ap (drop (length read_before)) (sym read.1) ∙ waits) in
+      let taken = next m first.later are ends new r1.after r1.results r1.next t.code r1.outcome in
+      let step = λ (codes : (t.code ≡ 0) ⊎ Asks t.code) (paid : t.code ≡ 0 → t.payload.items ≡ first.payload).
+      adds (t ∷ []) (subst (λ (z : List Passed). ReadsFirst side z (t ∷ [])) (sym waits)
+      (t, record { call = (r.side_is, r.reads); message_is = refl; payload_is = paid; codes = codes }, refl)) in
+      let asks = λ (is : Asks t.code).
+      let low = asked t.code is in
+      failed turn t rest st (r1.left (inr low.0) low.1) low.1 (step (inr is) (λ ok. absurd (omega (arith, ok, low.1)))) e in
       elim taken [
-        | inl ok ↦ read-one t rest st r1 at.before at.later at.payload at.number_is are (r1.payload_is ok.0 ∙ ok.1) ok.0 e
-        | inr (inl wants) ↦ failed t rest st (r1.unchanged (inl wants)) (omega (arith, wants)) (λ _. inr (inl wants)) e
-        | inr (inr wants) ↦ failed t rest st (r1.unchanged (inr wants)) (omega (arith, wants)) (λ _. inr (inr wants)) e
+        | inl ok ↦
+            let paid : t.payload.items ≡ first.payload = r1.payload_is ok.0 ∙ ok.1 in
+            read-one turn t ends rest st r1 first.later first.payload are paid ok.0 (step (inl ok.0) (λ _. paid)) e
+        | inr is ↦ asks is
       ]
+
+  pub turned : (turn : Turn) (rest : List (List ℕ)) → Turned side turn old new ss ts → Answers-with s turn → Next
+      → Side text p s begun old wrote_before read_before (psk_of turn ++ rest) → Gone text p s begun new side turn ss ts rest
+  turned (turn.Write payload room) rest (t, w, e) is next st =
+      wrote-turn (turn.Write payload room) payload.items room rest t (λ step. (t, step, refl)) w e st
+  turned turn.Read rest moved is next st = read-turn turn.Read true rest (λ more a. a) moved next st
+  turned turn.TryRead rest moved is next st = read-turn turn.TryRead false rest (λ more a. a) moved next st
   turned (turn.Answer a) rest (code, supplies, e) is next st =
-      still rest (side-answered text p s begun old new wrote_before read_before rest st named (entry_in a) code supplies is) e
+      still (turn.Answer a) rest (side-answered text p s begun old new wrote_before read_before rest st named (entry_in a) code supplies is) refl e
   turned (turn.SetPsk psk) rest (code, sets, goes, stays, count, e) is next st =
-      still rest (side-set text p s begun old new wrote_before read_before (psk ∷ rest) st named psk rest code refl one (count st.usable) sets goes stays) e
+      still (turn.SetPsk psk) rest
+      (side-set text p s begun old new wrote_before read_before (psk ∷ rest) st named psk rest code refl one (count st.usable) sets goes stays) refl e
 
 -- ---- both programs
 
 answers-with : (d : Dh) (psks : List (List ℕ)) (t : Turn) → Answers d t → Answers-with (secrets_of d psks) t
-answers-with d psks (turn.Write payload) a = tt
+answers-with d psks (turn.Write payload room) a = tt
 answers-with d psks turn.Read a = tt
+answers-with d psks turn.TryRead a = tt
 answers-with d psks (turn.Answer x) a = ap Some (sym a)
 answers-with d psks (turn.SetPsk psk) a = tt
 
+-- where both stand after these steps, with these turns to come
 pub record Both (text : List ℕ) (p : Plan) (d d_too : Dh) (psks : List (List ℕ)) (a0 b0 a b : NoiseHandshake) (ss : List Step) (turns : List (Bool × Turn))
     : Type 0 where
   pub left : Side text p (secrets_of d psks) a0 a (passed_by false false ss) (passed_by false true ss) (psks_of_turns (turns_of false turns))
   pub right : Side text p (secrets_of d_too psks) b0 b (passed_by true false ss) (passed_by true true ss) (psks_of_turns (turns_of true turns))
   pub there : IsFront (passed_by true true ss) (passed_by false false ss)
   pub back : IsFront (passed_by false true ss) (passed_by true false ss)
-  pub asks : All ReadsOrAsks ss
   pub answers : All (Answers d) (turns_of false turns)
   pub answers_too : All (Answers d_too) (turns_of true turns)
-
-if-some : {X : Type 0} {P Q : X → Type 0} (o : Option X) → IfSome o P → ((x : X) → P x → Q x) → IfSome o Q
-if-some None h f = tt
-if-some (Some x) h f = f x h
 
 front-longer : (xs ys zs : List Passed) → IsFront xs ys → IsFront ys zs → IsFront xs zs
 front-longer xs ys zs f g = (f.0 ++ g.0, g.1 ∙ ap (λ (z : List Passed). z ++ g.0) f.1 ∙ append_assoc xs f.0 g.0)
@@ -371,81 +424,57 @@ head-of P x xs all = all 0 x (omega arith)
 tail-of : {X : Type 0} (P : X → Type 0) (x : X) (xs : List X) → All P (x ∷ xs) → All P xs
 tail-of P x xs all k y less = all (suc k) y (omega (arith, less))
 
-module _ (setups : Setups) (law : TwoProgramsAgree) (text prologue : List ℕ) (p : Plan) (valid : IsValid p) (named : IsPatternOf text p)
-    (one : (q : Plan) → IsPatternOf text q → q ≡ p)
-    (g h : NoiseSetup) (a0 b0 : NoiseHandshake) (started : IsStarted text prologue g a0) (started_too : IsStarted text prologue h b0)
-    (none_wrong : fault_in p g ≡ None) (none_wrong_too : fault_in p h ≡ None)
-    (turns : List (Bool × Turn)) (d d_too : Dh) (psks : List (List ℕ)) (alike : BeginAlike g h turns d d_too psks) where
-  abbrev At : NoiseHandshake → NoiseHandshake → List Step → List (Bool × Turn) → Type 0
-  At a b ss more = Both text p d d_too psks a0 b0 a b ss more
+-- ---- the end
 
-  agreed-at : (a b : NoiseHandshake) (ss : List Step) (more : List (Bool × Turn)) → At a b ss more
-      → Agree p (left setups law text prologue p valid named g h a0 b0 started started_too none_wrong none_wrong_too turns d d_too psks alike a (passed_by false false ss) (passed_by false true ss))
-      (right setups law text prologue p valid named g h a0 b0 started started_too none_wrong none_wrong_too turns d d_too psks alike b (passed_by true false ss) (passed_by true true ss))
-  agreed-at a b ss more w =
-      agreed setups law text prologue p valid named g h a0 b0 started started_too none_wrong none_wrong_too turns d d_too psks alike a b
-      (passed_by false false ss) (passed_by false true ss) (passed_by true false ss) (passed_by true true ss) _ _ w.left w.right w.there w.back
+pub key-again : (k : Option (List ℕ)) → key_from_c (key_to_c k) ≡ k
+key-again None = refl
+key-again (Some bytes) = refl
 
-  pub left-turn : (a a2 b : NoiseHandshake) (ss ts : List Step) (t : Turn) (more : List (Bool × Turn)) → At a b ss ((false, t) ∷ more)
-      → Turned false t a a2 ss ts → At a2 b ts more
-  left-turn a a2 b ss ts t more w moved =
-      let agree = agreed-at a b ss ((false, t) ∷ more) w in
-      let gone = turned text p (secrets_of d psks) a0 a a2 named one false ss ts w.back w.asks t (psks_of_turns (turns_of false more)) moved
-      (answers-with d psks t (head-of (Answers d) t (turns_of false more) w.answers)) agree.next_back w.left in
-      record {
-        left = gone.stands;
-        right = subst (λ (z : List Passed). Side text p (secrets_of d_too psks) b0 b z (passed_by true true ts) (psks_of_turns (turns_of true more))) (sym gone.other_wrote)
-            (subst (λ (z : List Passed). Side text p (secrets_of d_too psks) b0 b (passed_by true false ss) z (psks_of_turns (turns_of true more))) (sym gone.other_read) w.right);
-        there = subst (λ (z : List Passed). IsFront z (passed_by false false ts)) (sym gone.other_read)
-            (front-longer (passed_by true true ss) (passed_by false false ss) (passed_by false false ts) w.there gone.wrote_more);
-        back = subst (λ (z : List Passed). IsFront (passed_by false true ts) z) (sym gone.other_wrote) gone.read_front;
-        asks = gone.asks;
-        answers = tail-of (Answers d) t (turns_of false more) w.answers;
-        answers_too = w.answers_too;
-      }
+is-done : (p : Plan) (k : NoiseHandshake) → IsPatternOf (text_from_c k) p → ForParty k (λ _ v. v.passed ≡ length v.pattern.messages) → k.passed ≡ length p.messages
+is-done p k here done = done p (party_with pairs_in [] (handshake_from_c p k)) (own-party p k here)
 
-  pub right-turn : (a b b2 : NoiseHandshake) (ss ts : List Step) (t : Turn) (more : List (Bool × Turn)) → At a b ss ((true, t) ∷ more)
-      → Turned true t b b2 ss ts → At a b2 ts more
-  right-turn a b b2 ss ts t more w moved =
-      let agree = agreed-at a b ss ((true, t) ∷ more) w in
-      let gone = turned text p (secrets_of d_too psks) b0 b b2 named one true ss ts w.there w.asks t (psks_of_turns (turns_of true more)) moved
-      (answers-with d_too psks t (head-of (Answers d_too) t (turns_of true more) w.answers_too)) agree.next_there w.right in
-      record {
-        left = subst (λ (z : List Passed). Side text p (secrets_of d psks) a0 a z (passed_by false true ts) (psks_of_turns (turns_of false more))) (sym gone.other_wrote)
-            (subst (λ (z : List Passed). Side text p (secrets_of d psks) a0 a (passed_by false false ss) z (psks_of_turns (turns_of false more))) (sym gone.other_read) w.left);
-        right = gone.stands;
-        there = subst (λ (z : List Passed). IsFront (passed_by true true ts) z) (sym gone.other_wrote) gone.read_front;
-        back = subst (λ (z : List Passed). IsFront z (passed_by true false ts)) (sym gone.other_read)
-            (front-longer (passed_by false true ss) (passed_by true false ss) (passed_by true false ts) w.back gone.wrote_more);
-        asks = gone.asks;
-        answers = w.answers;
-        answers_too = tail-of (Answers d_too) t (turns_of true more) w.answers_too;
-      }
+can-finish : (text : List ℕ) (p : Plan) (s : Secrets) (begun k : NoiseHandshake) (ws rs : List Passed) (due : List (List ℕ)) → Side text p s begun k ws rs due
+    → IsPatternOf text p → ((q : Plan) → IsPatternOf text q → q ≡ p) → k.passed ≡ length p.messages → Finishes k 0
+can-finish text p s begun k ws rs due st named one done = record {
+  unusable = ((λ e. absurd (omega (arith, e))), (λ f. absurd (f st.usable)));
+  same = λ u.
+      let q : u.pattern ≡ p = one u.pattern (subst (λ (z : List ℕ). IsPatternOf z u.pattern) st.name u.named) in
+      sym (finish-done (handshake_from_c u.pattern k) (ap (λ (z : Plan). (handshake_from_c z k).ended) q ∙ st.going)
+      (done ∙ ap (λ (z : Plan). length z.messages) (sym q)));
+  codes = inl refl;
+}
 
-  pub begun-both : held_psks a0 ≡ psks_in g → held_psks b0 ≡ psks_in h → At a0 b0 [] turns
-  begun-both held held_too = record {
-    left = side-start text prologue p (secrets_of d psks) g a0 (psks_of_turns (turns_of false turns)) named started held alike.psks_are;
-    right = side-start text prologue p (secrets_of d_too psks) h b0 (psks_of_turns (turns_of true turns)) named started_too held_too alike.psks_too;
-    there = ([], refl);
-    back = ([], refl);
-    asks = λ k x less. absurd (omega (arith, less));
-    answers = alike.answers;
-    answers_too = alike.answers_too;
-  }
+-- what both finish with
+abbrev MadeBy : NoiseHandshake → NoiseHandshake → ℕ → Halves → Type 0
+MadeBy a b interval x = AreHalvesOf a interval x.sender x.receiver × AreHalvesOf b interval x.their_sender x.their_receiver
 
-  pub right-at-end : (a b : NoiseHandshake) (ran : Ran) (more : List (Bool × Turn)) → At a b ran.steps.items more
-      → ran.passed ≡ a.passed → ran.passed_too ≡ b.passed → ran.hash ≡ a.hash → ran.hash_too ≡ b.hash
-      → IfSome ran.halves (λ x. AreHalvesOf a 0 x.sender x.receiver × AreHalvesOf b 0 x.their_sender x.their_receiver)
-      → RunIsRight g h ran
-  right-at-end a b ran more w n m e f made =
-      let agree = agreed-at a b ran.steps.items more w in
-      record {
-        there = w.there;
-        back = w.back;
-        read = w.asks;
-        hash = λ same. e ∙ agree.hash (sym n ∙ same ∙ m) ∙ sym f;
-        halves = if-some ran.halves made (λ x both. agree.halves 0 x.sender x.receiver x.their_sender x.their_receiver both.0 both.1);
-      }
+finishes-where : (a b : NoiseHandshake) (interval : ℕ) (A : Type 0) (o : Option Halves) → ((x : Halves) → MadeBy a b interval x → A)
+    → (A → Finishes a 0 × Finishes b 0) → MatchOption o (Finishes a 0 → Finishes b 0 → ⊥) (MadeBy a b interval) → IsSome o ↔ A
+finishes-where a b interval A None made can not_both = ((λ is. absurd (false≢true is)), (λ x. absurd (not_both (can x).0 (can x).1)))
+finishes-where a b interval A (Some x) made can are = ((λ _. made x are), (λ _. refl))
+
+abbrev BothMeet : Halves → Type 0
+BothMeet x = Meet x.sender x.their_receiver × Meet x.their_sender x.receiver
+
+meet-where : (a b : NoiseHandshake) (interval : ℕ) (o : Option Halves) → MatchOption o (Finishes a 0 → Finishes b 0 → ⊥) (MadeBy a b interval)
+    → ((x : Halves) → MadeBy a b interval x → BothMeet x) → IfSome o BothMeet
+meet-where a b interval None h f = tt
+meet-where a b interval (Some x) h f = f x h
+
+some-same : (a b : List ℕ) → Some a ≡ Some b → a ≡ b
+some-same a b e = cc
+
+mark-of : (mark : ℕ) (k : NoiseHalf) → is_half mark k ≡ true → k.mark ≡ mark
+mark-of mark k e = code-is k.mark mark (and_parts (k.mark == mark) (is_party k.party) e).0
+
+meets-half : (sender receiver : NoiseHalf) → is_half SENDER sender ≡ true → is_half RECEIVER receiver ≡ true
+    → half_from_c receiver ≡ record (half_from_c sender) { role = other (half_from_c sender).role } → Meet sender receiver
+meets-half sender receiver a b face = record {
+  kinds = (mark-of SENDER sender a, mark-of RECEIVER receiver b);
+  key = some-same receiver.key sender.key (ap (λ (z : HalfValue). z.key) face);
+  nonce = ap (λ (z : HalfValue). z.nonce) face;
+  interval = ap (λ (z : HalfValue). z.interval) face;
+}
 
 -- ---- what a run begins with
 
@@ -475,23 +504,137 @@ no-start-fault p prologue setup e = no-fault-at p prologue setup (nat_lt 65535 (
 
 module _ (text prologue : List ℕ) (p : Plan) (g h : NoiseSetup) (a0 b0 : NoiseHandshake) (turns : List (Bool × Turn)) (d d_too : Dh) (psks : List (List ℕ))
     (o : Begins text prologue p g h a0 b0 turns d d_too psks) where
-  pub first-both : Both text p d d_too psks a0 b0 a0 b0 [] turns
-  first-both = begun-both o.setups o.law text prologue p o.valid o.named o.one g h a0 b0 o.started o.started_too o.none_wrong o.none_wrong_too turns d d_too psks o.alike
-      o.held o.held_too
+  abbrev At : NoiseHandshake → NoiseHandshake → List Step → List (Bool × Turn) → Type 0
+  At a b ss more = Both text p d d_too psks a0 b0 a b ss more
 
-  pub next-left : (a a2 b : NoiseHandshake) (ss ts : List Step) (t : Turn) (more : List (Bool × Turn)) → Both text p d d_too psks a0 b0 a b ss ((false, t) ∷ more)
-      → Turned false t a a2 ss ts → Both text p d d_too psks a0 b0 a2 b ts more
-  next-left = left-turn o.setups o.law text prologue p o.valid o.named o.one g h a0 b0 o.started o.started_too o.none_wrong o.none_wrong_too turns d d_too psks o.alike
+  begun-role : role_in a0.responder ≡ Initiator
+  begun-role = ap (λ (z : Party). z.role) (o.started.begun_is p o.named []).matches ∙ role-first g.responder o.alike.initiator
 
-  pub next-right : (a b b2 : NoiseHandshake) (ss ts : List Step) (t : Turn) (more : List (Bool × Turn)) → Both text p d d_too psks a0 b0 a b ss ((true, t) ∷ more)
-      → Turned true t b b2 ss ts → Both text p d d_too psks a0 b0 a b2 ts more
-  next-right = right-turn o.setups o.law text prologue p o.valid o.named o.one g h a0 b0 o.started o.started_too o.none_wrong o.none_wrong_too turns d d_too psks o.alike
+  begun-role-too : role_in b0.responder ≡ Responder
+  begun-role-too = ap (λ (z : Party). z.role) (o.started_too.begun_is p o.named []).matches ∙ role-second h.responder o.alike.responder
 
-  pub last-both : (a b : NoiseHandshake) (ran : Ran) (more : List (Bool × Turn)) → Both text p d d_too psks a0 b0 a b ran.steps.items more
-      → ran.passed ≡ a.passed → ran.passed_too ≡ b.passed → ran.hash ≡ a.hash → ran.hash_too ≡ b.hash
-      → IfSome ran.halves (λ x. AreHalvesOf a 0 x.sender x.receiver × AreHalvesOf b 0 x.their_sender x.their_receiver)
-      → RunIsRight g h ran
-  last-both = right-at-end o.setups o.law text prologue p o.valid o.named o.one g h a0 b0 o.started o.started_too o.none_wrong o.none_wrong_too turns d d_too psks o.alike
+  agreed-at : (a b : NoiseHandshake) (ss : List Step) (more : List (Bool × Turn)) → At a b ss more
+      → Agree p (left o.setups o.law text prologue p o.valid o.named g h a0 b0 o.started o.started_too o.none_wrong o.none_wrong_too turns d d_too psks o.alike a (passed_by false false ss) (passed_by false true ss))
+      (right o.setups o.law text prologue p o.valid o.named g h a0 b0 o.started o.started_too o.none_wrong o.none_wrong_too turns d d_too psks o.alike b (passed_by true false ss) (passed_by true true ss))
+  agreed-at a b ss more w =
+      agreed o.setups o.law text prologue p o.valid o.named g h a0 b0 o.started o.started_too o.none_wrong o.none_wrong_too turns d d_too psks o.alike a b
+      (passed_by false false ss) (passed_by false true ss) (passed_by true false ss) (passed_by true true ss) _ _ w.left w.right w.there w.back
+
+  -- what a turn of the initiator or of the responder leaves of both
+  pub record Taken (a b : NoiseHandshake) (side : Bool) (t : Turn) (ss ts : List Step) (more : List (Bool × Turn)) : Type 0 where
+    pub both : At a b ts more
+    pub steps : List Step
+    pub adds : Adds (length p.messages) side t ss steps
+    pub steps_are : ts ≡ ss ++ steps
+
+  pub next-left : (a a2 b : NoiseHandshake) (ss ts : List Step) (t : Turn) (more : List (Bool × Turn)) → At a b ss ((false, t) ∷ more)
+      → Turned false t a a2 ss ts → Taken a2 b false t ss ts more
+  next-left a a2 b ss ts t more w moved =
+      let agree = agreed-at a b ss ((false, t) ∷ more) w in
+      let gone = turned text p (secrets_of d psks) a0 a a2 o.named o.one false begun-role ss ts w.back t (psks_of_turns (turns_of false more)) moved
+      (answers-with d psks t (head-of (Answers d) t (turns_of false more) w.answers)) agree.next_back
+      (subst (λ (z : List (List ℕ)). Side text p (secrets_of d psks) a0 a (passed_by false false ss) (passed_by false true ss) z) (psks-more t (turns_of false more)) w.left) in
+      record {
+        both = record {
+          left = gone.stands;
+          right = subst (λ (z : List Passed). Side text p (secrets_of d_too psks) b0 b z (passed_by true true ts) (psks_of_turns (turns_of true more))) (sym gone.other_wrote)
+              (subst (λ (z : List Passed). Side text p (secrets_of d_too psks) b0 b (passed_by true false ss) z (psks_of_turns (turns_of true more))) (sym gone.other_read) w.right);
+          there = subst (λ (z : List Passed). IsFront z (passed_by false false ts)) (sym gone.other_read)
+              (front-longer (passed_by true true ss) (passed_by false false ss) (passed_by false false ts) w.there gone.wrote_more);
+          back = subst (λ (z : List Passed). IsFront (passed_by false true ts) z) (sym gone.other_wrote) gone.read_front;
+          answers = tail-of (Answers d) t (turns_of false more) w.answers;
+          answers_too = w.answers_too;
+        };
+        steps = gone.more;
+        adds = gone.adds;
+        steps_are = gone.steps;
+      }
+
+  pub next-right : (a b b2 : NoiseHandshake) (ss ts : List Step) (t : Turn) (more : List (Bool × Turn)) → At a b ss ((true, t) ∷ more)
+      → Turned true t b b2 ss ts → Taken a b2 true t ss ts more
+  next-right a b b2 ss ts t more w moved =
+      let agree = agreed-at a b ss ((true, t) ∷ more) w in
+      let gone = turned text p (secrets_of d_too psks) b0 b b2 o.named o.one true begun-role-too ss ts w.there t (psks_of_turns (turns_of true more)) moved
+      (answers-with d_too psks t (head-of (Answers d_too) t (turns_of true more) w.answers_too)) agree.next_there
+      (subst (λ (z : List (List ℕ)). Side text p (secrets_of d_too psks) b0 b (passed_by true false ss) (passed_by true true ss) z) (psks-more t (turns_of true more)) w.right) in
+      record {
+        both = record {
+          left = subst (λ (z : List Passed). Side text p (secrets_of d psks) a0 a z (passed_by false true ts) (psks_of_turns (turns_of false more))) (sym gone.other_wrote)
+              (subst (λ (z : List Passed). Side text p (secrets_of d psks) a0 a (passed_by false false ss) z (psks_of_turns (turns_of false more))) (sym gone.other_read) w.left);
+          right = gone.stands;
+          there = subst (λ (z : List Passed). IsFront (passed_by true true ts) z) (sym gone.other_wrote) gone.read_front;
+          back = subst (λ (z : List Passed). IsFront z (passed_by true false ts)) (sym gone.other_read)
+              (front-longer (passed_by false true ss) (passed_by true false ss) (passed_by true false ts) w.back gone.wrote_more);
+          answers = w.answers;
+          answers_too = tail-of (Answers d_too) t (turns_of true more) w.answers_too;
+        };
+        steps = gone.more;
+        adds = gone.adds;
+        steps_are = gone.steps;
+      }
+
+  first-both : At a0 b0 [] turns
+  first-both = record {
+    left = side-start text prologue p (secrets_of d psks) g a0 (psks_of_turns (turns_of false turns)) o.named o.started o.held o.alike.psks_are;
+    right = side-start text prologue p (secrets_of d_too psks) h b0 (psks_of_turns (turns_of true turns)) o.named o.started_too o.held_too o.alike.psks_too;
+    there = ([], refl);
+    back = ([], refl);
+    answers = o.alike.answers;
+    answers_too = o.alike.answers_too;
+  }
+
+  -- after some of the turns
+  pub so-far : (sofar rest : List (Bool × Turn)) (a b : NoiseHandshake) (ss : List Step) → Runs a0 b0 sofar a b ss → turns ≡ sofar ++ rest
+      → At a b ss rest × AreRight (length p.messages) sofar ss
+  so-far _ rest _ _ _ none_yet e = (subst (λ (z : List (Bool × Turn)). At a0 b0 [] z) e first-both, no_steps)
+  so-far _ rest _ _ _ (by_initiator sofar a a2 b ss ts t before moved) e =
+      let w = so-far sofar ((false, t) ∷ rest) a b ss before (e ∙ append_assoc sofar ((false, t) ∷ []) rest) in
+      let n = next-left a a2 b ss ts t rest w.0 moved in (
+        n.both,
+        subst (λ (z : List Step). AreRight (length p.messages) (sofar ++ (false, t) ∷ []) z) (sym n.steps_are)
+            (one_more sofar ss n.steps false t w.1 n.adds),
+      )
+  so-far _ rest _ _ _ (by_responder sofar a b b2 ss ts t before moved) e =
+      let w = so-far sofar ((true, t) ∷ rest) a b ss before (e ∙ append_assoc sofar ((true, t) ∷ []) rest) in
+      let n = next-right a b b2 ss ts t rest w.0 moved in (
+        n.both,
+        subst (λ (z : List Step). AreRight (length p.messages) (sofar ++ (true, t) ∷ []) z) (sym n.steps_are)
+            (one_more sofar ss n.steps true t w.1 n.adds),
+      )
+
+  pub right-at-end : (a b : NoiseHandshake) (interval : ℕ) (ran : Ran) → Runs a0 b0 turns a b ran.steps.items → EndsAs a b interval ran
+      → RunIsRight g h turns ran
+  right-at-end a b interval ran runs ends =
+      let w = so-far turns [] a b ran.steps.items runs (sym (append-nil turns)) in
+      let agree = agreed-at a b ran.steps.items [] w.0 in
+      let i = ends.initiator in
+      let r = ends.responder in
+      let st = w.0.left in
+      let st_too = w.0.right in
+      let here : IsPatternOf (text_from_c a) p = named-in text p (secrets_of d psks) a0 a _ _ _ st o.named in
+      let here_too : IsPatternOf (text_from_c b) p = named-in text p (secrets_of d_too psks) b0 b _ _ _ st_too o.named in
+      let all : ran.initiator.messages ≡ length p.messages = i.messages p here in
+      record {
+        steps = subst (λ (n : ℕ). AreRight n turns ran.steps.items) (sym all) w.1;
+        passed = i.passed ∙ st.count;
+        passed_too = r.passed ∙ st_too.count;
+        hash = λ same. i.hash ∙ agree.hash (sym i.passed ∙ same ∙ r.passed) ∙ sym r.hash;
+        known = λ k e. agree.known k (sym (key-again (key_from_c a.remote_s)) ∙ ap key_from_c (sym i.remote_static) ∙ e);
+        known_too = λ k e. agree.known_too k (sym (key-again (key_from_c b.remote_s)) ∙ ap key_from_c (sym r.remote_static) ∙ e);
+        finished = finishes-where a b interval _ ran.halves
+            (λ x both. (i.passed ∙ is-done p a here both.0.done ∙ sym all, r.passed ∙ is-done p b here_too both.1.done ∙ sym all))
+            (λ is. (
+              can-finish text p (secrets_of d psks) a0 a _ _ _ st o.named o.one (sym i.passed ∙ is.0 ∙ all),
+              can-finish text p (secrets_of d_too psks) b0 b _ _ _ st_too o.named o.one (sym r.passed ∙ is.1 ∙ all),
+            ))
+            ends.halves;
+        halves = meet-where a b interval ran.halves ends.halves
+            (λ x both.
+            let face = agree.halves interval x.sender x.receiver x.their_sender x.their_receiver both.0 both.1 in (
+              meets-half x.sender x.their_receiver both.0.known.0 both.1.known.1 face.there,
+              meets-half x.their_sender x.receiver both.1.known.0 both.0.known.1 face.back,
+            ));
+      }
 
 -- ---- the message of a number
 
@@ -502,7 +645,7 @@ beq-same true false e = cc
 beq-same false true e = cc
 
 module _ (side : Bool) (s : Step) (more : List Step) (wrote : s.responder ≡ side) (writes : s.reads ≡ false) (ok : s.code ≡ 0) where
-  first-of : passed_by side false (s ∷ more) ≡ record { message = s.message.items; payload = s.payload.items } ∷ passed_by side false more
+  pub first-of : passed_by side false (s ∷ more) ≡ record { message = s.message.items; payload = s.payload.items } ∷ passed_by side false more
   first-of = passed-append side false (s ∷ []) more ∙ ap (λ (z : List Passed). z ++ passed_by side false more) (passed-one side false s wrote writes ok)
 
   pub at-first : (steps : List Step) (number : ℕ) (m : List ℕ) → steps ≡ s ∷ more → number ≡ 0 → m ≡ s.message.items → IsPassedAt (passed_by side false steps) number m
@@ -526,7 +669,38 @@ module _ (side : Bool) (s : Step) (more : List Step) (wrote : s.responder ≡ si
         all_is = ap (passed_by side false) e ∙ first-of ∙ ap (λ (z : List Passed). front ∷ z) at.all_is;
       }
 
-pub ok-some : {X E : Type 0} {P Q : X → Type 0} (r : Result (Option X) E) → IfOk r (λ o. IfSome o P) → ((x : X) → P x → Q x) → IfOk r (λ o. IfSome o Q)
-ok-some (Err e) h f = tt
-ok-some (Ok None) h f = tt
-ok-some (Ok (Some x)) h f = f x h
+-- none is left behind that number
+pub at-none : (steps more : List Step) (side : Bool) (s : Step) (number : ℕ) → passed_by side false steps ≡ record { message = s.message.items; payload = s.payload.items } ∷ passed_by side false more
+    → (number ≡ 0 → ⊥) → length (passed_by side false more) ≤ number - 1 → length (passed_by side false steps) ≤ number
+at-none steps more side s number e some few = let n = ap length e in omega (arith, n, some, few)
+
+pub ok-match : {X E N M : Type 0} {P Q : X → Type 0} (r : Result (Option X) E) → IfOk r (λ o. MatchOption o N P) → (N → M) → ((x : X) → P x → Q x)
+    → IfOk r (λ o. MatchOption o M Q)
+ok-match (Err e) h g f = tt
+ok-match (Ok None) h g f = g h
+ok-match (Ok (Some x)) h g f = f x h
+
+-- ---- what waits
+
+pub none-waits : (xs : List Passed) (n : ℕ) → length xs ≤ n → drop n xs ≡ []
+none-waits xs n few = drop_all n xs few
+
+pub first-waits : (all : List Passed) (n : ℕ) (message : List ℕ) → IsPassedAt all n message → IsFirst message (drop n all)
+first-waits all n message at =
+    let m : Passed = record { message = message; payload = at.payload } in
+    record {
+      payload = at.payload;
+      later = at.later;
+      all_is = ap (drop n) at.all_is ∙ ap (λ (k : ℕ). drop k (at.before ++ m ∷ at.later)) (sym at.number_is) ∙ drop-append_seam at.before (m ∷ at.later);
+    }
+
+-- the message of the number of those that were read is the first that waits
+pub waiting_of : (side : Bool) (ss : List Step) (count : ℕ) (r : Result (Option (Vec ℕ Global)) AllocError) → count ≡ length (passed_by side true ss)
+    → IfOk r (λ one. MatchOption one (length (passed_by (not side) false ss) ≤ count) (λ m. IsPassedAt (passed_by (not side) false ss) count m.items))
+    → IfOk r (λ one. MatchOption one (waiting side ss ≡ []) (λ m. IsFirst m.items (waiting side ss)))
+waiting_of side ss count r same found =
+    let all : List Passed = passed_by (not side) false ss in
+    let n : ℕ = length (passed_by side true ss) in
+    ok-match r found
+    (λ few. none-waits all n (subst (λ (k : ℕ). length all ≤ k) same few))
+    (λ m at. first-waits all n m.items (subst (λ (k : ℕ). IsPassedAt all k m.items) same at))

@@ -27,4 +27,6 @@ pub mod FinishedPrograms
 pub mod Toying
 pub mod Alike
 pub mod Sides
+pub mod WriteCodes
 pub mod Both
+pub mod Turning

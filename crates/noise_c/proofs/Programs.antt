@@ -6,6 +6,7 @@ use Rattle.noise_c.proofs.Common.{Bool, Option, Some, None, count_by, Plan, Own,
 use Rattle.noise_names.specs.Tokens.{is_psk, other}
 use Rattle.noise_names.specs.Plan.{is_one_way}
 use Rattle.noise_names.specs.declared.token.Role.TheVariants.{Initiator, Responder}
+use Rattle.noise_keys.specs.declared.keys.Own.TheVariants.{Static}
 use Rattle.noise_state.specs.declared.symmetric.SymmetricState.{SymmetricState}
 use Rattle.noise_handshake.specs.Party.{Listens}
 use Rattle.noise_handshake.specs.Counterparts.{Counterparts, StartAsCounterparts}
@@ -26,7 +27,7 @@ use Rattle.noise_c.specs.TwoPrograms.Calls.{none, wrote, took, answered, set_psk
 use Rattle.noise_c.proofs.Runs.{either, only-one, keeps-next, keeps-with}
 use Rattle.noise_duel.specs.SetUpAlike.{material_of}
 use Rattle.noise_c.proofs.Transcribing.{Showing, told, shares-left, shares-right}
-use Rattle.noise_c.proofs.Talking.{Talk, silent, speaks, hears, Laws, Together, together}
+use Rattle.noise_c.proofs.Talking.{Talk, silent, speaks, hears, own-stays, Laws, Together, together}
 
 -- ---- what outcomes say
 
@@ -376,6 +377,10 @@ module _ (laws : Laws) (reading : Reading) (showing : Showing)
         hash = λ e. ap (λ (s : SymmetricState). s.hash) (ap (λ (z : Party). z.state) left.stands.keeps.matches)
             ∙ ap (λ (z : Party). z.state.hash) (sym (level e).there)
             ∙ sym (ap (λ (s : SymmetricState). s.hash) (ap (λ (z : Party). z.state) right.stands.keeps.matches));
+        known = λ k e. sym (ap (λ (own : Own → Option (List ℕ)). own Static) (own-stays w0 right.party h.written h.read right.talk))
+            ∙ both.known k (sym (ap (λ (z : Party). z.remote.s) left.stands.keeps.matches) ∙ e);
+        known_too = λ k e. sym (ap (λ (own : Own → Option (List ℕ)). own Static) (own-stays v0 left.party g.written g.read left.talk))
+            ∙ both.known_too k (sym (ap (λ (z : Party). z.remote.s) right.stands.keeps.matches) ∙ e);
         halves = λ interval s r x y made made_too.
             let c = done-alike p g h m made.done made_too.done in
             let mine = made.stand p (with_dh_results left.party (dh_results_in g.last)) left.stands.keeps in

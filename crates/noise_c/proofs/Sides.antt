@@ -5,7 +5,7 @@ use Rattle.std.proofs.lemmas.List.{append_assoc, take-append-drop}
 use Rattle.std.proofs.lemmas.List.Folds.{find-append}
 use Rattle.noise_c.proofs.Common.{take-append_seam, Bool, Option, Some, None, count_by, find, nat_lt, nat_tests, Plan, Own, Token, Party, HandshakeValue, Table, TableEntry, DhResults, AreAmong, dh_result_in, is_for, psks_of, tokens_at, party_with, pairs_in, handshake_from_c, table_in, text_from_c, IsGiven, IsPatternOf, IsUsable, KeepsParty, WasRead, WasWritten, NoiseHandshake}
 use Rattle.noise_names.specs.Tokens.{is_psk}
-use Rattle.noise_c.specs.HandshakeStructs.{ForParty, GoesOn, IsStarted, KeepsPsks, KeepsRest, SetsPsk, Supplies, held_psks, psks_due, psks_in}
+use Rattle.noise_c.specs.HandshakeStructs.{role_in, ForParty, GoesOn, IsStarted, KeepsPsks, KeepsRest, SetsPsk, Supplies, held_psks, psks_due, psks_in}
 use Rattle.noise_c.specs.TwoPrograms.{Calls, IsFront, Passed, Secrets}
 use Rattle.noise_c.specs.TwoPrograms.Calls.{wrote, took, answered, set_psk}
 use Rattle.noise_c.specs.declared.structs.NoiseSetup.{NoiseSetup}
@@ -166,12 +166,15 @@ pub record Side (text : List ℕ) (p : Plan) (s : Secrets) (begun k : NoiseHands
   pub leads : (us xs : List Passed) (last : NoiseHandshake) → Calls p s k us xs last → Calls p s begun (ws ++ us) (rs ++ xs) last
   pub entries : AllRight s.dh_results (table_in k).entries
   pub psks : PsksOf p s.psks k due
+  pub count : k.passed ≡ length ws + length rs
+  pub going : (handshake_from_c p k).ended ≡ false
+  pub role : role_in k.responder ≡ role_in begun.responder
 
 -- the party whose psks are those that the struct holds
-own-party : (p : Plan) (k : NoiseHandshake) → IsPatternOf (text_from_c k) p → KeepsParty k p (party_with pairs_in [] (handshake_from_c p k))
+pub own-party : (p : Plan) (k : NoiseHandshake) → IsPatternOf (text_from_c k) p → KeepsParty k p (party_with pairs_in [] (handshake_from_c p k))
 own-party p k named = record { pattern = named; later = []; matches = refl }
 
-named-in : (text : List ℕ) (p : Plan) (s : Secrets) (begun k : NoiseHandshake) (ws rs : List Passed) (due : List (List ℕ)) → Side text p s begun k ws rs due
+pub named-in : (text : List ℕ) (p : Plan) (s : Secrets) (begun k : NoiseHandshake) (ws rs : List Passed) (due : List (List ℕ)) → Side text p s begun k ws rs due
     → IsPatternOf text p → IsPatternOf (text_from_c k) p
 named-in text p s begun k ws rs due st named = subst (λ (z : List ℕ). IsPatternOf z p) (sym st.name) named
 
@@ -185,27 +188,38 @@ module _ (text : List ℕ) (p : Plan) (s : Secrets) (begun k next : NoiseHandsha
 
   pub side-wrote : (m : Passed) → IsUsable next → ForParty k (λ q v. WasWritten q v m.payload m.message next) → KeepsPsks k next → KeepsRest k next
       → Side text p s begun next (ws ++ m ∷ []) rs due
-  side-wrote m usable written keeps rest = record {
+  side-wrote m usable written keeps rest = let now = (written p v0 (own-party p k here)).keeps.matches in record {
     name = ap text_from_c rest ∙ st.name;
     usable = usable;
     leads = λ us xs last calls.
         subst (λ (z : List Passed). Calls p s begun z (rs ++ xs) last) (sym (append_assoc ws (m ∷ []) us))
         (st.leads (m ∷ us) xs last (wrote k next last m us xs usable written calls));
     entries = subst (λ (t : Table). AllRight s.dh_results t.entries) (sym (ap table_in rest)) st.entries;
-    psks = psks-passed p s.psks k next due st.psks here keeps (ap (λ (z : Party). z.passed) (written p v0 (own-party p k here)).keeps.matches);
+    psks = psks-passed p s.psks k next due st.psks here keeps (ap (λ (z : Party). z.passed) now);
+    count = let more : next.passed ≡ k.passed + 1 = ap (λ (z : Party). z.passed) now in let c = st.count in omega (arith, more, c, length-append ws (m ∷ []));
+    going = ap (λ (z : Party). z.ended) now ∙ st.going;
+    role = ap (λ (z : Party). z.role) now ∙ st.role;
   }
 
   pub side-took : (m : Passed) → IsUsable next → ForParty k (λ q v. WasRead q v m.message m.payload next) → KeepsPsks k next → KeepsRest k next
       → Side text p s begun next ws (rs ++ m ∷ []) due
-  side-took m usable read keeps rest = record {
+  side-took m usable read keeps rest = let now = (read p v0 (own-party p k here)).keeps.matches in record {
     name = ap text_from_c rest ∙ st.name;
     usable = usable;
     leads = λ us xs last calls.
         subst (λ (z : List Passed). Calls p s begun (ws ++ us) z last) (sym (append_assoc rs (m ∷ []) xs))
         (st.leads us (m ∷ xs) last (took k next last m us xs usable read calls));
     entries = subst (λ (t : Table). AllRight s.dh_results t.entries) (sym (ap table_in rest)) st.entries;
-    psks = psks-passed p s.psks k next due st.psks here keeps (ap (λ (z : Party). z.passed) (read p v0 (own-party p k here)).keeps.matches);
+    psks = psks-passed p s.psks k next due st.psks here keeps (ap (λ (z : Party). z.passed) now);
+    count = let more : next.passed ≡ k.passed + 1 = ap (λ (z : Party). z.passed) now in let c = st.count in omega (arith, more, c, length-append rs (m ∷ []));
+    going = ap (λ (z : Party). z.ended) now ∙ st.going;
+    role = ap (λ (z : Party). z.role) now ∙ st.role;
   }
+
+  -- what a DH result leaves as it was
+  abbrev After : Type 0
+  After = (text_from_c next ≡ text_from_c k) × AllRight s.dh_results (table_in next).entries × (held_psks next ≡ held_psks k) × (next.passed ≡ k.passed)
+      × ((handshake_from_c p next).ended ≡ (handshake_from_c p k).ended) × (role_in next.responder ≡ role_in k.responder)
 
   -- a DH result
   pub side-answered : (e : TableEntry) (code : ℕ) → Supplies k next e code → s.dh_results e.own e.remote ≡ Some e.answer → Side text p s begun next ws rs due
@@ -215,10 +229,12 @@ module _ (text : List ℕ) (p : Plan) (s : Secrets) (begun k next : NoiseHandsha
         | inr other ↦ absurd (supplies.other.0 other (st.usable.mark, st.usable.answers))
       ] in
       let now : Supplies k next e 0 = subst (λ (n : ℕ). Supplies k next e n) ok supplies in
-      let after : (text_from_c next ≡ text_from_c k) × AllRight s.dh_results (table_in next).entries × (held_psks next ≡ held_psks k) × (next.passed ≡ k.passed) =
-      which now (nat_lt k.answer_count 8) refl in
+      let after : After = which now (nat_lt k.answer_count 8) refl in
       record {
         name = after.0 ∙ st.name;
+        count = after.3 ∙ st.count;
+        going = after.4 ∙ st.going;
+        role = after.5 ∙ st.role;
         usable = now.stays st.usable;
         leads = λ us xs last calls.
             st.leads us xs last (answered k next last e us xs now (λ _. among-all s.dh_results (table_in next).entries after.1) calls);
@@ -235,8 +251,7 @@ module _ (text : List ℕ) (p : Plan) (s : Secrets) (begun k next : NoiseHandsha
           ];
         };
       } where
-        which : Supplies k next e 0 → (b : Bool) → nat_lt k.answer_count 8 ≡ b
-            → (text_from_c next ≡ text_from_c k) × AllRight s.dh_results (table_in next).entries × (held_psks next ≡ held_psks k) × (next.passed ≡ k.passed)
+        which : Supplies k next e 0 → (b : Bool) → nat_lt k.answer_count 8 ≡ b → After
         which now true less =
             let added = now.added refl (grind (arith, nat_tests, less)) in
             let h = added.handshake p in (
@@ -244,6 +259,8 @@ module _ (text : List ℕ) (p : Plan) (s : Secrets) (begun k next : NoiseHandsha
               subst (λ (t : Table). AllRight s.dh_results t.entries) (sym (ap (λ (z : HandshakeValue Table). z.keys) h)) (right-more s.dh_results (table_in k).entries e st.entries is),
               ap (λ (z : HandshakeValue Table). z.psks) h,
               ap (λ (z : HandshakeValue Table). z.passed) h,
+              ap (λ (z : HandshakeValue Table). z.ended) h,
+              ap (λ (z : HandshakeValue Table). z.role) h,
             )
         which now false more =
             let few = st.usable.answers in
@@ -254,6 +271,8 @@ module _ (text : List ℕ) (p : Plan) (s : Secrets) (begun k next : NoiseHandsha
                   (right-more s.dh_results (drop 1 (table_in k).entries) e (right-drop s.dh_results (table_in k).entries st.entries) is),
               ap (λ (z : HandshakeValue Table). z.psks) h,
               ap (λ (z : HandshakeValue Table). z.passed) h,
+              ap (λ (z : HandshakeValue Table). z.ended) h,
+              ap (λ (z : HandshakeValue Table). z.role) h,
             )
 
   -- a psk
@@ -278,6 +297,9 @@ module _ (text : List ℕ) (p : Plan) (s : Secrets) (begun k next : NoiseHandsha
               }) calls);
           entries = subst (λ (t : Table). AllRight s.dh_results t.entries) (sym (ap (λ (z : HandshakeValue Table). z.keys) (given.handshake p))) st.entries;
           psks = put.1;
+          count = ap (λ (z : HandshakeValue Table). z.passed) (given.handshake p) ∙ st.count;
+          going = ap (λ (z : HandshakeValue Table). z.ended) (given.handshake p) ∙ st.going;
+          role = ap (λ (z : HandshakeValue Table). z.role) (given.handshake p) ∙ st.role;
         }
     | inr (inl broken) ↦ absurd (sets.unusable.0 broken st.usable)
     | inr (inr full) ↦
@@ -289,6 +311,9 @@ module _ (text : List ℕ) (p : Plan) (s : Secrets) (begun k next : NoiseHandsha
           leads = st.leads;
           entries = st.entries;
           psks = psks-full p s.psks k psk rest w none count;
+          count = st.count;
+          going = st.going;
+          role = st.role;
         })
   ] where
     w : PsksOf p s.psks k (psk ∷ rest)
@@ -320,6 +345,9 @@ side-start text prologue p s setup k due named started held front =
       usable = started.usable;
       leads = λ us xs last calls. calls;
       entries = none-handed s.dh_results (table_in k).entries (λ own key. ap (λ (z : Party). z.agree own key) v.matches);
+      count = zero-passed;
+      going = ap (λ (z : Party). z.ended) v.matches;
+      role = refl;
       psks = record {
         used = [];
         count = ap (λ (i : ℕ). psks_of (take i p.messages)) {x = 0} {y = k.passed} (sym zero-passed);

@@ -4,6 +4,9 @@ use Rattle.noise_names.specs.declared.token.Role.{Role}
 use Rattle.noise_names.specs.declared.token.Role.TheVariants.{Initiator, Responder}
 use Rattle.noise_names.specs.Tokens.{other, turn_from}
 use Rattle.noise_names.specs.Validity.{IsValid}
+use Rattle.noise_c.proofs.Common.{Bool, None, Option, Some, if◌then◌else◌}
+use Rattle.std.specs.Prelude.{false, true}
+use Rattle.noise_keys.specs.declared.keys.Own.TheVariants.{Static}
 use Rattle.noise_handshake.specs.Party.{Party, Accepts, Speaks, Listens}
 use Rattle.noise_handshake.specs.Writing.{Writes}
 use Rattle.noise_handshake.specs.Matching.{after_message, after_own}
@@ -18,6 +21,12 @@ pub data Talk : Party → List Passed → List Passed → Party → Type 0 where
   hears : (v last : Party) (c : List (List ℕ)) (m : Passed) (ws rs : List Passed) → Accepts v m.message c m.payload
       → Talk (after_message v c m.payload) ws rs last → Talk v ws (m ∷ rs) last
 
+-- no message changes a party's own keys
+pub own-stays : (v last : Party) (ws rs : List Passed) → Talk v ws rs last → last.own ≡ v.own
+own-stays v _ _ _ (silent _) = refl
+own-stays v last _ _ (speaks _ _ c m ws rs writes more) = own-stays (after_own v c m.payload) last ws rs more
+own-stays v last _ _ (hears _ _ c m ws rs accepts more) = own-stays (after_message v c m.payload) last ws rs more
+
 pub record Laws : Type 0 where
   pub once : (v : Party) (message : List ℕ) (xs ys : List (List ℕ)) (p q : List ℕ)
       → Accepts v message xs p → Accepts v message ys q → (xs ≡ ys) × (p ≡ q)
@@ -28,25 +37,31 @@ pub record Laws : Type 0 where
       → Counterparts (after_own v xs payload) (after_message w xs payload)
   pub turned : (v w : Party) → Counterparts v w → Counterparts w v
 
+-- the static key that the first takes for the other's is the other's
+abbrev pub Known : Party → Party → Type 0
+Known v w = (k : List ℕ) → v.remote.s ≡ Some k → w.own Static ≡ Some k
+
 -- what comes of it
 pub record Together (v w : Party) (ws rs us xs : List Passed) : Type 0 where
   pub there : IsFront xs ws
   pub back : IsFront rs us
   pub equal : v.passed ≡ w.passed → Counterparts v w
+  pub known : Known v w
+  pub known_too : Known w v
   pub next_there : (m : Passed) (more : List Passed) → ws ≡ xs ++ m ∷ more → (c : List (List ℕ)) × Accepts w m.message c m.payload
   pub next_back : (m : Passed) (more : List Passed) → us ≡ rs ++ m ∷ more → (c : List (List ℕ)) × Accepts v m.message c m.payload
 
 -- ---- turns
 
-other-not : (r : Role) → r ≡ other r → ⊥
+pub other-not : (r : Role) → r ≡ other r → ⊥
 other-not Initiator e = cc
 other-not Responder e = cc
 
-other-other : (r : Role) → other (other r) ≡ r
+pub other-other : (r : Role) → other (other r) ≡ r
 other-other Initiator = refl
 other-other Responder = refl
 
-turn-next : (r : Role) (n : ℕ) → turn_from r (suc n) ≡ other (turn_from r n)
+pub turn-next : (r : Role) (n : ℕ) → turn_from r (suc n) ≡ other (turn_from r n)
 turn-next r zero = refl
 turn-next r (suc n) = turn-next (other r) n
 
@@ -107,6 +122,16 @@ beyond-none m more e = cc
 passed-on : (v w : Party) (c : List (List ℕ)) (payload : List ℕ) → Counterparts v w → (after_own v c payload).passed ≡ w.passed → ⊥
 passed-on v w c payload h e = omega (arith, e, ap (λ (z : Party). z.passed) h.there)
 
+shown-key : (b : Bool) (own : Option (List ℕ)) (k : List ℕ) → (if b then own else None) ≡ Some k → own ≡ Some k
+shown-key true own k e = e
+shown-key false own k e = cc
+
+known-there : (v w : Party) → Counterparts v w → Known v w
+known-there v w h k e = shown-key _ (w.own Static) k (sym (ap (λ (z : Party). z.remote.s) h.back) ∙ e)
+
+known-back : (v w : Party) → Counterparts v w → Known w v
+known-back v w h k e = shown-key _ (v.own Static) k (sym (ap (λ (z : Party). z.remote.s) h.there) ∙ e)
+
 module _ (laws : Laws) where
   -- neither has written more than the other has accepted
   level : (v w : Party) → Counterparts v w → Together v w [] [] [] []
@@ -114,6 +139,8 @@ module _ (laws : Laws) where
     there = ([], refl);
     back = ([], refl);
     equal = λ _. h;
+    known = known-there v w h;
+    known_too = known-back v w h;
     next_there = λ m more e. absurd (beyond-none m more e);
     next_back = λ m more e. absurd (beyond-none m more e);
   }
@@ -125,6 +152,8 @@ module _ (laws : Laws) where
     there = (m ∷ [], refl);
     back = ([], refl);
     equal = λ e. absurd (passed-on v w c m.payload h e);
+    known = known-there v w h;
+    known_too = known-back v w h;
     next_there = λ k more e. (
       c,
       subst (λ (z : Passed). Accepts w z.message c z.payload) (only m k more e)
@@ -139,6 +168,8 @@ module _ (laws : Laws) where
     there = t.back;
     back = t.there;
     equal = λ e. laws.turned v w (t.equal (sym e));
+    known = t.known_too;
+    known_too = t.known;
     next_there = t.next_back;
     next_back = t.next_there;
   }
@@ -149,6 +180,8 @@ module _ (laws : Laws) where
     there = front-cons k m xs ws same t.there;
     back = t.back;
     equal = t.equal;
+    known = t.known;
+    known_too = t.known_too;
     next_there = λ n more e. t.next_there n more (cons-parts m k ws (xs ++ n ∷ more) e).1;
     next_back = t.next_back;
   }

@@ -204,15 +204,15 @@ module _ (law : TwoProgramsAgree) (shown : RemoteIsShown) (xor : XorKeysAgree) (
 pub code-is : (n k : ℕ) → nat_eq n k ≡ true → n ≡ k
 code-is n k e = grind (arith, nat_tests)
 
-pub read-fits : (k next : NoiseHandshake) (message after : List ℕ) (results new : NoiseResult) (code : ℕ)
-    → ReadOutcome true k message results next after new code → code ≡ 0 → new.from + new.len ≤ length after
-read-fits k next message after results new _ (accepted u r l d f) e = l
-read-fits k next message after results new _ (read_wants a b f) e = absurd (omega (arith, e))
-read-fits k next message after results new _ (read_wants_psk a b f) e = absurd (omega (arith, e))
-read-fits k next message after results new _ (declined code low a b c f) e = absurd (grind (arith, e, low))
-read-fits k next message after results new _ (refused code low high a b c d f) e = absurd (omega (arith, e, low))
-read-fits k next message after results new _ (too_long a b c d) e = absurd (omega (arith, e))
-read-fits k next message after results new _ (read_unusable a b c) e = absurd (omega (arith, e))
+pub read-fits : (ends : Bool) (k next : NoiseHandshake) (message after : List ℕ) (results new : NoiseResult) (code : ℕ)
+    → ReadOutcome ends k message results next after new code → code ≡ 0 → new.from + new.len ≤ length after
+read-fits ends k next message after results new _ (accepted u r l d f) e = l
+read-fits ends k next message after results new _ (read_wants a b f) e = absurd (omega (arith, e))
+read-fits ends k next message after results new _ (read_wants_psk a b f) e = absurd (omega (arith, e))
+read-fits ends k next message after results new _ (declined code low a b c f) e = absurd (grind (arith, e, low))
+read-fits ends k next message after results new _ (refused code low high a b c d f) e = absurd (omega (arith, e, low))
+read-fits ends k next message after results new _ (too_long a b c d) e = absurd (omega (arith, e))
+read-fits ends k next message after results new _ (read_unusable a b c) e = absurd (omega (arith, e))
 
 -- a place in the first bytes is that place in all
 range-in-front : (front rest : List ℕ) (i n : ℕ) → i + n ≤ length front → slice_range (front ++ rest) i (i + n) ≡ slice_range front i (i + n)

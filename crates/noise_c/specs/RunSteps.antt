@@ -1,40 +1,51 @@
--- What a turn of a program does to its struct, and which calls it adds.
-use Rattle.std.specs.Prelude.{◌≡◌, ◌⊎◌, ◌<◌, ◌+◌, ℕ, List, [], ◌∷◌, ◌++◌, Bool, true, false, not, length, slice_range}
+-- What a run of two programs is made of: the calls of the exports, one after another.
+use Rattle.std.specs.declared.alloc.AllocError.{AllocError}
+use Rattle.std.specs.Prelude.{◌≡◌, ◌⊎◌, ◌<◌, ◌≤◌, ◌+◌, ℕ, List, [], ◌∷◌, ◌++◌, Bool, true, false, length, take, slice_range, Option, Result, IfOk, IfSome, MatchOption}
+use Rattle.noise_names.specs.Plan.{Plan}
+use Rattle.noise_names.specs.Validity.{IsValid}
 use Rattle.noise_c.specs.declared.structs.NoiseHandshake.{NoiseHandshake}
 use Rattle.noise_c.specs.declared.structs.NoiseResult.{NoiseResult}
+use Rattle.noise_c.specs.declared.structs.NoiseSetup.{NoiseSetup}
 use Rattle.noise_c.specs.declared.two_runs.Turn.{Turn}
 use Rattle.noise_c.specs.declared.two_runs.Turn.TheVariants as turn
 use Rattle.noise_c.specs.declared.two_runs.Step.{Step}
-use Rattle.noise_c.specs.declared.codes.numbers.TheConstants.{OK, WANTED, WANTED_PSK}
-use Rattle.noise_c.specs.HandshakeStructs.{entry_in, ForParty, GoesOn, IsUsable, held_psks, KeepsPsks, KeepsRest, SetsPsk, Supplies, WasWritten}
-use Rattle.noise_c.specs.Outcomes.{ReadOutcome}
+use Rattle.noise_c.specs.declared.two_runs.Report.{Report}
+use Rattle.noise_c.specs.declared.two_runs.Ran.{Ran}
+use Rattle.noise_c.specs.declared.codes.numbers.TheConstants.{ENDED, OK, WANTED}
+use Rattle.noise_c.specs.Finishing.{AreHalvesOf, Finishes}
+use Rattle.noise_c.specs.HandshakeStructs.{entry_in, key_from_c, key_to_c, start_code, ForPattern, GoesOn, IsPatternOf, IsStarted, IsUsable, held_psks, KeepsPsks, KeepsRest, SetsPsk, Supplies}
+use Rattle.noise_c.specs.Outcomes.{ReadOutcome, WriteOutcome}
 use Rattle.noise_c.specs.TwoPrograms.{Passed}
-use Rattle.noise_c.specs.TwoRuns.{passed_by}
+use Rattle.noise_c.specs.TwoRuns.{waiting}
 
--- what `noise_write` leaves
-pub record WritesStep (side : Bool) (old new : NoiseHandshake) (payload : List ℕ) (s : Step) : Type 0 where
+-- what `noise_write` returned and left
+pub record WritesStep (side : Bool) (old new : NoiseHandshake) (payload : List ℕ) (room : ℕ) (s : Step) : Type 0 where
   pub side_is : s.responder ≡ side
   pub writes : s.reads ≡ false
   pub payload_is : s.payload.items ≡ payload
-  pub usable : s.code ≡ OK → IsUsable new
-  pub written : s.code ≡ OK → ForParty old (λ p v. WasWritten p v s.payload.items s.message.items new)
+  pub results : NoiseResult
+  pub next : NoiseResult
+  pub out : List ℕ
+  pub after : List ℕ
+  pub room_is : length out ≡ room
+  pub outcome : WriteOutcome old payload out results new after next s.code
+  pub message_is : s.code ≡ OK → s.message.items ≡ take next.len after
   pub held : s.code ≡ OK → KeepsPsks old new
   pub rest : s.code ≡ OK → KeepsRest old new
-  pub unchanged : OK < s.code → new ≡ old
 
--- what `noise_read` leaves
-pub record ReadsStep (side : Bool) (old new : NoiseHandshake) (message : List ℕ) (s : Step) : Type 0 where
+-- what `noise_read` returned and left, or `noise_try_read`, whose refusal doesn't end the handshake
+pub record ReadsStep (side ends : Bool) (old new : NoiseHandshake) (message : List ℕ) (s : Step) : Type 0 where
   pub side_is : s.responder ≡ side
   pub reads : s.reads ≡ true
   pub message_is : s.message.items ≡ message
   pub results : NoiseResult
   pub next : NoiseResult
   pub after : List ℕ
-  pub outcome : ReadOutcome true old message results new after next s.code
+  pub outcome : ReadOutcome ends old message results new after next s.code
   pub payload_is : s.code ≡ OK → s.payload.items ≡ slice_range after next.from (next.from + next.len)
   pub held : s.code ≡ OK → KeepsPsks old new
   pub rest : s.code ≡ OK → KeepsRest old new
-  pub unchanged : (s.code ≡ WANTED) ⊎ (s.code ≡ WANTED_PSK) → new ≡ old
+  pub left : (s.code ≤ ENDED) ⊎ (WANTED ≤ s.code) → OK < s.code → new ≡ old
 
 -- the message of that number has these bytes
 pub record IsPassedAt (all : List Passed) (number : ℕ) (message : List ℕ) : Type 0 where
@@ -44,17 +55,71 @@ pub record IsPassedAt (all : List Passed) (number : ℕ) (message : List ℕ) : 
   pub number_is : length before ≡ number
   pub all_is : all ≡ before ++ record { message = message; payload = payload } ∷ later
 
--- what a turn reads: the next message, or nothing
-abbrev pub ReadTurn : Bool → NoiseHandshake → NoiseHandshake → List Step → List Step → Type 0
-ReadTurn side old new ss ts = ((new ≡ old) × (ts ≡ ss))
-    ⊎ ((message : List ℕ) × (s : Step)
-    × IsPassedAt (passed_by (not side) false ss) (length (passed_by side true ss)) message
-    × ReadsStep side old new message s × (ts ≡ ss ++ s ∷ []))
+-- the first message has these bytes
+pub record IsFirst (message : List ℕ) (all : List Passed) : Type 0 where
+  pub payload : List ℕ
+  pub later : List Passed
+  pub all_is : all ≡ record { message = message; payload = payload } ∷ later
 
+-- The first message that waits is read, and nothing is done where none does.
+abbrev pub ReadTurn : Bool → Bool → NoiseHandshake → NoiseHandshake → List Step → List Step → Type 0
+ReadTurn side ends old new ss ts = ((waiting side ss ≡ []) × (new ≡ old) × (ts ≡ ss))
+    ⊎ ((message : List ℕ) × (s : Step) × IsFirst message (waiting side ss) × ReadsStep side ends old new message s
+    × (ts ≡ ss ++ s ∷ []))
+
+-- what a turn of a program does to its struct, and to the steps
 abbrev pub Turned : Bool → Turn → NoiseHandshake → NoiseHandshake → List Step → List Step → Type 0
-Turned side (turn.Write payload) old new ss ts =
-    (s : Step) × WritesStep side old new payload.items s × (ts ≡ ss ++ s ∷ [])
-Turned side turn.Read old new ss ts = ReadTurn side old new ss ts
+Turned side (turn.Write payload room) old new ss ts =
+    (s : Step) × WritesStep side old new payload.items room s × (ts ≡ ss ++ s ∷ [])
+Turned side turn.Read old new ss ts = ReadTurn side true old new ss ts
+Turned side turn.TryRead old new ss ts = ReadTurn side false old new ss ts
 Turned side (turn.Answer a) old new ss ts = (code : ℕ) × Supplies old new (entry_in a) code × (ts ≡ ss)
 Turned side (turn.SetPsk psk) old new ss ts = (code : ℕ) × SetsPsk old new psk code × (code ≡ OK → GoesOn old new psk)
     × (IsUsable old → IsUsable new) × (IsUsable old → length (held_psks old) ≡ old.psk_count) × (ts ≡ ss)
+
+-- The turns, one after another, lead from the structs of both programs to these, with these steps.
+pub data Runs (a0 b0 : NoiseHandshake) : List (Bool × Turn) → NoiseHandshake → NoiseHandshake → List Step → Type 0 where
+  none : Runs a0 b0 [] a0 b0 []
+  initiator : (turns : List (Bool × Turn)) (a next b : NoiseHandshake) (ss ts : List Step) (t : Turn) → Runs a0 b0 turns a b ss
+      → Turned false t a next ss ts → Runs a0 b0 (turns ++ (false, t) ∷ []) next b ts
+  responder : (turns : List (Bool × Turn)) (a b next : NoiseHandshake) (ss ts : List Step) (t : Turn) → Runs a0 b0 turns a b ss
+      → Turned true t b next ss ts → Runs a0 b0 (turns ++ (true, t) ∷ []) a next ts
+
+-- what `noise_stage`, `noise_hash` and `noise_remote_static` report
+pub record Reports (k : NoiseHandshake) (r : Report) : Type 0 where
+  pub messages : ForPattern k (λ p. r.messages ≡ length p.messages)
+  pub passed : r.passed ≡ k.passed
+  pub hash : r.hash ≡ k.hash
+  pub remote_static : r.remote_static ≡ key_to_c (key_from_c k.remote_s)
+
+-- What comes of a run that led to these structs: both report, and finish by `noise_finish` if both can.
+pub record EndsAs (a b : NoiseHandshake) (interval : ℕ) (ran : Ran) : Type 0 where
+  pub initiator : Reports a ran.initiator
+  pub responder : Reports b ran.responder
+  pub halves : MatchOption ran.halves (Finishes a OK → Finishes b OK → ⊥)
+      (λ x. AreHalvesOf a interval x.sender x.receiver × AreHalvesOf b interval x.their_sender x.their_receiver)
+
+-- A run: both handshakes began by `noise_start`, each turn made its call, and this came of it.
+pub record IsMade (text prologue : List ℕ) (g h : NoiseSetup) (interval : ℕ) (turns : List (Bool × Turn)) (ran : Ran)
+    : Type 0 where
+  pub begun : NoiseHandshake
+  pub begun_too : NoiseHandshake
+  pub last : NoiseHandshake
+  pub last_too : NoiseHandshake
+  pub started : IsStarted text prologue g begun
+  pub started_too : IsStarted text prologue h begun_too
+  pub runs : Runs begun begun_too turns last last_too ran.steps.items
+  pub ends : EndsAs last last_too interval ran
+
+abbrev pub RunIsMade : List ℕ → List ℕ → NoiseSetup → NoiseSetup → ℕ → List (Bool × Turn) → Result (Option Ran) AllocError
+    → Type 0
+RunIsMade text prologue g h interval turns result =
+    IfOk result (λ one. IfSome one (IsMade text prologue g h interval turns))
+
+-- both starts return OK: the text is of a valid pattern, whose setups have no fault
+pub record BothStart (text prologue : List ℕ) (g h : NoiseSetup) : Type 0 where
+  pub pattern : Plan
+  pub named : IsPatternOf text pattern
+  pub valid : IsValid pattern
+  pub initiator : start_code pattern prologue g ≡ OK
+  pub responder : start_code pattern prologue h ≡ OK

@@ -1,5 +1,5 @@
 -- The calls of two programs on their handshakes, each of which reads what the other wrote.
-use Rattle.std.specs.Prelude.{◌≡◌, ◌⊎◌, ℕ, ◌+◌, Bool, List, [], ◌∷◌, ◌++◌, length, map, take, slice_range, if◌then◌else◌}
+use Rattle.std.specs.Prelude.{◌≡◌, ◌⊎◌, ℕ, ◌+◌, Bool, List, [], ◌∷◌, ◌++◌, length, map, take, slice_range, if◌then◌else◌, Some}
 use Rattle.noise_names.specs.declared.token.Role.{Role}
 use Rattle.noise_names.specs.declared.token.Role.TheVariants.{Initiator, Responder}
 use Rattle.noise_names.specs.Tokens.{other, same_role, turn_from}
@@ -21,7 +21,7 @@ use Rattle.noise_c.specs.DhResults.{AreAmong, DhResults}
 use Rattle.noise_c.specs.Finishing.{AreHalvesOf}
 use Rattle.noise_c.specs.HalfStructs.{half_from_c}
 use Rattle.noise_c.specs.HandedIn.{dh_results_in}
-use Rattle.noise_c.specs.HandshakeStructs.{handshake_from_c, psks_in, public_in, remote_of, role_in, table_of, ForParty, GoesOn, IsPatternOf, IsStarted, IsUsable, KeepsParty, Supplies, WasRead, WasWritten}
+use Rattle.noise_c.specs.HandshakeStructs.{handshake_from_c, key_from_c, psks_in, public_in, remote_of, role_in, table_of, ForParty, GoesOn, IsPatternOf, IsStarted, IsUsable, KeepsParty, Supplies, WasRead, WasWritten}
 use Rattle.noise_c.specs.Outcomes.{ReadOutcome}
 
 -- what a program has beside its struct: the DH results of its private keys, and a psk for each psk token
@@ -152,8 +152,8 @@ abbrev pub TakesNext : List Passed → List Passed → NoiseHandshake → Type 0
 TakesNext written read k = (m : Passed) (more : List Passed) → written ≡ read ++ m ∷ more → IsTaken k m
 
 -- What comes of it: each payload that was handed out is the writer's, the messages are the transcript's, what comes
--- next is taken, and once equally many messages have passed both hashes are one; and the halves that both finish
--- with face each other.
+-- next is taken, and once equally many messages have passed both hashes are one; the static key that one takes for the
+-- other's is the other's; and the halves that both finish with face each other.
 pub record Agree (p : Plan) (g h : Program) : Type 0 where
   pub there : IsFront h.read g.written
   pub back : IsFront g.read h.written
@@ -163,6 +163,8 @@ pub record Agree (p : Plan) (g h : Program) : Type 0 where
   pub next_there : TakesNext g.written h.read h.last
   pub next_back : TakesNext h.written g.read g.last
   pub hash : g.last.passed ≡ h.last.passed → g.last.hash ≡ h.last.hash
+  pub known : (k : List ℕ) → key_from_c g.last.remote_s ≡ Some k → key_from_c h.setup.s ≡ Some k
+  pub known_too : (k : List ℕ) → key_from_c h.last.remote_s ≡ Some k → key_from_c g.setup.s ≡ Some k
   pub halves : (interval : ℕ) (s r t u : NoiseHalf)
       → AreHalvesOf g.last interval s r → AreHalvesOf h.last interval t u → Face s r t u
 

@@ -1,17 +1,19 @@
 -- Two programs on the C calls, turn by turn, as whoever has only their bytes and numbers sees them: what each handed in,
 -- and what each call returned.
 use Rattle.std.specs.declared.alloc.AllocError.{AllocError}
-use Rattle.std.specs.Prelude.{◌≡◌, ◌≢◌, ◌⊎◌, ℕ, ◌==◌, ◌&&◌, not, List, [], ◌∷◌, ◌++◌, Bool, true, false, All, Option, Some, if◌then◌else◌, Result, IfOk, IfSome}
+use Rattle.std.specs.Prelude.{◌≡◌, ◌≢◌, ◌⊎◌, ◌↔◌, ◌<◌, ◌+◌, ℕ, zero, suc, ◌==◌, ◌&&◌, not, List, [], ◌∷◌, ◌++◌, drop, length, Bool, true, false, All, Option, Some, if◌then◌else◌, Result, IfOk, IfSome, IsSome}
+use Rattle.std.specs.Bool.{beq}
 use Rattle.noise_keys.specs.declared.keys.Own.{Own}
 use Rattle.noise_keys.specs.Keys.{key_of}
+use Rattle.noise_c.specs.declared.structs.NoiseHalf.{NoiseHalf}
 use Rattle.noise_c.specs.declared.structs.NoiseSetup.{NoiseSetup}
 use Rattle.noise_c.specs.declared.two_runs.Turn.{Turn}
 use Rattle.noise_c.specs.declared.two_runs.Turn.TheVariants as turn
 use Rattle.noise_c.specs.declared.two_runs.Step.{Step}
 use Rattle.noise_c.specs.declared.two_runs.Ran.{Ran}
-use Rattle.noise_c.specs.declared.codes.numbers.TheConstants.{OK, WANTED, WANTED_PSK}
+use Rattle.noise_c.specs.declared.codes.numbers.TheConstants.{DONE, NOT_YOUR_TURN, OK, RECEIVER, ROOM, SENDER, TOO_LONG, WANTED, WANTED_PSK}
 use Rattle.noise_c.specs.HandshakeStructs.{key_from_c, own_in, psks_in}
-use Rattle.noise_c.specs.TwoPrograms.{Face, IsFront, Passed}
+use Rattle.noise_c.specs.TwoPrograms.{IsFront, Passed}
 
 -- ---- what is handed in
 
@@ -33,11 +35,6 @@ abbrev pub Answers : Dh → Turn → Type 0
 Answers d (turn.Answer a) = a.answer ≡ d (own_in a.of_static) a.remote
 Answers d _ = Unit {0}
 
--- the psks that a program hands in after the start
-abbrev pub psk_of : Turn → List (List ℕ)
-psk_of (turn.SetPsk psk) = psk ∷ []
-psk_of _ = []
-
 -- the turns of a program, of the responder where the flag is true
 abbrev pub turns_of : Bool → List (Bool × Turn) → List Turn
 turns_of side [] = []
@@ -45,9 +42,11 @@ turns_of true ((true, t) ∷ more) = t ∷ turns_of true more
 turns_of false ((false, t) ∷ more) = t ∷ turns_of false more
 turns_of side (_ ∷ more) = turns_of side more
 
+-- the psks that these turns hand in
 abbrev pub psks_of_turns : List Turn → List (List ℕ)
 psks_of_turns [] = []
-psks_of_turns (t ∷ more) = psk_of t ++ psks_of_turns more
+psks_of_turns (turn.SetPsk psk ∷ more) = psk ∷ psks_of_turns more
+psks_of_turns (_ ∷ more) = psks_of_turns more
 
 -- The initiator and the responder hand in psks of one list, in order, each the other's public keys if any, and DH
 -- results that agree: what the private key x of the one makes of the public key y of the other is what y makes of x.
@@ -64,32 +63,88 @@ pub record BeginAlike (g h : NoiseSetup) (turns : List (Bool × Turn)) (d d_too 
 
 -- ---- what comes of it
 
-abbrev pub agrees : Bool → Bool → Bool
-agrees true b = b
-agrees false b = not b
-
 -- the messages that a program wrote, or read, with their payloads
 abbrev pub passed_by : Bool → Bool → List Step → List Passed
 passed_by side reads [] = []
 passed_by side reads (s ∷ more) =
-    (if agrees s.responder side && agrees s.reads reads && (s.code == OK)
+    (if beq s.responder side && beq s.reads reads && (s.code == OK)
     then record { message = s.message.items; payload = s.payload.items } ∷ [] else [])
     ++ passed_by side reads more
 
--- A call that reads returns OK, or asks for a DH result or a psk. It refuses nothing.
-abbrev pub ReadsOrAsks : Step → Type 0
-ReadsOrAsks s = s.reads ≡ true → (s.code ≡ OK) ⊎ (s.code ≡ WANTED) ⊎ (s.code ≡ WANTED_PSK)
+-- how many messages have passed at a program
+abbrev pub passed_at : Bool → List Step → ℕ
+passed_at side steps = length (passed_by side false steps) + length (passed_by side true steps)
 
--- What each read is what the other wrote, with its payload, and nothing is refused; where as many have passed at both,
--- both have one hash; and where both finish, their halves face each other.
-pub record RunIsRight (g h : NoiseSetup) (ran : Ran) : Type 0 where
-  pub there : IsFront (passed_by true true ran.steps.items) (passed_by false false ran.steps.items)
-  pub back : IsFront (passed_by false true ran.steps.items) (passed_by true false ran.steps.items)
-  pub read : All ReadsOrAsks ran.steps.items
-  pub hash : ran.passed ≡ ran.passed_too → ran.hash ≡ ran.hash_too
-  pub halves : IfSome ran.halves (λ x. Face x.sender x.receiver x.their_sender x.their_receiver)
+-- the messages that the other program wrote and this one hasn't read
+abbrev pub waiting : Bool → List Step → List Passed
+waiting side steps = drop (length (passed_by side true steps)) (passed_by (not side) false steps)
+
+-- whether a program writes the message after so many: the initiator writes the first, and then they take turns
+abbrev pub is_writer : Bool → ℕ → Bool
+is_writer side zero = not side
+is_writer side (suc n) = not (is_writer side n)
+
+-- it asks for a DH result or a psk
+abbrev pub Asks : ℕ → Type 0
+Asks code = (code ≡ WANTED) ⊎ (code ≡ WANTED_PSK)
+
+-- A write of this payload where there is so much room, after so many of the pattern's messages: it's declined where it
+-- isn't the program's turn, and else the message is written, or is too long, or the call asks.
+pub record IsWritten (side : Bool) (payload : List ℕ) (room messages passed : ℕ) (s : Step) : Type 0 where
+  pub call : (s.responder ≡ side) × (s.reads ≡ false)
+  pub payload_is : s.payload.items ≡ payload
+  pub done : passed ≡ messages → s.code ≡ DONE
+  pub early : passed ≢ messages → is_writer side passed ≡ false → s.code ≡ NOT_YOUR_TURN
+  pub due : passed ≢ messages → is_writer side passed ≡ true
+      → (s.code ≡ OK) ⊎ Asks s.code ⊎ (s.code ≡ TOO_LONG) ⊎ ((s.code ≡ ROOM) × (room < 65535))
+
+-- A read of this message: it's read, with its payload, or the call asks. It's neither refused nor declined.
+pub record IsRead (side : Bool) (m : Passed) (s : Step) : Type 0 where
+  pub call : (s.responder ≡ side) × (s.reads ≡ true)
+  pub message_is : s.message.items ≡ m.message
+  pub payload_is : s.code ≡ OK → s.payload.items ≡ m.payload
+  pub codes : (s.code ≡ OK) ⊎ Asks s.code
+
+-- the first message that waits is read, if one does
+abbrev pub ReadsFirst : Bool → List Passed → List Step → Type 0
+ReadsFirst side [] more = more ≡ []
+ReadsFirst side (m ∷ _) more = (s : Step) × IsRead side m s × (more ≡ s ∷ [])
+
+-- what a turn adds to the steps
+abbrev pub Adds : ℕ → Bool → Turn → List Step → List Step → Type 0
+Adds messages side (turn.Write payload room) steps more =
+    (s : Step) × IsWritten side payload.items room messages (passed_at side steps) s × (more ≡ s ∷ [])
+Adds messages side turn.Read steps more = ReadsFirst side (waiting side steps) more
+Adds messages side turn.TryRead steps more = ReadsFirst side (waiting side steps) more
+Adds messages side _ steps more = more ≡ []
+
+-- the steps of these turns, one turn after another
+pub data AreRight (messages : ℕ) : List (Bool × Turn) → List Step → Type 0 where
+  none : AreRight messages [] []
+  one_more : (turns : List (Bool × Turn)) (steps more : List Step) (side : Bool) (t : Turn) → AreRight messages turns steps
+      → Adds messages side t steps more → AreRight messages (turns ++ (side, t) ∷ []) (steps ++ more)
+
+-- a half that seals, and the other program's half that opens what it seals
+pub record Meet (sender receiver : NoiseHalf) : Type 0 where
+  pub kinds : (sender.mark ≡ SENDER) × (receiver.mark ≡ RECEIVER)
+  pub key : receiver.key ≡ sender.key
+  pub nonce : receiver.nonce ≡ sender.nonce
+  pub interval : receiver.interval ≡ sender.interval
+
+-- The steps are those of the turns. Where as many messages have passed at both, both have one hash. The static key that
+-- one takes for the other's is the other's. Both finish once all messages have passed, and then their halves meet.
+pub record RunIsRight (g h : NoiseSetup) (turns : List (Bool × Turn)) (ran : Ran) : Type 0 where
+  pub steps : AreRight ran.initiator.messages turns ran.steps.items
+  pub passed : ran.initiator.passed ≡ passed_at false ran.steps.items
+  pub passed_too : ran.responder.passed ≡ passed_at true ran.steps.items
+  pub hash : ran.initiator.passed ≡ ran.responder.passed → ran.initiator.hash ≡ ran.responder.hash
+  pub known : (k : List ℕ) → key_from_c ran.initiator.remote_static ≡ Some k → key_from_c h.s ≡ Some k
+  pub known_too : (k : List ℕ) → key_from_c ran.responder.remote_static ≡ Some k → key_from_c g.s ≡ Some k
+  pub finished : IsSome ran.halves
+      ↔ ((ran.initiator.passed ≡ ran.initiator.messages) × (ran.responder.passed ≡ ran.initiator.messages))
+  pub halves : IfSome ran.halves (λ x. Meet x.sender x.their_receiver × Meet x.their_sender x.receiver)
 
 -- Whatever both programs call, in whatever order: where both starts return OK.
 abbrev pub RunsRight : NoiseSetup → NoiseSetup → List (Bool × Turn) → Result (Option Ran) AllocError → Type 0
 RunsRight g h turns result = (d d_too : Dh) (psks : List (List ℕ)) → BeginAlike g h turns d d_too psks
-    → IfOk result (λ one. IfSome one (RunIsRight g h))
+    → IfOk result (λ one. IfSome one (RunIsRight g h turns))

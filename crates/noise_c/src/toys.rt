@@ -22,7 +22,7 @@ use noise_handshake::laws::{setup_is_whole, xor_keys_agree};
 use noise_handshake::{Keys, XorKeys};
 
 // Memory for a key, and for a handshake.
-const NO_KEY: NoiseKey = NoiseKey {
+pub(crate) const NO_KEY: NoiseKey = NoiseKey {
     present: 0,
     bytes: [0; 32],
 };

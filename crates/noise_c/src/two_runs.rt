@@ -1,35 +1,41 @@
 //! Two programs on the C calls, run turn by turn: whatever they call, and in whatever order. No export calls it, and the
 //! static library has none of it.
 
-ghost use Rattle.std.specs.Prelude.{◌≡◌, ◌≤◌, length, true, false, IfOk, IfSome};
-ghost use Rattle.noise_c.specs.Finishing.{AreHalvesOf};
-ghost use Rattle.noise_c.specs.RunSteps.{IsPassedAt, ReadsStep, Turned, WritesStep};
-ghost use Rattle.noise_c.specs.TwoRuns.{RunsRight, passed_by};
+ghost use Rattle.std.specs.Prelude.{◌≡◌, ◌⊎◌, ◌<◌, ◌≤◌, [], length, true, false, IfOk, IsSome, MatchOption};
+ghost use Rattle.noise_c.specs.Finishing.{AreHalvesOf, Finishes};
+ghost use Rattle.noise_c.specs.HandshakeStructs.{IsUsable, KeepsPsks, KeepsRest};
+ghost use Rattle.noise_c.specs.Outcomes.{ReadOutcome};
+ghost use Rattle.noise_c.specs.RunSteps.{BothStart, EndsAs, IsFirst, IsPassedAt, ReadTurn, ReadsStep, Reports, RunIsMade, Turned, WritesStep};
+ghost use Rattle.noise_c.specs.TwoRuns.{RunsRight, passed_by, waiting};
+ghost use Rattle.noise_c.specs.declared.codes.numbers.TheConstants.{ENDED, OK, WANTED};
 
 use crate::codes::numbers::OK;
 use crate::late::{noise_answer, noise_set_psk};
-use crate::messages::{noise_read, noise_write};
+use crate::messages::{noise_read, noise_try_read, noise_write};
 use crate::patterns::pattern_of;
+use crate::progress::{noise_hash, noise_remote_static, noise_stage};
 use crate::reading::NO_HALF;
 use crate::split::noise_finish;
 use crate::start::noise_start;
-use crate::structs::NoiseHandshake;
 pub use crate::structs::{NoiseAnswer, NoiseHalf, NoiseKey, NoiseSetup};
-use crate::toys::{NO_HANDSHAKE, NO_RESULT};
+use crate::structs::{NoiseHandshake, NoiseResult, NoiseStageResult};
+use crate::toys::{NO_HANDSHAKE, NO_KEY, NO_RESULT};
 use crate::two_programs::two_programs_agree;
 use noise_handshake::laws::{setup_is_whole, tokens_match};
 use std::alloc::{AllocError, Global};
 
-/// What a program does in its turn.
+/// What a program does in its turn: it writes this payload where there is room for so many bytes, reads the next
+/// message by `noise_read` or `noise_try_read`, or hands in a DH result or a psk.
 #[derive(Drop)]
 pub enum Turn {
-    Write(Vec<u8>),
+    Write(Vec<u8>, u16),
     Read,
+    TryRead,
     Answer(NoiseAnswer),
     SetPsk([u8; 32]),
 }
 
-/// A call of `noise_write` or `noise_read`, and what came of it.
+/// A call that writes or reads, and what came of it.
 #[derive(Drop)]
 pub struct Step {
     pub responder: bool,
@@ -37,6 +43,16 @@ pub struct Step {
     pub code: u32,
     pub message: Vec<u8>,
     pub payload: Vec<u8>,
+}
+
+/// What the exports report of a handshake at the end: how many messages the pattern has, how many of them have passed,
+/// the handshake hash, and the other party's static key.
+#[derive(Drop)]
+pub struct Report {
+    pub messages: u8,
+    pub passed: u8,
+    pub hash: [u8; 32],
+    pub remote_static: NoiseKey,
 }
 
 /// The halves of both programs.
@@ -48,14 +64,12 @@ pub struct Halves {
     pub their_receiver: NoiseHalf,
 }
 
-/// What came of a run, the initiator's first.
+/// What came of a run.
 #[derive(Drop)]
 pub struct Ran {
     pub steps: Vec<Step>,
-    pub passed: u8,
-    pub passed_too: u8,
-    pub hash: [u8; 32],
-    pub hash_too: [u8; 32],
+    pub initiator: Report,
+    pub responder: Report,
     pub halves: Option<Halves>,
 }
 
@@ -65,10 +79,11 @@ fn write(
     handshake: &mut NoiseHandshake,
     responder: bool,
     payload: &[u8],
+    room: u16,
 ) -> Result<Step, AllocError>
-    ensures { IfOk result (WritesStep responder handshake.old handshake.new payload.now) }
+    ensures { IfOk result (WritesStep responder handshake.old handshake.new payload.now room) }
 {
-    let mut out = vec![in alloc; 0u8; 65535]?;
+    let mut out = vec![in alloc; 0u8; room as usize]?;
     let mut results = NO_RESULT;
     let code = noise_write(handshake, payload, &mut out, &mut results);
     let message = if code == OK {
@@ -86,18 +101,39 @@ fn write(
     })
 }
 
-// Reads a message.
+// Reads a message by `noise_read`, whose refusal ends the handshake, or by `noise_try_read`.
+fn read_by(
+    handshake: &mut NoiseHandshake,
+    ends: bool,
+    message: &mut [u8],
+    results: &mut NoiseResult,
+) -> u32
+    ensures outcome { ReadOutcome ends handshake.old message.old results.old
+        handshake.new message.new results.new result }
+    ensures held { result ≡ OK → KeepsPsks handshake.old handshake.new }
+    ensures rest { result ≡ OK → KeepsRest handshake.old handshake.new }
+    ensures left { (result ≤ ENDED) ⊎ (WANTED ≤ result) → OK < result → handshake.new ≡ handshake.old }
+{
+    if ends {
+        noise_read(handshake, message, results)
+    } else {
+        noise_try_read(handshake, message, results)
+    }
+}
+
+// Reads a message in memory of its own.
 fn read(
     alloc: Global,
     handshake: &mut NoiseHandshake,
     responder: bool,
+    ends: bool,
     message: Vec<u8>,
 ) -> Result<Step, AllocError>
-    ensures { IfOk result (ReadsStep responder handshake.old handshake.new message.items) }
+    ensures { IfOk result (ReadsStep responder ends handshake.old handshake.new message.items) }
 {
     let mut came = Vec::from_slice(alloc, &message)?;
     let mut results = NO_RESULT;
-    let code = noise_read(handshake, &mut came, &mut results);
+    let code = read_by(handshake, ends, &mut came, &mut results);
     let payload = if code == OK {
         Vec::from_slice(alloc, &came[results.from..results.from + results.len])?
     } else {
@@ -112,14 +148,14 @@ fn read(
     })
 }
 
-// The message of that number of those that a program wrote.
+// The message of that number of those that a program wrote, or none where there are no more.
 fn message_of(
     alloc: Global,
     steps: &[Step],
     responder: bool,
     number: usize,
 ) -> Result<Option<Vec<u8>>, AllocError>
-    ensures { IfOk result (λ one. IfSome one
+    ensures { IfOk result (λ one. MatchOption one (length (passed_by responder false steps.now) ≤ number)
         (λ m. IsPassedAt (passed_by responder false steps.now) number m.items)) }
 {
     let Some((first, more)) = steps.split_first() else {
@@ -150,6 +186,38 @@ fn count_read(steps: &[Step], responder: bool) -> usize
     }
 }
 
+// The first message that waits for a program.
+#[tactic(auto, using(crate::proofs::Both::waiting_of))]
+fn first_waiting(
+    alloc: Global,
+    steps: &[Step],
+    responder: bool,
+) -> Result<Option<Vec<u8>>, AllocError>
+    ensures { IfOk result (λ one. MatchOption one (waiting responder steps.now ≡ [])
+        (λ m. IsFirst m.items (waiting responder steps.now))) }
+{
+    let count = count_read(steps, responder);
+    message_of(alloc, steps, !responder, count)
+}
+
+// Reads the first message that waits, if one does.
+fn take_read(
+    alloc: Global,
+    handshake: &mut NoiseHandshake,
+    responder: bool,
+    ends: bool,
+    steps: &mut Vec<Step>,
+) -> Result<(), AllocError>
+    ensures { IfOk result (λ _. ReadTurn responder ends handshake.old handshake.new steps.old.items steps.new.items) }
+{
+    let Some(message) = first_waiting(alloc, steps, responder)? else {
+        return Ok(());
+    };
+    let step = read(alloc, handshake, responder, ends, message)?;
+    steps.push(step)?;
+    Ok(())
+}
+
 // Takes a program's turn.
 fn take_turn(
     alloc: Global,
@@ -161,20 +229,13 @@ fn take_turn(
     ensures { IfOk result (λ _. Turned responder turn.now handshake.old handshake.new steps.old.items steps.new.items) }
 {
     match turn {
-        Turn::Write(payload) => {
-            let step = write(alloc, handshake, responder, payload)?;
+        Turn::Write(payload, room) => {
+            let step = write(alloc, handshake, responder, payload, *room)?;
             steps.push(step)?;
             Ok(())
         }
-        Turn::Read => {
-            let count = count_read(steps, responder);
-            let Some(message) = message_of(alloc, steps, !responder, count)? else {
-                return Ok(());
-            };
-            let step = read(alloc, handshake, responder, message)?;
-            steps.push(step)?;
-            Ok(())
-        }
+        Turn::Read => take_read(alloc, handshake, responder, true, steps),
+        Turn::TryRead => take_read(alloc, handshake, responder, false, steps),
         Turn::Answer(entry) => {
             noise_answer(handshake, entry.of_static, &entry.remote, &entry.answer);
             Ok(())
@@ -186,19 +247,91 @@ fn take_turn(
     }
 }
 
+// What the exports report of a handshake.
+fn report_of(handshake: &NoiseHandshake) -> Report
+    requires usable { IsUsable handshake.now }
+    ensures { Reports handshake.now result }
+{
+    let mut stage = NoiseStageResult {
+        messages: 0,
+        passed: 0,
+        ended: 0,
+        writes_next: 0,
+    };
+    let mut hash = [0; 32];
+    let mut remote_static = NO_KEY;
+    noise_stage(handshake, &mut stage);
+    noise_hash(handshake, &mut hash);
+    noise_remote_static(handshake, &mut remote_static);
+    Report {
+        messages: stage.messages,
+        passed: stage.passed,
+        hash,
+        remote_static,
+    }
+}
+
+// The halves of both, if both finish.
+fn finish_both(a: &mut NoiseHandshake, b: &mut NoiseHandshake, interval: u64) -> Option<Halves>
+    ensures { MatchOption result (Finishes a.old OK → Finishes b.old OK → ⊥)
+        (λ x. AreHalvesOf a.old interval x.sender x.receiver
+        × AreHalvesOf b.old interval x.their_sender x.their_receiver) }
+{
+    let mut halves = Halves {
+        sender: NO_HALF,
+        receiver: NO_HALF,
+        their_sender: NO_HALF,
+        their_receiver: NO_HALF,
+    };
+    if noise_finish(a, interval, &mut halves.sender, &mut halves.receiver) != OK {
+        return None;
+    }
+    if noise_finish(
+        b,
+        interval,
+        &mut halves.their_sender,
+        &mut halves.their_receiver,
+    ) != OK
+    {
+        return None;
+    }
+    Some(halves)
+}
+
+// What came of a run of these steps that led to these structs.
+fn end(a: &mut NoiseHandshake, b: &mut NoiseHandshake, steps: Vec<Step>, interval: u64) -> Ran
+    requires usable { IsUsable a.old }
+    requires usable_too { IsUsable b.old }
+    ensures ends { EndsAs a.old b.old interval result }
+    ensures steps { result.steps ≡ steps }
+{
+    let initiator = report_of(a);
+    let responder = report_of(b);
+    let halves = finish_both(a, b, interval);
+    Ran {
+        steps,
+        initiator,
+        responder,
+        halves,
+    }
+}
+
 /// Runs two programs on the C calls, of one pattern and prologue, turn by turn, and finishes both handshakes. None where
 /// a start doesn't return OK.
 ///
 /// If they begin alike, each payload that is read is the one that was written, no message is refused, and both end with
-/// one hash and with halves that face each other.
+/// one hash, with each other's static keys as far as they know them, and with halves that meet.
 pub fn run_two(
     alloc: Global,
     text: &[u8],
     prologue: &[u8],
     initiator: &NoiseSetup,
     responder: &NoiseSetup,
+    interval: u64,
     turns: &[(bool, Turn)],
 ) -> Result<Option<Ran>, AllocError>
+    ensures made { RunIsMade text.now prologue.now initiator.now responder.now interval turns.now result }
+    ensures starts { BothStart text.now prologue.now initiator.now responder.now → IfOk result (λ one. IsSome one) }
     ensures right { RunsRight initiator.now responder.now turns.now result }
 {
     let Ok(_pattern) = pattern_of(text) else {
@@ -223,34 +356,5 @@ pub fn run_two(
             take_turn(alloc, &mut a, false, turn, &mut steps)?;
         }
     }
-    let (passed, passed_too, hash, hash_too) = (a.passed, b.passed, a.hash, b.hash);
-    let halves = finish_both(&mut a, &mut b);
-    Ok(Some(Ran {
-        steps,
-        passed,
-        passed_too,
-        hash,
-        hash_too,
-        halves,
-    }))
-}
-
-// The halves of both, if both finish.
-fn finish_both(a: &mut NoiseHandshake, b: &mut NoiseHandshake) -> Option<Halves>
-    ensures { IfSome result (λ x. AreHalvesOf a.old 0 x.sender x.receiver
-        × AreHalvesOf b.old 0 x.their_sender x.their_receiver) }
-{
-    let mut halves = Halves {
-        sender: NO_HALF,
-        receiver: NO_HALF,
-        their_sender: NO_HALF,
-        their_receiver: NO_HALF,
-    };
-    if noise_finish(a, 0, &mut halves.sender, &mut halves.receiver) != OK {
-        return None;
-    }
-    if noise_finish(b, 0, &mut halves.their_sender, &mut halves.their_receiver) != OK {
-        return None;
-    }
-    Some(halves)
+    Ok(Some(end(&mut a, &mut b, steps, interval)))
 }

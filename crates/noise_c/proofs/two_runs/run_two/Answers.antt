@@ -1,82 +1,113 @@
-use Rattle.std.proofs.Common.{◌≡◌, ◌∙◌, ◌+◌, ◌∷◌, ℕ, List, drop, ap, sym, subst, refl}
-use Rattle.std.specs.Prelude.{Bool}
-use Rattle.std.proofs.lemmas.List.{drop_more}
+use Rattle.std.proofs.Common.{◌≡◌, ◌∙◌, ◌+◌, ◌++◌, [], ◌∷◌, ◌≤◌, ℕ, List, arith, length, take, ap, sym, subst, refl}
+use Rattle.std.specs.Prelude.{Bool, false, true}
+use Rattle.std.proofs.lemmas.List.{take_all, take_more}
 use Rattle.noise_names.specs.Plan.{Plan}
 use Rattle.noise_c.specs.declared.structs.NoiseHandshake.{NoiseHandshake}
 use Rattle.noise_c.specs.declared.two_runs.Step.{Step}
 use Rattle.noise_c.specs.declared.two_runs.Turn.{Turn}
-use Rattle.noise_c.proofs.Both.{Begins, Both, first-both, last-both, next-left, next-right, no-start-fault}
+use Rattle.noise_c.specs.RunSteps.{Runs}
+use Rattle.noise_c.specs.RunSteps.Runs.{none, initiator, responder}
+use Rattle.noise_c.proofs.Both.{Begins, no-start-fault, right-at-end}
+use Rattle.noise_c.proofs.Turning.{runs-usable}
 use Rattle.noise_c.proofs.two_runs.run_two.Goals.{then-is_responder+in_ok-take_turn, else-is_responder+in_ok-take_turn-2}
 use Rattle.noise_c.proofs.two_runs.run_two.Goals as goal
 
 pub turns-init : goal.turns-init
 turns-init c = record {
-  stands = λ p d d_too psks o.
-      subst (λ (ss : List Step). Both c.args.text.now p d d_too psks c.noise_start.new.handshake c.noise_start-2.new.handshake c.noise_start.new.handshake
-      c.noise_start-2.new.handshake ss c.args.turns.now) (sym c.new-steps.ensures.items)
-      (first-both c.args.text.now c.args.prologue.now p c.args.initiator.now c.args.responder.now c.noise_start.new.handshake c.noise_start-2.new.handshake
-      c.args.turns.now d d_too psks o);
+  runs = subst (λ (ss : List Step). Runs c.noise_start.new.handshake c.noise_start-2.new.handshake [] c.noise_start.new.handshake c.noise_start-2.new.handshake ss)
+      (sym c.new-steps.ensures.items) none;
 }
 
 pub turns-preserved : goal.turns-preserved
-turns-preserved c = record {
-  stands = λ p d d_too psks o.
-      let all : List (Bool × Turn) = c.args.turns.now in
-      let at : ℕ = c.turns.is_responder-index in
-      let rest : List (Bool × Turn) = drop (at + 1) all in
-      let a0 = c.noise_start.new.handshake in
-      let b0 = c.noise_start-2.new.handshake in
-      let item : Bool × Turn = c.turns-item.result in
-      let first : drop at all ≡ item ∷ rest = drop_more all at item c.turns-test.true ∙ ap (λ (z : Bool × Turn). z ∷ rest) (sym c.turns-item.is) in
-      let now = subst (λ (z : List (Bool × Turn)). Both c.args.text.now p d d_too psks a0 b0 c.turns.a c.turns.b c.turns.steps.items z) first
-      (c.turns.invariant.stands p d d_too psks o) in
-      elim c.if-is_responder.branch [
+turns-preserved c =
+    let all : List (Bool × Turn) = c.args.turns.now in
+    let at : ℕ = c.turns.is_responder-index in
+    let a0 = c.noise_start.new.handshake in
+    let b0 = c.noise_start-2.new.handshake in
+    let item : Bool × Turn = c.turns-item.result in
+    let more : take (at + 1) all ≡ take at all ++ item ∷ [] =
+    take_more all at item c.turns-test.true ∙ ap (λ (z : Bool × Turn). take at all ++ z ∷ []) (sym c.turns-item.is) in
+    let runs = c.turns.invariant.runs in
+    record {
+      runs = elim c.if-is_responder.branch [
         | then-is_responder+in_ok-take_turn w ↦
-            let head = subst (λ (z : Bool). Both c.args.text.now p d d_too psks a0 b0 c.turns.a c.turns.b c.turns.steps.items ((z, item.1) ∷ rest)) w.if-is_responder.true now in
-            let next = next-right c.args.text.now c.args.prologue.now p c.args.initiator.now c.args.responder.now a0 b0 all d d_too psks o
-            c.turns.a c.turns.b w.take_turn.new.handshake c.turns.steps.items w.take_turn.new.steps.items item.1 rest head w.in_ok-take_turn.ensures in
-            subst (λ (z : NoiseHandshake). Both c.args.text.now p d d_too psks a0 b0 z c.if-is_responder.b c.if-is_responder.steps.items rest) (sym w.a-is)
-            (subst (λ (z : NoiseHandshake). Both c.args.text.now p d d_too psks a0 b0 c.turns.a z c.if-is_responder.steps.items rest) (sym w.b-is)
-            (subst (λ z. Both c.args.text.now p d d_too psks a0 b0 c.turns.a w.take_turn.new.handshake z.items rest) (sym w.steps-is) next))
+            let side : take (at + 1) all ≡ take at all ++ (true, item.1) ∷ [] =
+            more ∙ ap (λ (z : Bool). take at all ++ (z, item.1) ∷ []) w.if-is_responder.true in
+            let next = responder (take at all) c.turns.a c.turns.b w.take_turn.new.handshake c.turns.steps.items w.take_turn.new.steps.items item.1 runs
+            w.in_ok-take_turn.ensures in
+            let here = subst (λ (z : List (Bool × Turn)). Runs a0 b0 z c.turns.a w.take_turn.new.handshake w.take_turn.new.steps.items) (sym side) next in
+            subst (λ (z : NoiseHandshake). Runs a0 b0 (take (at + 1) all) z c.if-is_responder.b c.if-is_responder.steps.items) (sym w.a-is)
+            (subst (λ (z : NoiseHandshake). Runs a0 b0 (take (at + 1) all) c.turns.a z c.if-is_responder.steps.items) (sym w.b-is)
+            (subst (λ z. Runs a0 b0 (take (at + 1) all) c.turns.a w.take_turn.new.handshake z.items) (sym w.steps-is) here))
         | else-is_responder+in_ok-take_turn-2 w ↦
-            let head = subst (λ (z : Bool). Both c.args.text.now p d d_too psks a0 b0 c.turns.a c.turns.b c.turns.steps.items ((z, item.1) ∷ rest)) w.if-is_responder.false now in
-            let next = next-left c.args.text.now c.args.prologue.now p c.args.initiator.now c.args.responder.now a0 b0 all d d_too psks o
-            c.turns.a w.take_turn-else-is_responder.new.handshake c.turns.b c.turns.steps.items w.take_turn-else-is_responder.new.steps.items item.1 rest head
-            w.in_ok-take_turn-2.ensures in
-            subst (λ (z : NoiseHandshake). Both c.args.text.now p d d_too psks a0 b0 c.if-is_responder.a z c.if-is_responder.steps.items rest) (sym w.b-is)
-            (subst (λ (z : NoiseHandshake). Both c.args.text.now p d d_too psks a0 b0 z c.turns.b c.if-is_responder.steps.items rest) (sym w.a-is)
-            (subst (λ z. Both c.args.text.now p d d_too psks a0 b0 w.take_turn-else-is_responder.new.handshake c.turns.b z.items rest) (sym w.steps-is) next))
+            let side : take (at + 1) all ≡ take at all ++ (false, item.1) ∷ [] =
+            more ∙ ap (λ (z : Bool). take at all ++ (z, item.1) ∷ []) w.if-is_responder.false in
+            let after = w.take_turn-else-is_responder.new in
+            let next = initiator (take at all) c.turns.a after.handshake c.turns.b c.turns.steps.items after.steps.items item.1 runs w.in_ok-take_turn-2.ensures in
+            let here = subst (λ (z : List (Bool × Turn)). Runs a0 b0 z after.handshake c.turns.b after.steps.items) (sym side) next in
+            subst (λ (z : NoiseHandshake). Runs a0 b0 (take (at + 1) all) c.if-is_responder.a z c.if-is_responder.steps.items) (sym w.b-is)
+            (subst (λ (z : NoiseHandshake). Runs a0 b0 (take (at + 1) all) z c.turns.b c.if-is_responder.steps.items) (sym w.a-is)
+            (subst (λ z. Runs a0 b0 (take (at + 1) all) after.handshake c.turns.b z.items) (sym w.steps-is) here))
       ];
-}
+    }
+
+pub end-requires : goal.end-requires
+end-requires c =
+    let started = c.noise_start.ensures.started c.if-noise_start-ne-OK.false in
+    let started_too = c.noise_start-2.ensures.started c.if-noise_start-ne-OK-2.false in
+    let usable = runs-usable c.noise_start.new.handshake c.noise_start-2.new.handshake (take c.turns.is_responder-index c.args.turns.now) c.turns.a c.turns.b
+    c.turns.steps.items c.turns.invariant.runs started.usable started_too.usable in
+    record { usable = usable.0; usable_too = usable.1 }
 
 pub returns : goal.returns
-returns c = record {
-  right = λ d d_too psks alike.
-      let p : Plan = c.in-Ok._pattern in
-      let g = c.args.initiator.now in
-      let h = c.args.responder.now in
-      let a0 = c.noise_start.new.handshake in
-      let b0 = c.noise_start-2.new.handshake in
-      let o : Begins c.args.text.now c.args.prologue.now p g h a0 b0 c.args.turns.now d d_too psks = record {
-        setups = record {
-          own = c.setup_is_whole.ensures.own;
-          remote = c.setup_is_whole.ensures.remote;
-          keys = c.tokens_match.ensures.keys;
-        };
-        law = c.two_programs_agree.ensures;
-        valid = c.in-Ok.ensures.valid;
-        named = c.in-Ok.ensures.named;
-        one = c.in-Ok.ensures.one;
-        started = c.noise_start.ensures.started c.if-noise_start-ne-OK.false;
-        started_too = c.noise_start-2.ensures.started c.if-noise_start-ne-OK-2.false;
-        none_wrong = no-start-fault p c.args.prologue.now g
-            (sym (c.noise_start.ensures.valid p c.in-Ok.ensures.named c.in-Ok.ensures.valid) ∙ c.if-noise_start-ne-OK.false);
-        none_wrong_too = no-start-fault p c.args.prologue.now h
-            (sym (c.noise_start-2.ensures.valid p c.in-Ok.ensures.named c.in-Ok.ensures.valid) ∙ c.if-noise_start-ne-OK-2.false);
-        held = c.noise_start.ensures.held c.if-noise_start-ne-OK.false;
-        held_too = c.noise_start-2.ensures.held c.if-noise_start-ne-OK-2.false;
-        alike = alike;
-      } in
-      last-both c.args.text.now c.args.prologue.now p g h a0 b0 c.args.turns.now d d_too psks o c.turns.a c.turns.b _ _
-      (c.turns.invariant.stands p d d_too psks o) refl refl refl refl c.finish_both-halves.ensures;
-}
+returns c =
+    let p : Plan = c.in-Ok._pattern in
+    let text = c.args.text.now in
+    let prologue = c.args.prologue.now in
+    let g = c.args.initiator.now in
+    let h = c.args.responder.now in
+    let a0 = c.noise_start.new.handshake in
+    let b0 = c.noise_start-2.new.handshake in
+    let all : List (Bool × Turn) = c.args.turns.now in
+    let started = c.noise_start.ensures.started c.if-noise_start-ne-OK.false in
+    let started_too = c.noise_start-2.ensures.started c.if-noise_start-ne-OK-2.false in
+    let past : length all ≤ c.turns.is_responder-index = omega arith in
+    let whole : Runs a0 b0 all c.turns.a c.turns.b c.turns.steps.items =
+    subst (λ (z : List (Bool × Turn)). Runs a0 b0 z c.turns.a c.turns.b c.turns.steps.items) (take_all c.turns.is_responder-index all past) c.turns.invariant.runs in
+    let runs : Runs a0 b0 all c.turns.a c.turns.b c.end.result.steps.items =
+    subst (λ z. Runs a0 b0 all c.turns.a c.turns.b z.items) (sym c.end.ensures.steps) whole in
+    record {
+      made = record {
+        begun = a0;
+        begun_too = b0;
+        last = c.turns.a;
+        last_too = c.turns.b;
+        started = started;
+        started_too = started_too;
+        runs = runs;
+        ends = c.end.ensures.ends;
+      };
+      starts = λ _. refl;
+      right = λ d d_too psks alike.
+          let o : Begins text prologue p g h a0 b0 all d d_too psks = record {
+            setups = record {
+              own = c.setup_is_whole.ensures.own;
+              remote = c.setup_is_whole.ensures.remote;
+              keys = c.tokens_match.ensures.keys;
+            };
+            law = c.two_programs_agree.ensures;
+            valid = c.in-Ok.ensures.valid;
+            named = c.in-Ok.ensures.named;
+            one = c.in-Ok.ensures.one;
+            started = started;
+            started_too = started_too;
+            none_wrong = no-start-fault p prologue g
+                (sym (c.noise_start.ensures.valid p c.in-Ok.ensures.named c.in-Ok.ensures.valid) ∙ c.if-noise_start-ne-OK.false);
+            none_wrong_too = no-start-fault p prologue h
+                (sym (c.noise_start-2.ensures.valid p c.in-Ok.ensures.named c.in-Ok.ensures.valid) ∙ c.if-noise_start-ne-OK-2.false);
+            held = c.noise_start.ensures.held c.if-noise_start-ne-OK.false;
+            held_too = c.noise_start-2.ensures.held c.if-noise_start-ne-OK-2.false;
+            alike = alike;
+          } in
+          right-at-end text prologue p g h a0 b0 all d d_too psks o c.turns.a c.turns.b c.args.interval c.end.result runs c.end.ensures.ends;
+    }

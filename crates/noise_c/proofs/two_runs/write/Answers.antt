@@ -1,9 +1,6 @@
-use Rattle.std.proofs.Common.{◌≡◌, ◌≤◌, ℕ, List, length, take, refl, ap, sym, subst, ◌∙◌, arith}
-use Rattle.noise_c.proofs.Common.{WasWritten}
-use Rattle.noise_c.proofs.Programs.{written-of}
+use Rattle.std.proofs.Common.{◌≡◌, ◌≤◌, ℕ, List, length, take, refl, ap, sym, subst, ◌∙◌, arith, rules}
 use Rattle.noise_c.proofs.Toying.{written-fits}
 use Rattle.noise_c.proofs.Sides.{taken-len, whole}
-use Rattle.noise_c.proofs.Both.{write-unchanged}
 use Rattle.noise_c.proofs.two_runs.write.Goals.{then-code-eq-OK+in_ok-message, else-code-eq-OK}
 use Rattle.noise_c.proofs.two_runs.write.Goals as goal
 
@@ -27,12 +24,13 @@ returns c =
       side_is = refl;
       writes = refl;
       payload_is = c.in_ok-payload.ensures.items;
-      usable = λ e. (written-of _ _ _ _ _ _ _ _ w.ensures.outcome e).0;
-      written = λ e p v k.
-          subst (λ (z : List ℕ). WasWritten p v z c.if-code-eq-OK.message.items w.new.handshake) (sym c.in_ok-payload.ensures.items)
-          (subst (λ (z : List ℕ). WasWritten p v c.args.payload.now z w.new.handshake) (sym (message e))
-          ((written-of _ _ _ _ _ _ _ _ w.ensures.outcome e).1 p v k));
+      results = _;
+      next = w.new.results;
+      out = c.deref_mut.result.now;
+      after = w.new.out;
+      room_is = search rules;
+      outcome = w.ensures.outcome;
+      message_is = message;
       held = w.ensures.held;
       rest = w.ensures.rest;
-      unchanged = λ low. write-unchanged _ _ _ _ _ _ _ _ w.ensures.outcome low;
     }
