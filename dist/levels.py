@@ -17,6 +17,18 @@ LEVELS = {
     "v4": ["-march=x86-64-v4", "-Xclang", "-target-feature", "-Xclang", "+prefer-256-bit"],
 }
 
+# Words that put the vectors of several blocks of ChaCha20 into wider ones, for these functions alone: SHA-256 and
+# Poly1305 are slower by them. What is compiled by them at a level has the level's name with `w`. The attribute keeps
+# these vectors below 512 bits.
+WIDE_WORDS = ["-slp-revec", "-slp-threshold=-1000", "-slp-recursion-max-depth=400"]
+WIDE = ["rand_chacha::guts::refill4"]
+WIDEST = '"min-legal-vector-width"="256"'
+COMPILED = {
+    name + kind: LEVELS[name] + [it for word in words for it in ("-mllvm", word)]
+    for name in LEVELS
+    for kind, words in (("", []), ("w", WIDE_WORDS))
+}
+
 # The functions, and for which levels each is compiled: where the last is missing, the one before is faster on a
 # processor of that level.
 HOT = {
@@ -165,9 +177,15 @@ def constants_of(text, base, lines):
     return made
 
 
+def compiled_as(name, level):
+    """What of COMPILED has a function for a level."""
+    return f"{level}w" if name in WIDE else level
+
+
 def hot_function(text, base, name, level, known):
     """A function of a text for a level, with its constants. `known` has the label of each constant that stands before,
     by its section and lines."""
+    compiled = compiled_as(name, level)
     first, last = text.function(text.form.name(name))
     lines, made, shared = text.lines[first:last], [], {}
     for label in constants_of(text, base, lines):
@@ -175,15 +193,15 @@ def hot_function(text, base, name, level, known):
         if content in known:
             shared[label] = known[content]
             continue
-        renamed = own(label, level, {})
+        renamed = own(label, compiled, {})
         if not any(LABEL.search(line) for line in content):
             known[content] = renamed
         made += [
             text.section[label], text.align[label] or "\t.p2align\t4", f"{renamed}:",
-            *(own(line, level, {}) for line in content[1:]),
+            *(own(line, compiled, {}) for line in content[1:]),
         ]
     head = text.form.begin(text.form.name(name, level), text.section[text.form.name(name)])[:-2]
-    return [*made, *head, *(own(line, level, shared) for line in at_level(lines, text.form, level)), ""]
+    return [*made, *head, *(own(line, compiled, shared) for line in at_level(lines, text.form, level)), ""]
 
 
 def choice(form, it, section, number):
@@ -245,7 +263,7 @@ def finding(form):
 
 
 def chosen_by_level(text, others):
-    """The text with the hot functions of the others, by level, and the choices."""
+    """The text with the hot functions of the others, by their names in COMPILED, and the choices."""
     base = Text(text)
     form, lines = base.form, list(base.lines)
     known_constants = {(base.section[it], *base.constant(it)): it for it in base.labels if re.match(r"(\.L|L)CPI", it)}
@@ -256,9 +274,10 @@ def chosen_by_level(text, others):
     for i, line in enumerate(lines):
         if not CALL.match(line) and line.startswith(("\t.type\t", "\t.def\t")):
             lines[i] = at_level([line], form, BASE)[0]
-    for level, other in others.items():
-        there = Text(other)
+    texts = {compiled: Text(other) for compiled, other in others.items()}
+    for level in LEVELS:
         for it in (it for it in HOT if level in HOT[it]):
+            there = texts[compiled_as(it, level)]
             lines += hot_function(there, base, it, level, known_constants)
             strange = called(there.lines[slice(*there.function(form.name(it)))]) - known
             if strange:
@@ -273,7 +292,7 @@ def chosen_by_level(text, others):
 def definitions(module):
     """Of an optimised module the first line of each function, with all that the optimiser found of its arguments and of
     its effects."""
-    groups = dict(re.findall(r"^attributes (#\d+) = \{ (.*) \}$", module, re.M))
+    groups = dict(re.findall(r"^attributes (#\d+) = \{ (.*) \}$", module.replace(f"{WIDEST} ", ""), re.M))
     made = {}
     for line in re.findall(r"^define .*\{$", module, re.M):
         name = re.search(r'@("[^"]+"|[\w.$]+)\(', line)[1].strip('"')

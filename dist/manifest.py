@@ -143,7 +143,7 @@ def manifest_of(products, made):
         objects = made[file][2] if file in made else objects_in(said, file) or {"": "none"}
         lines.update({f"object {file}{level}": it for level, it in objects.items()})
     lines.update({f"flags {it}": made[it][1] if it in made else said.get(f"flags {it}", "none") for it in every})
-    lines.update({f"flags @{level}": " ".join(words) for level, words in levels.LEVELS.items()})
+    lines.update({f"flags @{it}": " ".join(words) for it, words in levels.COMPILED.items()})
     lines.update({key: it for key, it in said.items() if key.startswith("translated ")})  # tools/purego/make sets them
     head = "# Made by dist/make, and compared by dist/make --check. README.md explains the lines.\n"
     return head + "".join(f"{key} {words}\n" for key, words in lines.items())
@@ -179,6 +179,11 @@ def differences(products, made):
     for file, level, it in ((file, *it) for file in made for it in (made[file][2] or {}).items()):
         if said.get(f"object {file}{level}") != it:
             yield f"MANIFEST: object {file}{level}: another than this"
+    flags = {file: how for file, (content, how, _) in made.items() if content is not None}
+    flags.update({f"@{it}": " ".join(words) for it, words in levels.COMPILED.items()})
+    for file, how in flags.items():
+        if said.get(f"flags {file}") != how:
+            yield f"MANIFEST: flags {file}: it is made by {how}"
     for copy, (of, head) in COPIES.items() if "noise_c" in products else ():
         if not os.path.exists(f"{ROOT}/{copy}") or read(f"{ROOT}/{copy}") != head + read(f"{ROOT}/{of}"):
             yield f"{copy}: not the same as {of}"
