@@ -351,52 +351,64 @@ func TestContextOfAMessage(t *testing.T) {
 // sends what is no handshake.
 func TestListenerGoesOn(t *testing.T) {
 	for _, pattern := range []string{"KK", "IK"} {
-		client, server := configs(t, pattern)
-		said, away := make(chan string, 10), errors.New("database away")
-		fails := true
-		server.ErrorLog = log.New(lines(said), "", 0)
-		server.HandshakeTimeout = time.Second
-		server.VerifyPeer = func(context.Context, Peer) error {
-			if fails {
-				return away
-			}
-			return nil
-		}
-		l, err := Listen("tcp", "127.0.0.1:0", server)
-		must(t, err)
-		served := goes(func() error {
-			return http.Serve(l, http.HandlerFunc(func(w http.ResponseWriter, _ *http.Request) {
-				io.WriteString(w, "hello")
-			}))
-		})
-		stranger, err := net.Dial("tcp", l.Addr().String())
-		must(t, err)
-		stranger.Write([]byte("GET / HTTP/1.0\r\n\r\n"))
-		expect(t, said, stranger, "message 1: it has 18245 bytes, and Config allows 4")
-		quiet, err := net.Dial("tcp", l.Addr().String())
-		must(t, err)
-		expect(t, said, quiet, withoutName(ErrHandshakeTimeout))
-		refused, err := net.Dial("tcp", l.Addr().String())
-		must(t, err)
-		c, err := Client(refused, client)
-		must(t, err)
-		wants(t, soon(t, "Handshake", c.Handshake), ErrCut)
-		expect(t, said, refused, away.Error())
-		fails = false
-		web := http.Client{Transport: &http.Transport{
-			DialContext:       (&Dialer{Config: client}).DialContext,
-			DisableKeepAlives: true,
-		}}
-		answer, err := web.Get("http://" + l.Addr().String())
-		must(t, err)
-		text, err := io.ReadAll(answer.Body)
-		must(t, err)
-		if string(text) != "hello" || len(served) > 0 {
-			t.Errorf("%q", text)
-		}
-		l.Close()
-		wants(t, <-served, net.ErrClosed)
+		pattern := pattern
+		t.Run(pattern, func(t *testing.T) { t.Parallel(); testListenerGoesOn(t, pattern) })
 	}
+}
+
+func testListenerGoesOn(t *testing.T, pattern string) {
+	client, server := configs(t, pattern)
+	said, away := make(chan string, 10), errors.New("database away")
+	fails := true
+	server.ErrorLog = log.New(lines(said), "", 0)
+	server.HandshakeTimeout = 5 * time.Second
+	server.VerifyPeer = func(context.Context, Peer) error {
+		if fails {
+			return away
+		}
+		return nil
+	}
+	l, served := serveHello(t, server)
+	dialed := func() net.Conn {
+		conn, err := net.Dial("tcp", l.Addr().String())
+		must(t, err)
+		return conn
+	}
+	stranger := dialed()
+	stranger.Write([]byte("GET / HTTP/1.0\r\n\r\n"))
+	expect(t, said, stranger, "message 1: it has 18245 bytes, and Config allows 4")
+	expect(t, said, dialed(), withoutName(ErrHandshakeTimeout))
+	refused := dialed()
+	c, err := Client(refused, client)
+	must(t, err)
+	wants(t, soon(t, "Handshake", c.Handshake), ErrCut)
+	expect(t, said, refused, away.Error())
+	fails = false
+	web := http.Client{Transport: &http.Transport{
+		DialContext:       (&Dialer{Config: client}).DialContext,
+		DisableKeepAlives: true,
+	}}
+	answer, err := web.Get("http://" + l.Addr().String())
+	must(t, err)
+	text, err := io.ReadAll(answer.Body)
+	must(t, err)
+	if string(text) != "hello" || len(served) > 0 {
+		t.Errorf("%q", text)
+	}
+	l.Close()
+	wants(t, <-served, net.ErrClosed)
+}
+
+// serveHello serves HTTP on a listener, and returns where the error of its end comes.
+func serveHello(t *testing.T, config *Config) (l net.Listener, served chan error) {
+	t.Helper()
+	l, err := Listen("tcp", "127.0.0.1:0", config)
+	must(t, err)
+	return l, goes(func() error {
+		return http.Serve(l, http.HandlerFunc(func(w http.ResponseWriter, _ *http.Request) {
+			io.WriteString(w, "hello")
+		}))
+	})
 }
 
 // lines is a writer that passes on each line.

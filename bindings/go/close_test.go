@@ -7,6 +7,7 @@ import (
 	"io"
 	"net"
 	"os"
+	"runtime"
 	"strconv"
 	"sync/atomic"
 	"testing"
@@ -145,13 +146,65 @@ func TestReadersAtClose(t *testing.T) {
 	}
 }
 
-// TestUnreadAtClose answers a request of which a part isn't read: the client reads the whole answer, and its end.
+// resetting is a side of a connection in memory that closes as TCP does: with something unread, it takes away what the
+// other party hasn't read. Its deadlines are as Go's: a Read that begins after one looks at nothing. On a busy machine
+// so many first ones have passed by then, and a Read that takes something takes so long.
+type resetting struct {
+	*memoryEnd
+	late  int
+	takes time.Duration
+	until time.Time
+}
+
+func (r *resetting) unread() int {
+	r.in.mutex.Lock()
+	defer r.in.mutex.Unlock()
+	return r.in.bytes.Len()
+}
+
+func (r *resetting) SetReadDeadline(until time.Time) error {
+	if r.until = until; r.late > 0 && until.After(time.Now()) {
+		for r.late--; !time.Now().After(until); { // a Sleep would take longer
+			runtime.Gosched()
+		}
+	}
+	return nil
+}
+
+// Read reads at most 10,000 bytes.
+func (r *resetting) Read(b []byte) (int, error) {
+	if len(b) > 10_000 {
+		b = b[:10_000]
+	}
+	if r.until.IsZero() {
+		return r.memoryEnd.Read(b)
+	}
+	if time.Now().Before(r.until) && r.unread() > 0 {
+		time.Sleep(r.takes)
+		return r.memoryEnd.Read(b)
+	}
+	time.Sleep(time.Until(r.until))
+	return 0, os.ErrDeadlineExceeded
+}
+
+func (r *resetting) Close() error {
+	if r.unread() > 0 {
+		r.out.mutex.Lock()
+		r.out.bytes.Reset()
+		r.out.mutex.Unlock()
+	}
+	return r.memoryEnd.Close()
+}
+
+// TestUnreadAtClose answers a request of which a part has come and isn't read, and closes, also on a busy machine: the
+// client reads the whole answer, and its end.
 func TestUnreadAtClose(t *testing.T) {
 	client, server := configs(t, "NN")
-	answer := bytes.Repeat([]byte("0123456789"), 300_000)
-	cut := 0
-	for i := 0; i < 4; i++ {
-		c, s := connected(t, client, server)
+	answer := bytes.Repeat([]byte("0123456789"), 30_000)
+	for _, it := range []resetting{{}, {late: 1}, {late: 3}, {takes: 150 * time.Millisecond}} {
+		a, b := memoryPipe()
+		below := &resetting{memoryEnd: b, late: it.late, takes: it.takes}
+		c, s := newConn(a, client, true, 0), newConn(below, server, false, 0)
 		errC, errS := both(c, s)
 		must(t, errC, errS)
 		_, err := c.Write(make([]byte, 1000))
@@ -160,25 +213,12 @@ func TestUnreadAtClose(t *testing.T) {
 		must(t, err)
 		_, err = c.Write(make([]byte, 100_000)) // which nobody reads
 		must(t, err)
-		served := goes(func() error {
-			if _, err := s.Write(answer); err != nil {
-				return err
-			}
-			return s.Close()
-		})
-		var got []byte
-		for room := make([]byte, 20_000); err == nil; time.Sleep(50 * time.Microsecond) {
-			var n int
-			n, err = c.Read(room)
-			got = append(got, room[:n]...)
+		_, err = s.Write(answer)
+		must(t, err, s.Close())
+		if got, err := readAll(c); err != io.EOF || !bytes.Equal(got, answer) {
+			t.Errorf("%d late, %v: %d bytes of %d came, and then %v", it.late, it.takes, len(got), len(answer), err)
 		}
-		if err != io.EOF || !bytes.Equal(got, answer) {
-			cut++
-		}
-		must(t, <-served)
-	}
-	if cut > 0 {
-		t.Errorf("%d of 4 answers were cut", cut)
+		c.Abort()
 	}
 }
 
@@ -293,21 +333,28 @@ func TestInterruptedEnd(t *testing.T) {
 	must(t, soon(t, "Close", func() error { return <-closed }))
 }
 
-// hooked is a connection whose Write returns late, and that calls a function when Close begins to wait for it.
+// hooked is a connection of which a Write, once it is held, returns after Close has begun to wait for it, and has
+// called a function.
 type hooked struct {
 	net.Conn
-	waits func()
+	isHeld atomic.Bool
+	waits  func()
+	goOn   chan bool
 }
 
 func (w *hooked) Write(b []byte) (int, error) {
 	n, err := w.Conn.Write(b)
-	time.Sleep(100 * time.Millisecond)
+	if w.isHeld.Swap(false) {
+		<-w.goOn
+		time.Sleep(1500 * time.Millisecond) // as where other programs have the processor
+	}
 	return n, err
 }
 
 func (w *hooked) SetWriteDeadline(at time.Time) error {
 	if at.Equal(longAgo) {
 		w.waits()
+		close(w.goOn)
 	}
 	return w.Conn.SetWriteDeadline(at)
 }
@@ -319,13 +366,15 @@ func TestWriteAfterClose(t *testing.T) {
 	a, b := tcp(t)
 	var c *Conn
 	second := make(chan error, 1)
-	c = newConn(&hooked{a, func() {
+	below := &hooked{Conn: a, goOn: make(chan bool), waits: func() {
 		go func() { _, err := c.Write([]byte("late")); second <- err }()
 		time.Sleep(30 * time.Millisecond) // it waits for its turn
-	}}, client, true, 0)
+	}}
+	c = newConn(below, client, true, 0)
 	s := newConn(b, server, false, 0)
 	errC, errS := both(c, s)
 	must(t, errC, errS)
+	below.isHeld.Store(true)
 	first := goes(func() error { _, err := c.Write([]byte("x")); return err })
 	_, err := s.Read(make([]byte, 1))
 	must(t, err, c.Close(), <-first)

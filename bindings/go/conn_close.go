@@ -2,28 +2,33 @@ package noise
 
 import (
 	"net"
+	"sync/atomic"
 	"time"
 )
 
 const (
-	endTime   = 5 * time.Second        // how long Close waits until the end is sent
-	turnTime  = time.Second            // how long it waits for a Write that neither is done nor ends at a deadline
+	endTime   = 5 * time.Second        // how long Close waits until the end is sent, and for a Write that runs before
+	turnTime  = time.Second            // how long it waits for a Read that ends at no deadline
 	drainTime = time.Millisecond       // how long it waits for bytes that nobody has read
-	drainMost = 100 * time.Millisecond // the same, where no deadline ends a Read
+	drainMore = 10 * time.Millisecond  // the same, once some have come
+	drainMost = 100 * time.Millisecond // how long it takes them, or so many times:
+	drainRead = 64                     // on a busy machine a few take longer
 )
 
 var longAgo = time.Unix(1, 0)
 
 // Close sends the end of the stream, for which it waits at most 5 seconds, closes the connection below, and overwrites
-// the keys. It ends a Write or a CloseWrite that waits for the other party, and waits for one that is just returning.
+// the keys. It ends a Write or a CloseWrite that waits for the other party, and waits as long for one that is just
+// returning.
 // It sends no end, and returns ErrNoEnd, if the last Write has failed or was ended, if the last Read has failed, or
 // after what Conn says; the other party's Read returns ErrCut then. After a CloseWrite that has succeeded, where there
 // was no handshake, and where the other party has ended its stream and closed, it returns only what closing the
 // connection below returns. If the stream isn't whole for another reason, call Abort.
 //
-// Bytes that have come and that nobody has read are taken first, for at most a millisecond: a system resets a TCP
-// connection that is closed before them, and what was written last is lost then. It also resets one over which more
-// comes later: where the other party may still be writing, read to io.EOF before Close.
+// Bytes that have come and that nobody has read are taken first, until nothing comes for 10 milliseconds, and for a
+// second at most beside the time in which other programs have the processor: a system resets a TCP connection that is
+// closed before them, and what was written last is lost then. It also resets one over which more comes later, of which
+// Close can't know: where the other party may still be writing, read to io.EOF before Close.
 func (c *Conn) Close() error {
 	if c.conn == nil {
 		return errZeroConn
@@ -42,9 +47,32 @@ func (c *Conn) Close() error {
 }
 
 // closesAfter closes the connection below after a time, for connections whose deadlines end no call, unless its result
-// is called before. That reports whether it was in time.
+// is called before. That reports whether it was in time. The time has ten parts, and each begins when this process
+// runs: it doesn't pass while other programs have the processor.
 func (c *Conn) closesAfter(limit time.Duration) (stop func() bool) {
-	return time.AfterFunc(limit, func() { c.closeBelow() }).Stop
+	var isOver atomic.Bool
+	stopped := make(chan struct{})
+	go func() {
+		for part := 0; part < 10; part++ {
+			timer := time.NewTimer(limit / 10)
+			select {
+			case <-timer.C:
+			case <-stopped:
+				timer.Stop()
+				return
+			}
+		}
+		if isOver.CompareAndSwap(false, true) {
+			c.closeBelow()
+		}
+	}()
+	return func() bool {
+		isFirst := isOver.CompareAndSwap(false, true)
+		if isFirst {
+			close(stopped)
+		}
+		return isFirst
+	}
 }
 
 // end sends the end of the stream for Close.
@@ -54,7 +82,7 @@ func (c *Conn) end() error {
 	}
 	if !c.out.TryLock() { // a Write or a CloseWrite is running, or has sent all and is returning
 		c.conn.SetWriteDeadline(longAgo)
-		stop := c.closesAfter(turnTime)
+		stop := c.closesAfter(endTime)
 		c.out.Lock()
 		stop()
 	}
@@ -88,28 +116,31 @@ func (c *Conn) drain() {
 	if !c.handshakeDone.Load() || c.isMute || c.hasEnd.Load() {
 		return
 	}
-	until := time.Now().Add(drainTime)
-	if c.conn.SetReadDeadline(until) != nil { // this also ends a Read that is running
+	if c.conn.SetReadDeadline(longAgo) != nil { // this ends a Read that is running
 		return
 	}
-	defer c.closesAfter(drainMost)()
-	c.in.Lock()
-	defer c.in.Unlock()
 	room := newRoom(len(roomSizes) - 1)
 	defer room.free(0)
-	for tries := 0; tries < 10; {
+	stop := c.closesAfter(turnTime) // where no deadline ends a Read
+	defer stop()
+	c.in.Lock()
+	defer c.in.Unlock()
+	if _, err := c.conn.Read(room.bytes); isDeadline(err) {
+		stop() // one does, so nothing is closed while this process waits for the processor
+	}
+	wait, begun := drainTime, time.Now()
+	for reads, tries := 0, 0; tries < 10 && (reads < drainRead || time.Since(begun) < drainMost); reads++ {
+		until := time.Now().Add(wait)
+		c.conn.SetReadDeadline(until)
+		isEarly := time.Now().Before(until) // a Read that begins after its deadline doesn't look at what has come
 		n, err := c.conn.Read(room.bytes)
-		now := time.Now()
 		switch {
-		case now.After(until.Add(drainTime)): // other programs had the processor: what is there isn't known yet
+		case n > 0: // more may be on its way
+			wait = drainMore
+		case !isDeadline(err) || isEarly && time.Now().Before(until.Add(drainTime)):
+			return
+		default: // other programs had the processor: what is there isn't known yet
 			tries++
-			until = now.Add(drainTime)
-			c.conn.SetReadDeadline(until)
-		case n == 0 || err != nil || now.After(until):
-			return
-		}
-		if err != nil && !isDeadline(err) {
-			return
 		}
 	}
 }

@@ -27,7 +27,7 @@ func (s *DatagramSender) Seal(dst, payload []byte) ([]byte, error) {
 	s.mutex.Lock()
 	defer s.mutex.Unlock()
 	if s.closed {
-		return dst, ErrClosed
+		return dst, errClosed
 	}
 	if len(payload) > MaxMessage-TagLen {
 		return dst, ErrTooLong
@@ -74,7 +74,7 @@ func (r *DatagramReceiver) Open(dst, datagram []byte) ([]byte, error) {
 	r.mutex.Lock()
 	defer r.mutex.Unlock()
 	if r.closed {
-		return dst, ErrClosed
+		return dst, errClosed
 	}
 	if len(datagram) > MaxDatagram {
 		return dst, ErrTooLong

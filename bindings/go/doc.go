@@ -2,8 +2,9 @@
 // over a library whose calls are proved to do what the framework says.
 //
 // [Listen] and [Dial], or [Client] and [Server] over any [net.Conn], make a net.Conn whose bytes are sealed, as
-// crypto/tls does. Below them, [HandshakeState], [Sender], [Receiver], [DatagramSender], [DatagramReceiver] and
-// [CipherState] take and append to byte slices, for programs that move the messages by other means.
+// crypto/tls does. [ListenPacket] and [DialPacket] make sessions over UDP. Below them, [HandshakeState], [Sender],
+// [Receiver], [DatagramSender], [DatagramReceiver] and [CipherState] take and append to byte slices, for programs that
+// move the messages by other means.
 //
 // A [Config] has the pattern and the keys, and says who may be the other party. A Config that would accept anybody is
 // refused, unless InsecureAcceptAnyKey is set.

@@ -121,7 +121,7 @@ func ExampleDialer() {
 	// Output: true
 }
 
-// What is wrong with a Config is found before a byte is sent.
+// A server over UDP that sends back what comes: each client is a net.Conn.
 func ExampleListenPacket() {
 	config := &noise.Config{Pattern: "NNpsk0", Prologue: []byte("udp 1"), PSKs: []noise.PSK{{1, 2, 3}}}
 	serve := func(client net.Conn) {
@@ -143,6 +143,7 @@ func ExampleListenPacket() {
 	_ = listen
 }
 
+// A client over UDP, which asks again until the answer has come.
 func ExampleDialPacket() {
 	config := &noise.Config{Pattern: "NNpsk0", Prologue: []byte("udp 1"), PSKs: []noise.PSK{{1, 2, 3}}}
 	listener, err := noise.ListenPacket("udp", "127.0.0.1:0", config)
@@ -173,6 +174,7 @@ func ExampleDialPacket() {
 	// Output: hello
 }
 
+// What is wrong with a Config is found before a byte is sent.
 func ExampleConfig_Check() {
 	fmt.Println((&noise.Config{Pattern: "IK"}).Check(true))
 	key, err := noise.GenerateKeyPair()

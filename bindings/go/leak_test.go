@@ -42,7 +42,7 @@ func TestNoGoroutineStays(t *testing.T) {
 	must(t, client.Check(true))
 	finished(t, "IK")
 	var left []string
-	for i := 0; i < 100; i++ {
+	for i := 0; i < 2000; i++ {
 		if left = ofPackage(); len(left) <= before && runtime.NumGoroutine() <= count {
 			return
 		}

@@ -13,6 +13,7 @@ import (
 const (
 	resendAfter      = 250 * time.Millisecond // after which what isn't answered is sent again
 	restartAfter     = time.Second            // after which an initiator begins another handshake
+	aloneFor         = 5 * time.Second        // how long one that has read the last message holds to that handshake
 	mostTried        = 8                      // handshakes of an initiator at once
 	mostBegun        = 256                    // handshakes of a responder at once that aren't established
 	packetLimit      = 10 * time.Second       // of a handshake, if the Config doesn't say
@@ -42,6 +43,9 @@ var (
 	ErrLost = errors.New("noise: the session is lost")
 	// ErrEmptyPayload is returned by Write of no bytes: an empty payload is the protocol's own.
 	ErrEmptyPayload = errors.New("noise: an empty payload can't be sent")
+
+	errZeroSession  = errors.New("noise: neither DialPacket nor AcceptSession has made this PacketSession")
+	errZeroListener = errors.New("noise: ListenPacket hasn't made this PacketListener")
 
 	errNoAnswers = errors.New("in a one-way pattern nobody could say that the first datagram came")
 	errCookie    = errors.New("noise: the responder has asked for a cookie, and hasn't answered the message with it")
@@ -175,11 +179,16 @@ func (s *PacketSession) taken(b, payload []byte) (int, error) {
 	return copy(b, payload), nil
 }
 
-// Read reads the next payload. What is longer than b is lost, as with UDP. At the end it returns ErrLost, or
-// net.ErrClosed after Close.
+// Read reads the next payload. What is longer than b is lost, as with UDP; where b is empty, nothing is read. At the
+// end it returns ErrLost, or net.ErrClosed after Close.
 func (s *PacketSession) Read(b []byte) (int, error) {
-	if s.read.isPast() {
+	switch {
+	case s.over == nil:
+		return 0, errZeroSession
+	case s.read.isPast():
 		return 0, os.ErrDeadlineExceeded
+	case len(b) == 0:
+		return 0, nil
 	}
 	select {
 	case payload := <-s.queue:
@@ -206,6 +215,8 @@ func (s *PacketSession) Read(b []byte) (int, error) {
 // Write sends a payload of 1 to 65474 bytes in one datagram. One of more than 1199 may not pass everywhere.
 func (s *PacketSession) Write(b []byte) (int, error) {
 	switch {
+	case s.over == nil:
+		return 0, errZeroSession
 	case len(b) == 0:
 		return 0, ErrEmptyPayload
 	case len(b) > maxPacketPayload:
@@ -232,6 +243,9 @@ func (s *PacketSession) Write(b []byte) (int, error) {
 
 // Close overwrites the keys. Nothing tells the other party: send it a payload of your own that does.
 func (s *PacketSession) Close() error {
+	if s.over == nil {
+		return errZeroSession
+	}
 	s.end(net.ErrClosed)
 	s.forget(s)
 	return nil
@@ -267,10 +281,20 @@ func (s *PacketSession) silentSince() time.Time {
 }
 
 // ConnectionState returns what the handshake has agreed on.
-func (s *PacketSession) ConnectionState() ConnectionState { return s.channel.state.copied() }
+func (s *PacketSession) ConnectionState() ConnectionState {
+	if s.over == nil {
+		return ConnectionState{}
+	}
+	return s.channel.state.copied()
+}
 
 // LocalAddr returns that of the socket.
-func (s *PacketSession) LocalAddr() net.Addr { return s.conn.LocalAddr() }
+func (s *PacketSession) LocalAddr() net.Addr {
+	if s.over == nil {
+		return nil
+	}
+	return s.conn.LocalAddr()
+}
 
 // RemoteAddr returns the other party's address: that of the newest datagram that has opened.
 func (s *PacketSession) RemoteAddr() net.Addr {
@@ -281,19 +305,26 @@ func (s *PacketSession) RemoteAddr() net.Addr {
 
 // SetDeadline sets both deadlines.
 func (s *PacketSession) SetDeadline(t time.Time) error {
-	s.read.set(t)
-	s.write.set(t)
-	return nil
+	if err := s.SetReadDeadline(t); err != nil {
+		return err
+	}
+	return s.SetWriteDeadline(t)
 }
 
 // SetReadDeadline sets the time after which Read returns os.ErrDeadlineExceeded; nothing is lost by it.
 func (s *PacketSession) SetReadDeadline(t time.Time) error {
+	if s.over == nil {
+		return errZeroSession
+	}
 	s.read.set(t)
 	return nil
 }
 
 // SetWriteDeadline sets the time after which Write returns os.ErrDeadlineExceeded. A Write that has begun doesn't wait.
 func (s *PacketSession) SetWriteDeadline(t time.Time) error {
+	if s.over == nil {
+		return errZeroSession
+	}
 	s.write.set(t)
 	return nil
 }

@@ -139,10 +139,31 @@ func (c *packetClient) try() error {
 	return nil
 }
 
+// holds reports whether the last message of a handshake was read: only that one is left then.
+func (c *packetClient) holds() bool {
+	return len(c.tried) == 1 && c.tried[0].isDone && !c.tried[0].writesLast()
+}
+
+// holdTo closes the others: this one's empty datagram may replace a session of theirs at the responder.
+func (c *packetClient) holdTo(channel *packetChannel) {
+	for _, other := range c.tried {
+		if other != channel {
+			other.close()
+		}
+	}
+	c.tried, c.since = []*packetChannel{channel}, time.Now()
+}
+
 // repeat sends again what isn't answered; of what nobody has answered at all, the newest alone.
 func (c *packetClient) repeat() error {
 	c.mutex.Lock()
 	isDue := time.Since(c.since) >= restartAfter
+	if c.holds() {
+		if isDue = time.Since(c.since) >= aloneFor; isDue {
+			c.tried[0].close()
+			c.tried = nil
+		}
+	}
 	for i, channel := range c.tried {
 		if channel.accepted > 0 || i == len(c.tried)-1 && !isDue {
 			channel.repeat()
@@ -228,12 +249,17 @@ func (c *packetClient) shake(datagram []byte) {
 			}
 			continue
 		}
+		wasDone := channel.isDone
 		channel.take(c.context, datagram)
 		if channel.fault != nil {
 			c.fault = channel.fault
 		}
 		c.wantsIt, c.answered = c.wantsIt || channel.cookie != nil, c.answered || channel.accepted > 0
 		c.flush(channel)
+		if !wasDone && channel.isDone && !channel.writesLast() {
+			c.holdTo(channel)
+			return
+		}
 	}
 }
 

@@ -105,6 +105,9 @@ func (l *PacketListener) Accept() (net.Conn, error) {
 
 // AcceptSession is Accept with the session's type.
 func (l *PacketListener) AcceptSession() (*PacketSession, error) {
+	if l.conn == nil {
+		return nil, errZeroListener
+	}
 	select {
 	case s := <-l.accepted:
 		return s, nil
@@ -116,10 +119,18 @@ func (l *PacketListener) AcceptSession() (*PacketSession, error) {
 }
 
 // Addr returns the address of the socket.
-func (l *PacketListener) Addr() net.Addr { return l.conn.LocalAddr() }
+func (l *PacketListener) Addr() net.Addr {
+	if l.conn == nil {
+		return nil
+	}
+	return l.conn.LocalAddr()
+}
 
 // Close closes the socket, and with it all sessions.
 func (l *PacketListener) Close() error {
+	if l.conn == nil {
+		return errZeroListener
+	}
 	if !l.end(net.ErrClosed) {
 		return net.ErrClosed
 	}

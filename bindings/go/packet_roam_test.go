@@ -78,7 +78,7 @@ func (r *rawPacket) echoes(from, at net.PacketConn, payload string) bool {
 	r.t.Helper()
 	r.sendTo(from, r.seal(payload))
 	for {
-		datagram := r.next(at, time.Second)
+		datagram := r.next(at, 20*time.Second)
 		if datagram == nil {
 			return false
 		}
@@ -178,8 +178,9 @@ func TestPacketBeginsElsewhere(t *testing.T) {
 
 // TestPacketDoneHasTime has a client that is done late in its time, and sends its first transport datagram after that.
 func TestPacketDoneHasTime(t *testing.T) {
+	t.Parallel()
 	initiator, responder := packetConfigs(t, "XX")
-	responder.HandshakeTimeout = 1500 * time.Millisecond
+	responder.HandshakeTimeout = 5 * time.Second
 	l, err := ListenPacket("udp", "127.0.0.1:0", responder)
 	if err != nil {
 		t.Fatal(err)
@@ -189,9 +190,9 @@ func TestPacketDoneHasTime(t *testing.T) {
 	client, own := newRawPacket(t, initiator, l.Addr()), rawSocket(t)
 	client.send(own)
 	client.channel.take(context.Background(), client.next(own, 20*time.Second))
-	time.Sleep(1100 * time.Millisecond)
+	time.Sleep(3 * time.Second)
 	client.send(own) // message 2
-	time.Sleep(800 * time.Millisecond)
+	time.Sleep(2500 * time.Millisecond)
 	if !client.echoes(own, own, "late") {
 		t.Error("the listener has forgotten a session of which its client knows")
 	}
@@ -201,13 +202,14 @@ func TestPacketDoneHasTime(t *testing.T) {
 // newest alone.
 func TestPacketBeginsAnew(t *testing.T) {
 	initiator, _ := packetConfigs(t, "XX")
-	initiator.HandshakeTimeout = 2500 * time.Millisecond
+	initiator.HandshakeTimeout = time.Minute
 	silent := rawSocket(t)
-	ended := make(chan error, 1)
-	go func() {
-		_, err := DialPacket("udp", silent.LocalAddr().String(), initiator)
-		ended <- err
-	}()
+	ctx, cancel := context.WithCancel(context.Background())
+	defer cancel()
+	ended := goes(func() error {
+		_, err := PacketConfig{Config: initiator}.Dial(ctx, "udp", silent.LocalAddr().String())
+		return err
+	})
 	var begun [][]byte
 	silent.SetReadDeadline(time.Now().Add(20 * time.Second))
 	for room := make([]byte, 65536); len(begun) < 3; {
@@ -227,7 +229,8 @@ func TestPacketBeginsAnew(t *testing.T) {
 			t.Error("a handshake that isn't the newest was repeated")
 		}
 	}
-	if err := <-ended; err != ErrHandshakeTimeout {
+	cancel()
+	if err := <-ended; err != context.Canceled {
 		t.Error(err)
 	}
 }
@@ -350,4 +353,49 @@ func TestPacketSilence(t *testing.T) {
 		}
 	}
 	t.Error("a session is kept by what doesn't open")
+}
+
+// TestPacketHoldsToOne has an initiator that has read the last message: it closes its other handshakes, and this one
+// before it begins another. Else the responder could have a session of one of them, and the initiator of another.
+func TestPacketHoldsToOne(t *testing.T) {
+	initiator, responder := packetConfigs(t, "NNpsk0")
+	settings, err := PacketConfig{Config: initiator}.checked(true)
+	if err != nil {
+		t.Fatal(err)
+	}
+	conn := badSocket(t, 1).PacketConn
+	ctx := context.Background()
+	c := &packetClient{conn: conn, to: conn.LocalAddr(), settings: settings, context: ctx, made: make(chan struct{})}
+	defer c.over()
+	answer := func(to *packetChannel) []byte {
+		channel, err := newPacketChannel(ctx, responder, false, 64, c.to)
+		if err != nil {
+			t.Fatal(err)
+		}
+		defer channel.close()
+		channel.take(ctx, to.own)
+		return channel.toSend()[0]
+	}
+	for i := 0; i < 2; i++ {
+		if err := c.try(); err != nil {
+			t.Fatal(err)
+		}
+	}
+	first, second := c.tried[0], c.tried[1]
+	late := answer(second)
+	c.take(answer(first))
+	c.take(late)
+	same(t, "the other, once one has read the last message", second.isDone, false)
+	for _, it := range []struct {
+		since time.Duration
+		holds bool
+	}{{2 * restartAfter, true}, {aloneFor, false}} {
+		c.since = time.Now().Add(-it.since)
+		if err := c.repeat(); err != nil {
+			t.Fatal(err)
+		}
+		same(t, "how many handshakes there are", len(c.tried), 1)
+		same(t, "whether it is still the first", c.tried[0] == first, it.holds)
+	}
+	same(t, "whether the new one is done", c.tried[0].isDone, false)
 }

@@ -278,8 +278,9 @@ func tryEnds(t *testing.T, l *PacketListener, client, server *PacketSession) {
 
 // TestPacketLimits has sessions that are silent, too many, and replaced.
 func TestPacketLimits(t *testing.T) {
+	t.Parallel()
 	initiator, responder := packetConfigs(t, "XX")
-	l, err := PacketConfig{Config: responder, MaxSessions: 2, Idle: 3 * time.Second}.Listen("udp", "127.0.0.1:0")
+	l, err := PacketConfig{Config: responder, MaxSessions: 2, Idle: 6 * time.Second}.Listen("udp", "127.0.0.1:0")
 	if err != nil {
 		t.Fatal(err)
 	}
@@ -386,6 +387,7 @@ func TestPacketReplaced(t *testing.T) {
 
 // TestPacketFaults has Configs that aren't right, a server of another key, one that is silent, and a context that ends.
 func TestPacketFaults(t *testing.T) {
+	t.Parallel()
 	initiator, responder := packetConfigs(t, "XX")
 	oneWay := &Config{Pattern: "N", PeerStatic: initiator.PeerStatic}
 	for _, config := range []*Config{nil, {Pattern: "NN"}, oneWay} {
@@ -420,6 +422,7 @@ func TestPacketFaults(t *testing.T) {
 		t.Fatal(err)
 	}
 	defer l.Close()
+	short.HandshakeTimeout = 3 * time.Second // so that an answer comes by then
 	_, err = DialPacket("udp", l.Addr().String(), &short)
 	if !errors.Is(err, ErrHandshakeTimeout) || !errors.Is(err, ErrPeerKey) {
 		t.Error(err)
@@ -456,6 +459,7 @@ func TestPacketAddresses(t *testing.T) {
 
 // TestPacketVerifyWaits has a VerifyPeer that waits for one client, and no other client waits for it.
 func TestPacketVerifyWaits(t *testing.T) {
+	t.Parallel()
 	initiator, responder := packetConfigs(t, "IK")
 	slow, err := GenerateKeyPair()
 	if err != nil {
@@ -485,7 +489,7 @@ func TestPacketVerifyWaits(t *testing.T) {
 	}
 	accepted := echoPackets(l)
 	waits := *initiator
-	waits.Static, waits.HandshakeTimeout = slow, time.Second
+	waits.Static, waits.HandshakeTimeout = slow, 3*time.Second
 	failed := make(chan error, 1)
 	go func() {
 		_, err := DialPacket("udp", l.Addr().String(), &waits)
@@ -557,6 +561,9 @@ func TestPacketQueueIsBounded(t *testing.T) {
 	s := newPacketSession(nil, &packetChannel{}, nil, nil)
 	for i := 0; i < 1000; i++ {
 		s.deliver(append(make([]byte, 60000), byte(i)))
+	}
+	if n, err := s.Read(nil); n != 0 || err != nil {
+		t.Error(n, err)
 	}
 	room, whole := make([]byte, 65536), 0
 	for i := 0; len(s.queue) > 0; i++ {

@@ -147,7 +147,9 @@ func TestUnsetPSK(t *testing.T) {
 func TestPSKsOfLaterMessages(t *testing.T) {
 	nine := "Tpsk0+psk1+psk2+psk3+psk4+psk5+psk6+psk7+psk8:\n  -> psk, e, psk\n  <- e, psk\n  -> ee, psk\n" +
 		"  <- s, psk\n  -> s, psk\n  <- es, psk\n  -> se, psk\n  <- ss, psk\n"
-	for pattern, count := range map[string]int{"XXpsk3": 1, "XXpsk0+psk3": 2, nine: 9} {
+	// Its first message has no ephemeral key, and nothing in it is encrypted.
+	static := "SEpsk2:\n  -> s\n  <- e, psk\n  -> e, ee\n"
+	for pattern, count := range map[string]int{"XXpsk3": 1, "XXpsk0+psk3": 2, nine: 9, static: 1} {
 		client, server := configs(t, pattern)
 		client.PSKs, server.PSKs = nil, nil
 		a, err := NewHandshakeState(client, true)

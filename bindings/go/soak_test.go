@@ -104,7 +104,7 @@ func TestSoak(t *testing.T) {
 	}
 	done.Wait()
 	listener.Close()
-	end := time.Now().Add(10 * time.Second)
+	end := time.Now().Add(30 * time.Second)
 	for runtime.NumGoroutine() > goroutines || openDescriptors(t) > descriptors {
 		if time.Now().After(end) {
 			t.Fatalf("%d goroutines and %d descriptors; before %d and %d",

@@ -123,6 +123,32 @@ func TestZeroConn(t *testing.T) {
 	}
 }
 
+// TestZeroPackets makes every call of a session and of a listener over datagrams that nobody has made.
+func TestZeroPackets(t *testing.T) {
+	s, l := new(PacketSession), new(PacketListener)
+	for name, it := range map[string]struct {
+		call func() error
+		want error
+	}{
+		"Read":             {func() error { _, err := s.Read(make([]byte, 1)); return err }, errZeroSession},
+		"Write":            {func() error { _, err := s.Write([]byte("x")); return err }, errZeroSession},
+		"SetDeadline":      {func() error { return s.SetDeadline(time.Now()) }, errZeroSession},
+		"SetReadDeadline":  {func() error { return s.SetReadDeadline(time.Now()) }, errZeroSession},
+		"SetWriteDeadline": {func() error { return s.SetWriteDeadline(time.Now()) }, errZeroSession},
+		"Close":            {s.Close, errZeroSession},
+		"Accept":           {func() error { _, err := l.Accept(); return err }, errZeroListener},
+		"AcceptSession":    {func() error { _, err := l.AcceptSession(); return err }, errZeroListener},
+		"Listener.Close":   {l.Close, errZeroListener},
+	} {
+		if err := soon(t, name, it.call); err != it.want {
+			t.Errorf("%s: %v", name, err)
+		}
+	}
+	if s.LocalAddr() != nil || s.RemoteAddr() != nil || s.ConnectionState().HandshakeComplete || l.Addr() != nil {
+		t.Error("what nobody has made has something")
+	}
+}
+
 // TestZeroHandshakeState makes every call of a handshake that nobody has made.
 func TestZeroHandshakeState(t *testing.T) {
 	h, ctx := new(HandshakeState), context.Background()
@@ -179,6 +205,9 @@ func TestClosedIsClosed(t *testing.T) {
 	must(t, err)
 	e, d, err := b.CipherStates()
 	must(t, err, s.Close(), r.Close(), e.Close(), d.Close())
+	a, _ = finished(t, "NN")
+	ds, dr, err := a.Datagrams(64)
+	must(t, err, ds.Close(), dr.Close())
 	key := pair(t)
 	key.Wipe()
 	h, err := NewHandshakeState(&Config{Pattern: "NN", InsecureAcceptAnyKey: true}, true)
@@ -187,13 +216,15 @@ func TestClosedIsClosed(t *testing.T) {
 	c, _ := connected(t, client, server)
 	must(t, c.Close())
 	for name, call := range map[string]func() error{
-		"Sender":         func() error { _, err := s.Seal(nil, nil); return err },
-		"Receiver":       func() error { _, err := r.Open(nil, nil); return err },
-		"CipherState":    func() error { _, err := e.Encrypt(nil, nil, nil); return err },
-		"Decrypt":        func() error { _, err := d.Decrypt(nil, nil, nil); return err },
-		"KeyPair":        func() error { _, err := key.Agree(context.Background(), PublicKey{9}); return err },
-		"HandshakeState": func() error { _, err := h.WriteMessage(nil, nil); return err },
-		"Conn":           func() error { _, err := c.Read(nil); return err },
+		"Sender":           func() error { _, err := s.Seal(nil, nil); return err },
+		"Receiver":         func() error { _, err := r.Open(nil, nil); return err },
+		"DatagramSender":   func() error { _, err := ds.Seal(nil, nil); return err },
+		"DatagramReceiver": func() error { _, err := dr.Open(nil, nil); return err },
+		"CipherState":      func() error { _, err := e.Encrypt(nil, nil, nil); return err },
+		"Decrypt":          func() error { _, err := d.Decrypt(nil, nil, nil); return err },
+		"KeyPair":          func() error { _, err := key.Agree(context.Background(), PublicKey{9}); return err },
+		"HandshakeState":   func() error { _, err := h.WriteMessage(nil, nil); return err },
+		"Conn":             func() error { _, err := c.Read(nil); return err },
 	} {
 		err := call()
 		wants(t, err, net.ErrClosed)

@@ -136,7 +136,7 @@ func TestSilentClient(t *testing.T) {
 		words []string
 		back  string
 	}{
-		{[]string{"-idle", "1s"}, ""},
+		{[]string{"-idle", "3s"}, ""},
 		{[]string{"-forward", echo.Addr().String()}, "hello"},
 		{[]string{"-exec", "cat"}, "hello"},
 		{[]string{"-exec", "sed s/h/H/"}, "Hello"},
@@ -151,7 +151,7 @@ func TestSilentClient(t *testing.T) {
 			end.in, end.out = strings.NewReader("hello"), &back
 			start := time.Now()
 			client(to(server)(l.address), &end)
-			if end.status != 0 || back.String() != it.back || time.Since(start) > 15*time.Second {
+			if end.status != 0 || back.String() != it.back || time.Since(start) > 25*time.Second {
 				t.Errorf("%v: status %d, %q: %s", it.words, end.status, back.String(), end.said.String())
 			}
 		}

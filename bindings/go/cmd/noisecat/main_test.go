@@ -233,7 +233,7 @@ func TestListenerGoesOn(t *testing.T) {
 	ends[1].in = strings.NewReader("hello")
 	came := new(strings.Builder)
 	ends[0].out = came
-	l := listen(t, cat("-key", "s", "-allow", own, "-timeout", "2s"), &ends[0])
+	l := listen(t, cat("-key", "s", "-allow", own, "-timeout", "5s"), &ends[0])
 	quiet, err := net.Dial("tcp", l.address)
 	if err != nil {
 		t.Fatal(err)
@@ -297,7 +297,7 @@ func TestSilentStrangers(t *testing.T) {
 	start := time.Now()
 	client(to(server)(l.address), &ends[1])
 	l.wait()
-	if ends[0].status != 0 || ends[1].status != 0 || time.Since(start) > 15*time.Second { // a handshake may take 30
+	if ends[0].status != 0 || ends[1].status != 0 || time.Since(start) > 25*time.Second { // a handshake may take 30
 		t.Errorf("status %d and %d: %s", ends[0].status, ends[1].status, ends[1].said.String())
 	}
 }

@@ -21,7 +21,7 @@ import (
 // settles waits until what a function says is empty.
 func settles(t *testing.T, left func() string) {
 	t.Helper()
-	for i := 0; i < 200; i++ {
+	for i := 0; i < 600; i++ {
 		if left() == "" {
 			return
 		}
@@ -68,7 +68,7 @@ func TestCutCommands(t *testing.T) {
 	// A signal ends the commands too.
 	before := len(groups()) // some are killed before they have written their line
 	silentClient(t, to(server)(l.address))
-	for i := 0; len(groups()) == before && i < 200; i++ {
+	for i := 0; len(groups()) == before && i < 600; i++ {
 		time.Sleep(50 * time.Millisecond)
 	}
 	if len(groups()) == before || children(t, l.cmd.Process.Pid, nil) == "" {
@@ -222,7 +222,7 @@ func TestProgress(t *testing.T) {
 	end := side{in: strings.NewReader(strings.Repeat("x", 3_000_000))}
 	client(cmd, &end)
 	l.wait()
-	if !regexp.MustCompile(`3\.0 MB sent, 3\.0 MB received, .*B/s, 0:00:0\d\s*\n$`).MatchString(end.said.String()) {
+	if !regexp.MustCompile(`3\.0 MB sent, 3\.0 MB received, .*B/s, 0:0\d:\d\d\s*\n$`).MatchString(end.said.String()) {
 		t.Errorf("status %d: %q", end.status, end.said.String())
 	}
 }

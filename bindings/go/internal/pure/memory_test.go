@@ -5,6 +5,7 @@ import (
 	"math/rand"
 	"runtime"
 	"strings"
+	"sync"
 	"testing"
 )
 
@@ -60,8 +61,8 @@ func TestNothingIsLeft(t *testing.T) {
 	}
 }
 
-// TestOverflow lets the stack grow over its end, which is the end of the array: each call then panics as Go does at a
-// wrong index, and its memory isn't used again.
+// TestOverflow lets the stack grow over its end, which is the end of the array: the call then panics as Go does at a
+// wrong index, and nobody takes its memory again.
 func TestOverflow(t *testing.T) {
 	w := new(world)
 	name := []byte("Noise_XXpsk3_25519_ChaChaPoly_SHA256")
@@ -69,23 +70,26 @@ func TestOverflow(t *testing.T) {
 	if code := Start(&w.h[0], name, nil, &w.setup); code != 0 {
 		t.Fatal(code)
 	}
+	forget := func() { spare[0] = sync.Pool{} } // no other call may take a memory of this test
+	defer forget()
 	for _, room := range []uint64{16, 64, 512, 4096} {
 		said := ""
 		for i := 0; i < 1000 && said == ""; i++ { // a pool may lose what is put into it
-			for class := range spare {
-				for spare[class].Get() != nil { // until there is none
-				}
-				m := newMemory(class)
-				m.g0 = base + room
-				spare[class].Put(m)
-			}
+			forget()
+			m := newMemory(0)
+			m.g0 = base + room
+			spare[0].Put(m)
 			h := w.h[0]
 			said = panicOf(func() { Write(&h, nil, w.buf[0][:100], &w.result) })
 		}
 		if !strings.Contains(said, "out of range") && !isRace {
 			t.Errorf("with %d bytes of stack: %q", room, said)
 		}
+		if said != "" && spare[0].Get() != nil {
+			t.Errorf("with %d bytes of stack: the memory may be taken again", room)
+		}
 	}
+	forget()
 	if code := Write(&w.h[0], nil, w.buf[0][:100], &w.result); code != 0 || w.result.Len != 48 {
 		t.Error("after the panics:", code, w.result.Len)
 	}

@@ -161,12 +161,12 @@ func TestNode(t *testing.T) {
 		_, err := conn.Write(changed)
 		must(t, err)
 	}
-	if reply := answer(t, conn); len(reply) > 0 {
+	if reply := answer(t, conn, 300*time.Millisecond); len(reply) > 0 {
 		t.Errorf("the node answers to a changed packet: %x", reply)
 	}
 	_, err = conn.Write(request)
 	must(t, err)
-	reply := answer(t, conn)
+	reply := answer(t, conn, 10*time.Second)
 	if len(reply) != len(request) {
 		t.Fatalf("no reply to what was changed before: %x", reply)
 	}
@@ -184,7 +184,7 @@ func TestNode(t *testing.T) {
 	}
 	_, err = conn.Write(request)
 	must(t, err)
-	if reply := answer(t, conn); len(reply) > 0 {
+	if reply := answer(t, conn, 300*time.Millisecond); len(reply) > 0 {
 		t.Errorf("the node answers to the same packet twice: %x", reply)
 	}
 	must(t, tunnel.ping(conn, soon()))
@@ -225,12 +225,12 @@ func TestForgedAnswers(t *testing.T) {
 	must(t, tunnel.ping(conn, soon()))
 }
 
-// answer returns the next packet of type test that comes, if one comes soon. At a counter that it has seen the node
-// also sends an error packet, which isn't authenticated.
-func answer(t *testing.T, conn net.Conn) []byte {
+// answer returns the next packet of type test that comes within a time; nil if none does. At a counter that it has seen
+// the node also sends an error packet, which isn't authenticated.
+func answer(t *testing.T, conn net.Conn, limit time.Duration) []byte {
 	t.Helper()
 	room := make([]byte, 9001)
-	must(t, conn.SetReadDeadline(time.Now().Add(300*time.Millisecond)))
+	must(t, conn.SetReadDeadline(time.Now().Add(limit)))
 	for {
 		n, err := conn.Read(room)
 		if err != nil || room[0] == version<<4|typeTest {
@@ -243,9 +243,9 @@ func answer(t *testing.T, conn net.Conn) []byte {
 func TestRefusals(t *testing.T) {
 	room, address, said := node(t)
 	conn := dialed(t, address)
-	_, err := member(t, room, "other-ca.crt", "me").connect(conn, time.Now().Add(2*time.Second))
+	_, err := member(t, room, "other-ca.crt", "me").connect(conn, soon())
 	wants(t, err, "the certificate is by another authority")
-	_, err = member(t, room, "node.crt", "me").connect(conn, time.Now().Add(2*time.Second))
+	_, err = member(t, room, "node.crt", "me").connect(conn, soon())
 	wants(t, err, "isn't one of an authority")
 	_, err = member(t, room, "ca.crt", "stranger").connect(dialed(t, address), time.Now().Add(time.Second))
 	wants(t, err, errSilent.Error())
