@@ -15,7 +15,8 @@ async def next_event(channel, stream):
     while True:
         event = channel.next_event()
         if data := channel.data_to_send():
-            await stream.send(data)
+            with anyio.CancelScope(shield=True):    # a send that is cancelled loses bytes
+                await stream.send(data)
         if isinstance(event, Pending):
             try:
                 answer = await event.awaitable

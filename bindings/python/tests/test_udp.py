@@ -156,6 +156,55 @@ def test_an_initiator_begins_anew_beside_the_others(each_loop, monkeypatch):
     run(main)
 
 
+class Mute(asyncio.DatagramProtocol):
+    """A responder that answers message 0 alone, until it `answers` transport datagrams."""
+
+    def __init__(self, config):
+        self.config, self.channels, self.came, self.answers = config, {}, [], False
+
+    def connection_made(self, transport):
+        self.transport = transport
+
+    def datagram_received(self, data, addr):
+        if data[0] == 0:
+            if data not in self.channels:
+                self.channels[data] = DatagramChannel(self.config, False)
+            channel = self.channels[data]
+        else:
+            self.came.append(data[1:9])
+            channel = next(it for it in self.channels.values() if it.index == data[1:9])
+        if data[0] == 0 or self.answers:
+            channel.receive(data)
+            for datagram in channel.datagrams_to_send():
+                self.transport.sendto(datagram, addr)
+
+
+def test_an_initiator_that_has_read_the_last_message_holds_to_it(each_loop, monkeypatch):
+    """It closes this handshake before it begins another. Else the responder could have a session of the second, whose
+    empty datagram replaced the first, while an answer that was under way has the initiator choose the first."""
+    monkeypatch.setattr(udp, "RESTART", 0.05)
+    monkeypatch.setattr(udp, "RESEND", 0.02)
+    monkeypatch.setattr(udp, "ALONE", 0.5)
+
+    async def main(_result):
+        first, second = configs("NNpsk0", handshake_timeout=60)
+        transport, mute = await asyncio.get_running_loop().create_datagram_endpoint(
+            lambda: Mute(second), local_addr=("127.0.0.1", 0)
+        )
+        async with client_at(transport.get_extra_info("sockname"), first) as client:
+            begun = asyncio.get_running_loop().time()
+            await until(lambda: len(set(mute.came)) == 2)
+            assert asyncio.get_running_loop().time() - begun > 0.5, "another was begun beside it"
+            mute.answers = True
+            peer = await client.connected
+            order = [mute.came.index(it) for it in mute.came]
+            assert order == sorted(order), "one that was given up was repeated"
+            assert [*client._peers] == [mute.came[-1]]
+            peer.close()
+        transport.close()
+    run(main)
+
+
 def test_a_session_moves_with_its_newest_datagram_alone(each_loop):
     async def main(_result):
         first, second = configs("XX")

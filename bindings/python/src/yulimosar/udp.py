@@ -17,6 +17,7 @@ from .rules import First, Kind
 
 RESEND = 0.25       # in seconds: after which what isn't answered is sent again
 RESTART = 1.0       # in seconds: after which an initiator begins another handshake beside those that aren't answered
+ALONE = 5.0         # in seconds: how long an initiator that has read the last message holds to that handshake
 MOST_TRIED = 8      # how many handshakes an initiator has at once
 MOST_BEGUN = 256    # how many handshakes without a peer a responder has at once
 MOST_PAYLOAD = 65507 - rules.OVERHEAD    # a datagram of UDP over IPv4 has at most 65507 bytes
@@ -84,6 +85,7 @@ class DatagramProtocol(asyncio.DatagramProtocol):
         self._config, self._initiator, self._window = config, initiator, window
         self._most_peers, self._idle, self._busy = most_peers, idle, busy
         self._messages = layout(config.pattern).messages
+        self._reads_last = self._messages[-1].initiator != initiator
         self._peers: dict[bytes, DatagramPeer] = {}    # by index
         self._firsts: dict[bytes, DatagramPeer] = {}    # by the first message of each peer's handshake
         self._begun: dict[tuple[Any, bytes], _Begun] = {}    # by address and first message, the oldest first
@@ -185,12 +187,25 @@ class DatagramProtocol(asyncio.DatagramProtocol):
 
     def _answered(self, data: bytes) -> None:
         for begun in list(self._begun.values()):
-            self._pass(begun, data)
+            if (None, begun.first) in self._begun:    # another one may have closed it
+                self._pass(begun, data)
+
+    def _hold_to(self, begun: _Begun) -> None:
+        """Closes the others: this one's empty datagram may replace a session of theirs at the responder."""
+        begun.since = self.loop.time()
+        for other in [it for it in self._begun.values() if it is not begun]:
+            self._close(other)
 
     def _try_again(self, now: float) -> None:
         """Sends again what isn't answered; of what nobody has answered at all, the newest alone."""
         *others, newest = self._begun.values()
-        if now - newest.since >= RESTART:
+        if self._reads_last and newest.channel.done:
+            if now - newest.since < ALONE:
+                self._repeat(newest)
+            else:
+                self._close(newest)
+                self._try()
+        elif now - newest.since >= RESTART:
             self._try()    # the responder may have forgotten the others
             others.append(newest)
         else:
@@ -266,6 +281,8 @@ class DatagramProtocol(asyncio.DatagramProtocol):
             self._done[index] = begun
             if not self._initiator:
                 begun.since = self.loop.time()    # its time begins anew: the other party may know of the session now
+            elif self._reads_last:
+                self._hold_to(begun)
         elif index is not None and self._done.get(index) is not begun:
             self._close(begun)    # two sessions have the same index
         for datagram in begun.channel.datagrams_to_send():
