@@ -5,7 +5,8 @@ use std::io::{self, ErrorKind};
 use std::pin::Pin;
 use std::task::{Context, Poll};
 use std::time::Duration;
-use tokio::io::{AsyncBufReadExt, AsyncRead, AsyncReadExt, AsyncWrite, AsyncWriteExt, ReadBuf};
+use tokio::io::{copy, copy_bidirectional, duplex, split};
+use tokio::io::{AsyncBufReadExt, AsyncRead, AsyncReadExt, AsyncWrite, AsyncWriteExt, BufStream, ReadBuf};
 use tokio::net::{TcpListener, TcpStream};
 use tokio::time::{sleep, timeout};
 use toy::{begun, builder, Toy};
@@ -234,4 +235,79 @@ async fn lines_are_read() {
     assert_eq!(lines.next_line().await.unwrap().as_deref(), Some("one"));
     assert_eq!(lines.next_line().await.unwrap().as_deref(), Some("two"));
     assert_eq!(lines.next_line().await.unwrap(), None);
+}
+
+// Streams below with little room, and with a buffer that waits for a flush, which is pending at times.
+const ROOMS: [usize; 3] = [16, 65, 8192];
+
+async fn tunnel(room: usize) -> io::Result<()> {
+    let sent: Vec<u8> = (0..20_000_u32).map(|i| (i % 251) as u8).collect();
+    let ((a, b), (client, server)) = (duplex(room), begun("XX"));
+    let ((own, mut near), (mut far, echo)) = (duplex(room), duplex(room));
+    let served = tokio::spawn(async move {
+        let mut channel = AsyncStream::new(BufStream::new(b), server, |_| async { true }).await?;
+        copy_bidirectional(&mut channel, &mut far).await
+    });
+    let carried = tokio::spawn(async move {
+        let mut channel = AsyncStream::new(BufStream::new(a), client, |_| async { true }).await?;
+        copy_bidirectional(&mut near, &mut channel).await
+    });
+    let echoed = tokio::spawn(async move {
+        let (mut reads, mut writes) = split(echo);
+        copy(&mut reads, &mut writes).await?;
+        writes.shutdown().await
+    });
+    let ((mut reads, mut writes), bytes) = (split(own), sent.clone());
+    let written = tokio::spawn(async move {
+        writes.write_all(&bytes).await?;
+        writes.shutdown().await
+    });
+    let mut got = Vec::new();
+    reads.read_to_end(&mut got).await?;
+    assert!(got == sent);
+    written.await??;
+    echoed.await??;
+    assert_eq!((served.await??, carried.await??), ((20_000, 20_000), (20_000, 20_000)));
+    Ok(())
+}
+
+#[tokio::test]
+async fn tunnels_over_streams_with_little_room() {
+    for room in ROOMS {
+        timeout(Duration::from_secs(60), tunnel(room)).await.expect("it doesn't hang").unwrap();
+    }
+}
+
+// The one that reads is polled first, and both send the last message of the handshake.
+async fn shared(room: usize) -> io::Result<()> {
+    let ((a, b), (client, server)) = (duplex(room), begun("XX"));
+    let server = tokio::spawn(async move {
+        let mut stream = AsyncStream::new(BufStream::new(b), server, |_| async { true }).await?;
+        let mut said = [0; 5];
+        stream.read_exact(&mut said).await?;
+        stream.write_all(&said).await?;
+        stream.shutdown().await
+    });
+    let client = AsyncStream::new(BufStream::new(a), client, |_| async { true }).await?;
+    let (mut reads, mut writes) = split(client);
+    let reader = tokio::spawn(async move {
+        let mut text = String::new();
+        reads.read_to_string(&mut text).await.map(|_| text)
+    });
+    tokio::task::yield_now().await;
+    let writer = tokio::spawn(async move {
+        writes.write_all(b"hello").await?;
+        writes.flush().await?;
+        writes.shutdown().await
+    });
+    writer.await??;
+    assert_eq!(reader.await??, "hello");
+    server.await?
+}
+
+#[tokio::test]
+async fn two_tasks_share_a_stream() {
+    for room in ROOMS {
+        timeout(Duration::from_secs(60), shared(room)).await.expect("it doesn't hang").unwrap();
+    }
 }

@@ -2,7 +2,7 @@
 use std::io::{self, ErrorKind, Read, Write};
 use std::net::TcpStream;
 use std::time::{Duration, Instant};
-use toy::{begun, streams, tcp, Toy};
+use toy::{begun, open, streams, tcp, Toy};
 use yulimosar::{Deadline, Error, HandshakeError, Stream};
 
 mod toy;
@@ -149,54 +149,20 @@ fn two_bytes_take_no_memory() {
     assert!(client.get_ref().2 <= 4 * 5002);
 }
 
-type Queue = std::rc::Rc<std::cell::RefCell<std::collections::VecDeque<u8>>>;
-
-// What is written, what is read, and the most bytes that a read has asked for.
-struct Memory(Queue, Queue, usize);
-
-impl Read for Memory {
-    fn read(&mut self, into: &mut [u8]) -> io::Result<usize> {
-        self.2 = self.2.max(into.len());
-        match self.1.borrow_mut().read(into)? {
-            0 => Err(ErrorKind::WouldBlock.into()),
-            count => Ok(count),
-        }
-    }
-}
-
-impl Write for Memory {
-    fn write(&mut self, bytes: &[u8]) -> io::Result<usize> {
-        self.0.borrow_mut().write(bytes)
-    }
-
-    fn flush(&mut self) -> io::Result<()> {
-        Ok(())
-    }
-}
-
-fn open() -> (Stream<Memory>, Stream<Memory>) {
-    let ((there, back), (client, server)) = ((Queue::default(), Queue::default()), begun("XX"));
-    let mut client = Stream::new(Memory(there.clone(), back.clone(), 0), client, |_| true);
-    let mut server = Stream::new(Memory(back, there, 0), server, |_| true);
-    loop {
-        (client, server) = match (client, server) {
-            (Ok(client), Ok(server)) => return (client, server),
-            (Ok(mut client), server) => {
-                client.flush().unwrap(); // the last message of the handshake
-                (Ok(client), next(server))
-            }
-            (client, server) => (next(client), next(server)),
-        };
-    }
-}
-
-type Passed = Result<Stream<Memory>, HandshakeError<Memory, Toy, Toy>>;
-
-fn next(passed: Passed) -> Passed {
-    match passed {
-        Err(HandshakeError::Interrupted(it)) => it.resume(|_| true),
-        other => other,
-    }
+#[test]
+fn a_read_without_room_waits_for_nothing() {
+    let (mut client, mut server) = open();
+    assert_eq!(client.read(&mut []).unwrap(), 0, "nothing has come");
+    server.write_all(b"hello").unwrap();
+    assert_eq!(client.read(&mut []).unwrap(), 0, "a frame has come");
+    let mut said = [0; 2];
+    client.read_exact(&mut said).unwrap();
+    assert_eq!(client.read(&mut []).unwrap(), 0, "a part of it was read");
+    let mut rest = [0; 3];
+    client.read_exact(&mut rest).unwrap();
+    assert_eq!((&said, &rest), (b"he", b"llo"));
+    let (mut reads, _writes) = client.split(|below| Ok(below.clone())).unwrap();
+    assert_eq!(reads.read(&mut []).unwrap(), 0, "a half waits neither");
 }
 
 // A party that is silent, that sends a byte at times, or that doesn't read, is waited for until the deadline.

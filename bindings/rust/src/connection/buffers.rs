@@ -7,6 +7,11 @@ use core::ops::Range;
 // The bytes of a buffer that is kept while nothing comes and nothing is to be sent.
 const KEPT: usize = 4096;
 
+// A buffer with so many bytes grows to four times as many, and a little more: so a frame of 16 KiB takes two steps.
+fn grown(len: usize) -> usize {
+    (4 * len + 64).clamp(KEPT, MAX_FRAME)
+}
+
 // Bytes that came, and aren't used yet. The buffer grows with what comes, whatever length a frame begins with.
 #[derive(Default)]
 pub(super) struct Incoming {
@@ -62,7 +67,7 @@ impl Incoming {
         if have.start > 0 {
             self.buffer.copy_within(have.clone(), 0);
         } else {
-            let mut larger = vec![0; (4 * have.len() + 1).clamp(KEPT, MAX_FRAME)];
+            let mut larger = vec![0; grown(have.len())];
             larger[..have.len()].copy_from_slice(&self.buffer);
             wipe(&mut self.buffer);
             self.buffer = larger;
@@ -134,13 +139,14 @@ impl Outgoing {
 #[cfg(test)]
 mod tests {
     use super::*;
+    use crate::header::STREAM_OVERHEAD;
 
     #[test]
     fn large_buffers_are_given_back() {
         let mut incoming = Incoming::default();
         incoming.room();
         assert_eq!(incoming.buffer.len(), KEPT);
-        for kept in [4 * KEPT + 1, MAX_FRAME] {
+        for kept in [grown(KEPT), MAX_FRAME] {
             let count = incoming.room().len();
             incoming.came(count);
             incoming.room();
@@ -163,5 +169,16 @@ mod tests {
         outgoing.sent(1);
         outgoing.release();
         assert_eq!(outgoing.buffer.capacity(), 0);
+    }
+
+    #[test]
+    fn a_frame_of_16_kib_takes_two_steps() {
+        let (mut incoming, mut steps, frame) = (Incoming::default(), 0, (16 << 10) + STREAM_OVERHEAD);
+        while incoming.len() < frame {
+            let count = incoming.room().len().min(frame - incoming.len());
+            incoming.came(count);
+            steps += 1;
+        }
+        assert_eq!((steps, incoming.buffer.len()), (2, grown(KEPT)));
     }
 }
