@@ -12,6 +12,7 @@
 //                    many milliseconds: what is closed before may reset a connection of TCP, and what was sent may be
 //                    lost;
 //   stream           the stream of Node that it is over, if it is over one;
+//   broken           a promise of the error, once the connection has broken, and what came and wasn't pulled is lost;
 //   destroy(reason)  ends it at once: what isn't sent yet is dropped, and no listener stays;
 // and a WebSocket calls `overflowed`, where one was set, with the error by which it has destroyed itself.
 import { NoiseError } from './codes.mjs';
@@ -35,6 +36,9 @@ function ofStreams({ readable, writable }) {
   let unsent = 0;
   let isClosing = false;
   let drained;
+  const broken = new Promise((resolve) => {
+    for (const { closed } of [reader, writer]) closed.catch((error) => resolve(cut(error)));
+  });
   const read = () =>
     reader.read().then(({ value, done }) => (done ? undefined : value), (error) => { throw cut(error); });
   const end = () => {
@@ -42,6 +46,7 @@ function ofStreams({ readable, writable }) {
     return writer.close();
   };
   return {
+    broken,
     ready: async () => {},
     write: async (frames) => {
       unsent += 1;

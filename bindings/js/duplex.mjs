@@ -1,11 +1,14 @@
 // A channel as a stream of Node, with what programs call on a socket of TCP.
 import { OWN } from './own.mjs';
-import { LONGEST, afterTurn } from './waiting.mjs';
+import { LINGER, LONGEST, afterTurn } from './waiting.mjs';
+
+/** Names a method of the stream that only this package calls. */
+export const PASS_ON = Symbol('passOn');
 
 /** What a socket below tells of both ends. */
 const OF_SOCKET = [
-  'bytesRead', 'bytesWritten', 'localAddress', 'localFamily', 'localPort', 'remoteAddress', 'remoteFamily',
-  'remotePort',
+  'autoSelectFamilyAttemptedAddresses', 'bytesRead', 'bytesWritten', 'localAddress', 'localFamily', 'localPort',
+  'remoteAddress', 'remoteFamily', 'remotePort',
 ];
 
 /**
@@ -22,7 +25,12 @@ function classOf() {
     #channel;
     #below;
     #timer;
-    timeout = 0;
+    #isReading = false;    // it passes on what came
+    #isWanted = false;
+    #late;    // destroys it, though not all is sent
+    #isSoon = false;
+    #passing = 0;    // of so many bytes the channel has still to send
+    timeout;
     connecting = false;
 
     constructor(channel, below, sides) {
@@ -32,10 +40,33 @@ function classOf() {
     }
 
     _read() {
-      this.#channel.receive().then(
-        (payload) => { this.#touch(); this.push(payload ?? null); },
-        (error) => this.destroy(error),
-      );
+      this.#isWanted = true;
+      if (this.#isReading) return;    // who gets a payload may call for the next one
+      this.#channel.receive().then((payload) => this.#pass(payload), (error) => this.destroy(error));
+    }
+
+    /** Passes a payload on, and those that came behind it, as long as they are wanted. */
+    #pass(payload) {
+      this.#touch();
+      this.#isReading = true;
+      try {
+        for (let found = { value: payload }; found; found = this.#found()) {
+          this.#isWanted = false;
+          if (!this.push(found.value ?? null) && !this.#isWanted) return;
+        }
+      } finally {
+        this.#isReading = false;
+      }
+      if (this.#isWanted) this._read();
+    }
+
+    #found() {
+      try {
+        return this.#channel.came(OWN);
+      } catch (error) {
+        this.destroy(error);
+        return undefined;
+      }
     }
 
     /** What is written in one turn of the event loop is passed on together. */
@@ -53,30 +84,75 @@ function classOf() {
 
     _writev(chunks, done) {
       this.#touch();
-      this.#channel.sendAll(OWN, chunks.map(({ chunk }) => chunk)).then(() => { this.#touch(); done(); }, done);
-    }
-
-    _final(done) {
-      this.#channel.end().then(() => done(), done);
-    }
-
-    /** Closes in order where both streams have ended; what was sent still leaves where this party's has. */
-    _destroy(error, done) {
-      clearTimeout(this.#timer);
-      if (error || !this.writableFinished) {
-        this.#channel.destroy();
+      this.#passing = this.writableLength;    // there are no others
+      const sent = () => { this.#passing = 0; this.#touch(); done(); };
+      let taken;
+      try {
+        taken = this.#channel.sendAll(OWN, chunks.map(({ chunk }) => chunk));
+      } catch (error) {
         done(error);
         return;
       }
-      const closed = this.#channel.close();
-      if (this.readableEnded) closed.then(() => done(null));
-      else done(null);
+      if (taken) taken.then(sent, done);
+      else sent();
+    }
+
+    /**
+     * Passes on what was written, so that it keeps its place before what the channel sends by other calls; whether
+     * some can't be, since what was written before isn't sent.
+     */
+    [PASS_ON]() {
+      if (this.destroyed) return false;
+      while (this.writableCorked > 0) this.uncork();
+      return this.writableLength > this.#passing;
+    }
+
+    /** The stream may be ended already, by the channel's own `end`. */
+    _final(done) {
+      this.#channel.end().then(() => done(), (error) => done(error.code === 'NOISE_CLOSED' ? null : error));
+    }
+
+    /**
+     * A loop over a stream destroys it at the end. Where this party's stream is ended then, too, what was written still
+     * leaves, and the stream destroys itself.
+     */
+    destroy(error, ...words) {
+      const isEnding = this.readableEnded && this.writableEnded && !this.writableFinished;
+      if (error || !isEnding || this.destroyed) return super.destroy(error, ...words);
+      this.#late ??= setTimeout(() => super.destroy(), LINGER);
+      return this;
+    }
+
+    /** Closes in order where both streams have ended, and is a cut elsewhere. */
+    _destroy(error, done) {
+      clearTimeout(this.#timer);
+      clearTimeout(this.#late);
+      if (error || !this.writableFinished || !(this.readableEnded || this.#isSoon)) {
+        this.#channel.destroy();
+        done(error);
+      } else if (this.readableEnded) this.#channel.close().then(() => done(null));
+      else {
+        this.#channel.leave(OWN);
+        done(null);
+      }
+    }
+
+    /** As of a socket, 'close' says whether there was an error. */
+    emit(event, ...words) {
+      return event === 'close' ? super.emit(event, Boolean(this.errored)) : super.emit(event, ...words);
     }
 
     destroySoon() {
+      this.#isSoon = true;
       if (this.writable) this.end();
       if (this.writableFinished) this.destroy();
       else this.once('finish', this.destroy);
+    }
+
+    /** Resets the connection, where a socket can do so: its other party may lose what has come, too. */
+    resetAndDestroy() {
+      this.#below?.resetAndDestroy?.();
+      return super.destroy();
     }
 
     #touch() {

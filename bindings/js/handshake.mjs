@@ -22,14 +22,23 @@ const PLACEHOLDER = new Uint8Array(32);
  * @property {boolean} done Whether all messages have passed.
  */
 
+/** What was thrown, as a text. It may be anything. */
+function textOf(thrown) {
+  try {
+    return String(thrown?.message || thrown);
+  } catch {
+    return 'what it threw has no text';
+  }
+}
+
 /** The answer of a key pair, or NOISE_KEY where it fails, with what a pair of the program's says of that. */
 async function asked(pair, ask) {
   try {
     return await ask();
   } catch (cause) {
     if (cause instanceof NoiseError && cause.code === 'NOISE_UNSUPPORTED') throw cause;
-    const isTold = !(pair instanceof KeyPair) && cause?.message;
-    throw new NoiseError('NOISE_KEY', { cause, message: isTold ? `agree has failed: ${cause.message}` : undefined });
+    const isTold = !(pair instanceof KeyPair);
+    throw new NoiseError('NOISE_KEY', { cause, message: isTold ? `agree has failed: ${textOf(cause)}` : undefined });
   }
 }
 

@@ -85,6 +85,11 @@ export class Incoming {
     return this.#pulling;
   }
 
+  /** Throws once the connection breaks, or ends where nothing came that isn't used. It uses nothing itself. */
+  async watch() {
+    if (this.left === 0 && (await this.#pulled()) === undefined) throw new NoiseError('NOISE_CUT');
+  }
+
   /**
    * What `look` makes of the first bytes, `{ value }`, or undefined where it needs more of them. `look(held,
    * count)` gets these bytes, and says `wanted`, how many more it needs, or else `used` and `value`. NOISE_TOO_LONG

@@ -97,6 +97,11 @@ class Library {
     return [this.at[name], bytes.length];
   }
 
+  /** Copies bytes to a place of one call, behind so many others. */
+  fill(name, behind, bytes) {
+    this.#bytes.set(bytes, this.at[name] + behind);
+  }
+
   wipe(name, size = SCRATCH[name]) {
     const start = this.at[name];
     this.#bytes.fill(0, start, start + size);

@@ -3,6 +3,7 @@ import { NoiseError } from './codes.mjs';
 import { carrierOf } from './carriers.mjs';
 import { Handshake } from './handshake.mjs';
 import { Incoming } from './incoming.mjs';
+import { KeyPair } from './keys.mjs';
 import { staticKeysOf } from './layout.mjs';
 import { optionsOf } from './setup.mjs';
 import { findMessage, frameOf } from './stream.mjs';
@@ -24,6 +25,10 @@ function hasToVerify({ pattern, responder, remoteStatic, psks = [], pskFor }, ve
   }
   return verify !== undefined && isKeyed;
 }
+
+/** Whether messages of a handshake ask the program, for a result of X25519 or a psk. */
+const asksProgram = ({ staticKey, ephemeralKey, pskFor }) =>
+  pskFor !== undefined || [staticKey, ephemeralKey].some((key) => key !== undefined && !(key instanceof KeyPair));
 
 /** A number of bytes, from 0 on. */
 function sizeOf(value, what) {
@@ -62,10 +67,28 @@ class Bound {
 }
 
 /**
+ * Waits for what asks the program. A connection that breaks meanwhile ends `waiting`, and so does the end of what the
+ * other party sends, where something has still to come, at least the end of its stream.
+ */
+async function asked(work, { carrier, incoming, waiting, isMute }) {
+  let isOver = false;
+  const lost = (error) => { if (!isOver) waiting.end(error); };
+  carrier.broken?.then(lost);
+  if (!isMute) incoming.watch().catch(lost);
+  try {
+    return await waiting.for(work());
+  } finally {
+    isOver = true;
+  }
+}
+
+/**
  * Passes the messages of a handshake, each of at most `limit` bytes, as long as `waiting` isn't over. Gives the
  * frames that are kept back: that of the last message, if this party writes it, leaves with the first payload.
  */
-async function pass({ carrier, incoming, handshake, verify, limit, waiting, bound }) {
+async function pass(it) {
+  const { carrier, incoming, handshake, verify, limit, waiting, bound } = it;
+  const step = it.asks ? (work) => asked(work, it) : (work) => waiting.for(work());
   let isDue = verify !== undefined;
   const kept = [];
   for (;;) {
@@ -73,12 +96,12 @@ async function pass({ carrier, incoming, handshake, verify, limit, waiting, boun
     const { remoteStatic } = handshake;
     if (isDue && (done || remoteStatic)) {
       isDue = false;
-      if ((await waiting.for(verify(remoteStatic))) !== true) throw new NoiseError('NOISE_REFUSED');
+      if ((await asked(() => verify(remoteStatic), it)) !== true) throw new NoiseError('NOISE_REFUSED');
     }
     if (done) return kept;
     const isLast = passed + 1 === messages;
     if (writesNext) {
-      const frame = frameOf(await waiting.for(handshake.write()));
+      const frame = frameOf(await step(() => handshake.write()));
       if (isLast) kept.push(frame);
       else await waiting.for(carrier.write([frame]));
       continue;
@@ -86,7 +109,7 @@ async function pass({ carrier, incoming, handshake, verify, limit, waiting, boun
     const found = await waiting.for(incoming.next(findMessage, { limit: limit + 2 }));    // 2 bytes of its length
     if (!found) throw new NoiseError('NOISE_CUT');
     if (isLast) bound.hasLast();    // the other party may send payloads at once
-    await waiting.for(handshake.read(found.value));
+    await step(() => handshake.read(found.value));
   }
 }
 
@@ -145,26 +168,17 @@ export async function opened(connection, options) {
     carrier.overflowed = (error) => waiting.end(error);
     await waiting.for(carrier.ready());
     const incoming = new Incoming(() => carrier.pull());
+    // In a one-way pattern only the initiator sends.
+    const [isOneWay, isFirst] = [handshake.stage.messages === 1, !setup.responder];
+    const isMute = isOneWay && isFirst;    // the other party
     const kept = await pass({
-      carrier,
-      incoming,
-      handshake,
-      verify: isDue ? bound.asking(verify) : undefined,
-      limit,
-      waiting,
-      bound,
+      carrier, incoming, handshake, limit, waiting, bound, isMute,
+      asks: asksProgram(setup), verify: isDue ? bound.asking(verify) : undefined,
     });
     carrier.overflowed = undefined;    // the next call of receive throws it
     bound.hasLast();
-    // In a one-way pattern only the initiator sends.
-    const [isOneWay, isFirst] = [handshake.stage.messages === 1, !setup.responder];
-    return {
-      carrier,
-      incoming: isOneWay && isFirst ? undefined : incoming,
-      mayWrite: isFirst || !isOneWay,
-      stream: handshake.finishStream({ interval }),
-      kept,
-    };
+    const stream = handshake.finishStream({ interval });
+    return { carrier, incoming: isMute ? undefined : incoming, mayWrite: isFirst || !isOneWay, stream, kept };
   } catch (error) {
     waiting.end(error);
     carrier.destroy(error);

@@ -10,16 +10,17 @@ export interface PayloadReadable extends Of<'ReadableStream', AsyncIterable<Uint
 /** What is sent over a channel, as a WritableStream. */
 export interface PayloadWritable extends Of<'WritableStream', { readonly locked: boolean }> {}
 
-// @ts-ignore: without the types of Node it is any
-type Duplex = import('node:stream').Duplex;
+// @ts-ignore: without the types of Node only what stands below is known
+import type { Duplex } from 'node:stream';
 
 /** A channel as a stream of Node, with what a socket of TCP has beside one. */
-export type ChannelDuplex = Duplex & {
+export interface ChannelDuplex extends Duplex {
   allowHalfOpen: boolean;
   readonly connecting: false;
   readonly pending: false;
   readonly readyState: 'open' | 'readOnly' | 'writeOnly' | 'closed';
-  readonly timeout: number;
+  readonly timeout: number | undefined;
+  readonly autoSelectFamilyAttemptedAddresses: string[] | undefined;
   readonly bytesRead: number | undefined;
   readonly bytesWritten: number | undefined;
   readonly localAddress: string | undefined;
@@ -30,12 +31,13 @@ export type ChannelDuplex = Duplex & {
   readonly remotePort: number | undefined;
   address(): { address?: string, family?: string, port?: number };
   destroySoon(): void;
-  ref(): ChannelDuplex;
-  setKeepAlive(isOn?: boolean, delay?: number): ChannelDuplex;
-  setNoDelay(isOn?: boolean): ChannelDuplex;
-  setTimeout(milliseconds: number, listener?: () => void): ChannelDuplex;
-  unref(): ChannelDuplex;
-};
+  ref(): this;
+  resetAndDestroy(): this;
+  setKeepAlive(isOn?: boolean, delay?: number): this;
+  setNoDelay(isOn?: boolean): this;
+  setTimeout(milliseconds: number, listener?: () => void): this;
+  unref(): this;
+}
 
 /** A key of WebCrypto. */
 export interface WebCryptoKey extends Of<'CryptoKey', { readonly type: string }> {}

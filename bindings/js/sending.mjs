@@ -98,10 +98,7 @@ export class Sending {
   #putBatch(batch) {
     if (this.#batch === batch) this.#batch = undefined;
     try {
-      this.#mustGoOn();
-      const frames = this.#stream.writeAll(batch.bytes, this.#carrier.room);
-      if (batch.isLast) frames.push(this.#end());
-      return frames.length > 0 ? this.put(frames) : undefined;
+      return this.#putParts([batch.bytes], batch.isLast);
     } finally {
       batch.dispose();
     }
@@ -113,11 +110,27 @@ export class Sending {
     return frame;
   }
 
+  /** Seals a payload that comes in parts, and the end where it `isLast`: a promise, or nothing, as `put`. */
+  #putParts(parts, isLast) {
+    this.#mustGoOn();
+    const frames = this.#stream.write(parts, this.#carrier.room);
+    if (isLast) frames.push(this.#end());
+    return frames.length > 0 ? this.put(frames) : undefined;
+  }
+
   /** Seals a payload at once: a promise, or nothing where the connection has taken it. */
   putPayload(payload) {
-    this.#mustGoOn();
-    const frames = this.#stream.writeAll(payload, this.#carrier.room);
-    return frames.length > 0 ? this.put(frames) : undefined;
+    return this.#putParts([payload]);
+  }
+
+  /**
+   * Seals a payload of at most SHARED bytes in its turn, which comes in parts that don't change until then: a promise,
+   * or nothing where the connection has taken it.
+   */
+  putAll(parts) {
+    if (!this.#turns.isIdle) return this.take(() => this.#putParts(parts));
+    const taken = this.#putParts(parts);
+    return taken && this.take(() => taken);
   }
 
   putEnd() {

@@ -3,18 +3,17 @@
 import { SHARED } from './batch.mjs';
 import { NoiseError } from './codes.mjs';
 import { bytesOf, copyOf } from './bytes.mjs';
-import { duplexOf } from './duplex.mjs';
+import { PASS_ON, duplexOf } from './duplex.mjs';
 import { opened } from './opening.mjs';
 import { OWN, mustBeOwn } from './own.mjs';
 import { Sending } from './sending.mjs';
 import { MOST } from './stream.mjs';
-import { Turns, Waiting, mustGoOn, unlessAborted, within } from './waiting.mjs';
+import { LINGER, Turns, Waiting, mustGoOn, unlessAborted, within } from './waiting.mjs';
+import { Written } from './written.mjs';
 
 /** A payload of so many bytes leaves at once, where nothing waits to be sent: a copy would cost more than a write. */
 const ALONE = 1 << 14;
-/** How long a channel that is closed waits for the other party to close the connection, in milliseconds. */
-const LINGER = 5000;
-// how long one that is left does, once all is sent, and how many bytes it reads
+// how long a channel that is left waits for the other party, once all is sent, and how many bytes it reads
 const BRIEF = { patience: 200, most: 1 << 20 };
 
 const SENT = Promise.resolve();
@@ -36,7 +35,7 @@ export class NoiseSocket {
   #closing;
   #isDestroyed = false;
   #readable;
-  #writable;
+  #written;    // to `writable`
   #duplex;
   #mayWrite;    // not the responder of a one-way pattern
   #look = (held, count) => this.#stream.read(held, count);
@@ -69,7 +68,8 @@ export class NoiseSocket {
 
   /**
    * Passes a handshake, without payloads, over a WebSocket, over `{readable, writable}`, or over a stream of Node.
-   * What a WebSocket got before this call isn't seen. Where it throws, the connection is destroyed. The last
+   * What a WebSocket got before this call isn't seen. Where it throws, the connection is destroyed. Where the
+   * connection breaks it throws NOISE_CUT, also while `verify`, `pskFor` or `agree` hasn't answered. The last
    * message of the handshake, if this party writes it, leaves with what is sent at once after this call, or else
    * soon after it.
    * @param {import('./carriers.mjs').Connection} connection
@@ -94,6 +94,32 @@ export class NoiseSocket {
     this.#sending.end(error);
     this.#stream.dispose();
     this.#carrier.destroy(error);
+  }
+
+  /** Passes on what was written to `duplex`; whether some of it has to wait, and what is sent now after it. */
+  #isBehind() {
+    return this.#duplex !== undefined && this.#duplex[PASS_ON]();
+  }
+
+  /** A call of the duplex, behind what it holds. A signal that aborts ends the channel. */
+  async #byDuplex(call, signal) {
+    const abort = () => this.#fail(signal.reason);
+    signal?.addEventListener('abort', abort);
+    try {
+      await new Promise((resolve, reject) => { call((error) => (error ? reject(error) : resolve())); });
+    } catch (error) {
+      mustGoOn(signal);
+      this.#mustBeOpen();
+      throw error;
+    } finally {
+      signal?.removeEventListener('abort', abort);
+    }
+  }
+
+  /** Waits until what the duplex holds is sent. */
+  #held() {
+    const { writable } = this.#duplex;
+    return this.#byDuplex((done) => (writable ? this.#duplex.write('', done) : this.#duplex.end(done)));
   }
 
   /** Work in its turn. What has begun when the signal aborts was sent in part: the channel ends. */
@@ -127,10 +153,14 @@ export class NoiseSocket {
       this.#mustBeOpen();
       mustGoOn(signal);
       bytesOf(payload, 'payload');
+      if (this.#isBehind()) {
+        if (!this.#duplex.writable) throw new NoiseError('NOISE_CLOSED');
+        const copy = copyOf(payload, 'payload');
+        return this.#byDuplex((done) => this.#duplex.write(copy, done), signal);
+      }
       if (signal || payload.length > SHARED) return this.#sendCopy(copyOf(payload, 'payload'), signal);
       if (payload.length < ALONE || !this.#sending.isIdle) return this.#sending.add(payload);
-      const taken = this.#sending.putPayload(payload);
-      return taken ? this.#sending.take(() => taken) : SENT;
+      return this.#sending.putAll([payload]) ?? SENT;
     } catch (error) {
       return Promise.reject(error);
     }
@@ -145,15 +175,21 @@ export class NoiseSocket {
   }
 
   /**
-   * Ends what this party sends, and waits until the connection has taken the end: the other party's `receive` gives
-   * undefined then. This party goes on to receive.
+   * Ends what this party sends, after all that was written to `writable` and `duplex`, and waits until the connection
+   * has taken the end: the other party's `receive` gives undefined then. This party goes on to receive.
    * @param {{ signal?: Signal }} [options]
    * @returns {Promise<void>}
    */
   async end({ signal } = {}) {
     this.#mustBeOpen();
     mustGoOn(signal);
+    if (this.#written?.isBehind) await unlessAborted(this.#written.all(), signal);
+    if (this.#isBehind()) {
+      await this.#byDuplex((done) => this.#duplex.end(done), signal);
+      return;
+    }
     await (signal ? this.#inTurn(signal, () => this.#sending.putEnd()) : this.#sending.addEnd());
+    this.#duplex?.end();    // nothing can be written to it any more
   }
 
   /**
@@ -165,6 +201,7 @@ export class NoiseSocket {
   async flush({ signal } = {}) {
     this.#mustBeOpen();
     mustGoOn(signal);
+    if (this.#isBehind()) await unlessAborted(this.#held(), signal);
     await unlessAborted(this.#sending.take(() => this.#sending.put()), signal);
   }
 
@@ -186,12 +223,18 @@ export class NoiseSocket {
     mustGoOn(signal);
     if (!this.#incoming) throw new NoiseError('NOISE_ONE_WAY');
     this.#flushLater();
-    const found = this.#receives.isIdle ? this.#found() : undefined;
+    const found = this.came(OWN);
     return found ? found.value : this.#receives.take(() => this.#next(signal), signal);
   }
 
-  /** The next payload as `value`, or undefined in its place for the end, where it has come. */
-  #found() {
+  /**
+   * The next payload as `value`, or undefined in its place for the end, where it has come and nobody waits for it.
+   * @private
+   */
+  came(mark) {
+    mustBeOwn(mark);
+    this.#mustBeOpen();
+    if (!this.#receives.isIdle) return undefined;
     try {
       const found = this.#incoming.found(this.#look);
       if (found) this.#isEnded = found.value === undefined;
@@ -204,8 +247,6 @@ export class NoiseSocket {
 
   async #next(signal) {
     if (this.#receiving.isOver) throw this.#receiving.reason;
-    const came = this.#found();
-    if (came) return came.value;
     const wait = (promise) => unlessAborted(promise, signal);
     try {
       const found = await this.#receiving.for(this.#incoming.next(this.#look, { wait }));
@@ -261,40 +302,39 @@ export class NoiseSocket {
    * @returns {import('./platform.js').PayloadWritable}
    */
   get writable() {
-    this.#writable ??= new WritableStream({
-      write: (payload) => this.send(payload),
-      close: () => this.end(),
-      abort: () => this.destroy(),
-    });
-    return this.#writable;
+    this.#written ??= new Written(this);
+    return this.#written.stream;
   }
 
   /**
    * The channel as a Duplex of Node, for what takes a socket of TCP, as http.Agent: `end` is the end of this party's
    * stream, and 'end' comes with the other's. Without `allowHalfOpen`, which can be set, this party's ends then.
-   * `destroy` is that of the channel, unless 'finish' came before. Elsewhere than in Node it throws.
+   * `destroy` is that of the channel, also after 'finish', until both streams are ended: then it is `close`, and what
+   * was written still leaves. Writes and `send` keep their order. Elsewhere than in Node it throws.
    * @returns {import('./platform.js').ChannelDuplex}
    */
   get duplex() {
-    this.#duplex ??= duplexOf(this, this.#carrier.stream, {
-      readable: this.#incoming !== undefined,
-      writable: this.#mayWrite,
-    });
+    if (!this.#duplex) {
+      this.#duplex = duplexOf(this, this.#carrier.stream, {
+        readable: this.#incoming !== undefined,
+        writable: this.#mayWrite,
+      });
+      if (this.#sending.hasEnded) this.#duplex.end();
+    }
     return this.#duplex;
   }
 
   /**
-   * Sends payloads together.
+   * Sends payloads together, which don't change until they are sent: a promise, or nothing where the connection has
+   * taken them.
    * @private
    */
-  async sendAll(mark, payloads) {
+  sendAll(mark, payloads) {
     mustBeOwn(mark);
     this.#mustBeOpen();
-    const sent = new Set();    // payloads of one batch have one promise
-    for (const payload of payloads) {
-      sent.add(payload.length <= SHARED ? this.#sending.add(payload) : this.#sendCopy(copyOf(payload, 'payload')));
-    }
-    await Promise.all(sent);
+    if (payloads.reduce((sum, { length }) => sum + length, 0) <= SHARED) return this.#sending.putAll(payloads);
+    const send = (it) => (it.length <= SHARED ? this.#sending.add(it) : this.#sendCopy(copyOf(it, 'payload')));
+    return Promise.all(new Set(payloads.map(send)));    // payloads of one batch have one promise
   }
 
   /**
@@ -306,8 +346,18 @@ export class NoiseSocket {
    * @returns {Promise<void>}
    */
   close({ timeout = LINGER } = {}) {
-    this.#closing ??= this.#close(timeout, { isWhole: true });
+    const isBehind = this.#isBehind() || this.#written?.isBehind;
+    this.#closing ??= isBehind ? this.#closeBehind(timeout) : this.#close(timeout, { isWhole: true });
     return this.#closing;
+  }
+
+  /** Closes behind what is held back. Where that isn't sent in time there is no end: it would say that it was. */
+  async #closeBehind(timeout) {
+    const until = performance.now() + timeout;
+    let isWhole = false;
+    const held = [this.#written?.all(), this.#isBehind() ? this.#held() : undefined];
+    await within(timeout, Promise.all(held).then(() => { isWhole = true; }));
+    await this.#close(Math.max(until - performance.now(), 0), { isWhole });
   }
 
   /**
@@ -324,6 +374,7 @@ export class NoiseSocket {
 
   async #close(timeout, { isWhole, patience = Infinity, most = Infinity }) {
     if (this.#receiving.isOver) return;
+    this.#isBehind();    // what was written to the duplex in this turn leaves, too
     this.#receiving.end(new NoiseError('NOISE_DISPOSED'));
     this.#carrier.discard(most);
     // It was ended before, or the responder of a one-way pattern has none.

@@ -1,8 +1,8 @@
 // Streams with an end, by the proved channel of the library: it makes and finds frames, and says where a stream
 // ends, and when it is broken.
-import { NoiseError, code, must } from './codes.mjs';
-import { library } from './module.mjs';
 import { bytesOf } from './bytes.mjs';
+import { code, must } from './codes.mjs';
+import { library } from './module.mjs';
 import { Sealed } from './transport.mjs';
 
 const ROOM = 65552;    // more than the longest frame has
@@ -44,22 +44,11 @@ export class Stream extends Sealed {
   /** @private */
   static kinds = ['streamSender', 'streamReceiver'];
 
-  /**
-   * The frame of a payload of at most MOST bytes, in memory that `room` has for it, or in its own. Of no bytes
-   * there is none, and it is empty.
-   */
-  write(payload, room) {
+  /** The frame of so many bytes of the module's memory, in memory that `room` has for it, or in its own. */
+  #frame(sender, length, room) {
     const lib = library();
-    const [sender] = this.halves;
-    if (bytesOf(payload, 'payload').length > MOST) throw new NoiseError('NOISE_TOO_LONG');
-    const number = lib.x.noise_stream_write(
-      sender,
-      ...lib.put('payload', payload),
-      lib.at.message,
-      ROOM,
-      lib.at.result,
-    );
-    lib.wipe('payload', payload.length);
+    const number = lib.x.noise_stream_write(sender, lib.at.payload, length, lib.at.message, ROOM, lib.at.result);
+    lib.wipe('payload', length);
     must(number);
     const frame = lib.view(lib.at.message, lib.streamResult().len);
     const bytes = room?.(frame.length);
@@ -69,19 +58,31 @@ export class Stream extends Sealed {
   }
 
   /**
-   * The frames of a payload of any length, one after another in the same memory: what `room` has for one, or their own.
+   * The frames of a payload that comes in an array of parts, as few as there can be, one after another in the same
+   * memory: what `room` has for so many bytes, or their own. Of no bytes there is none, unless the library refuses
+   * them.
    */
-  writeAll(payload, room) {
-    if (payload.length <= MOST) {
-      const frame = this.write(payload, room);
-      return frame.length > 0 ? [frame] : [];
-    }
+  write(parts, room) {
+    const lib = library();
+    const [sender] = this.halves;
+    if (!Array.isArray(parts)) throw new TypeError('a payload comes in an array of its parts');
+    const size = parts.reduce((sum, part) => sum + bytesOf(part, 'a part of a payload').length, 0);
+    const whole = size + OVERHEAD * Math.ceil(size / MOST);
+    const all = size > MOST ? room?.(whole) ?? new Uint8Array(whole) : undefined;
+    let [used, filled] = [0, 0];
+    const behind = (length) => { used += length; return all.subarray(used - length, used); };
     const frames = [];
-    const all = new Uint8Array(payload.length + OVERHEAD * Math.ceil(payload.length / MOST));
-    let used = 0;
-    const behind = (size) => { used += size; return all.subarray(used - size, used); };
-    for (let at = 0; at < payload.length; at += MOST) frames.push(this.write(payload.subarray(at, at + MOST), behind));
-    return frames;
+    const seal = () => { frames.push(this.#frame(sender, filled, all ? behind : room)); filled = 0; };
+    for (const part of parts) {
+      for (let at = 0; at < part.length;) {
+        const taken = Math.min(MOST - filled, part.length - at);
+        lib.fill('payload', filled, taken === part.length ? part : part.subarray(at, at + taken));
+        [at, filled] = [at + taken, filled + taken];
+        if (filled === MOST) seal();
+      }
+    }
+    if (filled > 0 || size === 0) seal();
+    return size > 0 ? frames : [];
   }
 
   /** The frame of the end. */

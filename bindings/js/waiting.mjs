@@ -121,6 +121,9 @@ export class Waiting {
   }
 }
 
+/** How long a channel that is closed waits for the other party to close the connection, in milliseconds. */
+export const LINGER = 5000;
+
 /** The longest time of a timer: a longer one would run out at once. */
 export const LONGEST = 2 ** 31 - 1;
 

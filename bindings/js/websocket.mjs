@@ -135,13 +135,19 @@ export function ofWebSocket(socket) {
   const backlog = new Backlog();
   const flow = flowOf(socket, backlog);
   let cause;    // Node tells it, and a browser doesn't
+  let lose;
+  const broken = new Promise((resolve) => { lose = resolve; });
   const listeners = {
     error: ({ error }) => { cause ??= error; },
     message: ({ data }) => {
       if (backlog.push(bytesIn(data))) flow.came();
       else overflow();
     },
-    close: ({ wasClean }) => { backlog.end(wasClean === false ? cut(cause) : undefined, false); },
+    close: ({ wasClean }) => {
+      const error = wasClean === false ? cut(cause) : undefined;
+      backlog.end(error, false);
+      if (error) lose(error);
+    },
   };
   for (const [event, listener] of Object.entries(listeners)) socket.addEventListener(event, listener);
 
@@ -166,6 +172,7 @@ export function ofWebSocket(socket) {
 
   const mustBeOpen = () => { if (socket.readyState !== 1) throw cut(cause); };
   const carrier = {
+    broken,
     ready: async () => {
       if (socket.readyState === 0) await firstOf(socket, ['open', 'close', 'error']);
       mustBeOpen();
@@ -210,9 +217,11 @@ export function ofWebSocketStream(socket) {
     [reader, writer] = [readable.getReader(), writable.getWriter()];
   });
   const closed = socket.closed.then(() => {}, () => {});
+  const lost = new Promise((resolve) => { socket.closed.catch((error) => resolve(cut(error))); });
   opened.catch(() => {});    // `ready` may not be called
   const read = () => reader.read().then(({ value, done }) => (done ? undefined : framed(bytesIn(value))), broken);
   return {
+    broken: lost,
     ready: () => opened.catch(broken),
     write: async (frames) => {
       try {

@@ -218,14 +218,18 @@ test('agents', { timeout: 300000 }, async (t) => {
       );
       assert.equal(await peer, 'NOISE_CUT');
     }
-    for (const odd of ['a text', undefined, null, { code: 7 }]) {
+    const sly = new Proxy({}, { get: () => { throw new Error('no'); } });
+    for (const odd of ['a text', undefined, null, 7, Symbol('s'), { code: 7 }, Object.create(null), sly, new Error()]) {
       const one = new Handshake({ pattern: 'XX', staticKey: client });
       const two = new Handshake({
         pattern: 'XX', responder: true,
         staticKey: { publicKey: server.publicKey, agree: () => Promise.reject(odd) },
       });
       await two.read(await one.write());
-      await assert.rejects(two.write(), (error) => error.code === 'NOISE_KEY' && error.cause === odd);
+      await assert.rejects(two.write(), (error) => {
+        assert.deepEqual([error.code, error.cause], ['NOISE_KEY', odd]);
+        return /^agree has failed: ./u.test(error.message);
+      });
     }
   });
 });

@@ -52,9 +52,9 @@ test('a stream of Node', { timeout: 300000 }, async (t) => {
     const [a, b] = await channels([near, far]);
     const one = a.duplex;
     assert.ok(one instanceof Duplex && one === a.duplex && one !== b.duplex);
-    for (const name of ['remoteAddress', 'remotePort', 'remoteFamily', 'localAddress', 'localPort', 'localFamily']) {
-      assert.equal(one[name], near[name], name);
-    }
+    for (const name of [
+      'remoteAddress', 'remotePort', 'remoteFamily', 'localAddress', 'localPort', 'localFamily', 'timeout',
+    ]) assert.equal(one[name], near[name], name);
     assert.deepEqual(one.address(), near.address());
     assert.ok(one.bytesWritten > 0 && one.bytesRead > 0);
     assert.deepEqual([one.connecting, one.pending, one.readyState, one.allowHalfOpen], [false, false, 'open', false]);
@@ -188,6 +188,30 @@ test('a stream of Node', { timeout: 300000 }, async (t) => {
     assert.equal(await outcome(new Promise((resolve, reject) => {
       e.duplex.write('x', (it) => (it ? reject(it) : resolve()));
     })), 'Error');    // after destroy, as Node says it
+  });
+
+  await t.test('close says whether there was an error, and resetAndDestroy resets', async () => {
+    const closed = (duplex) => new Promise((resolve) => {
+      duplex.on('error', () => {}).on('close', resolve).resume();
+    });
+    for (const [end, isError] of [
+      [(one) => one.end(), [false, false]],
+      [(one) => one.destroy(), [false, true]],
+      [(one) => one.destroy(new Error('enough')), [true, true]],
+      [(one) => one.resetAndDestroy(), [false, true]],
+    ]) {
+      const [a, b] = await channels(await overTcp());
+      const both = [closed(a.duplex), closed(b.duplex)];
+      end(a.duplex);
+      assert.deepEqual(await Promise.all(both), isError);
+    }
+    const [near, far] = await overTcp();
+    const [a, b] = await channels([near, far]);
+    assert.equal(a.duplex.resetAndDestroy(), a.duplex);
+    await assert.rejects(b.receive(), (it) => it.code === 'NOISE_CUT' && it.cause.code === 'ECONNRESET');
+    const [c, d] = await channels(openSockets());
+    c.duplex.resetAndDestroy();
+    await assert.rejects(d.receive(), refused('NOISE_CUT'));
   });
 
   await t.test('a write that fails fails its callback, and the stream', async () => {

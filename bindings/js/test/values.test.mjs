@@ -160,6 +160,22 @@ test('values', async (t) => {
     assert.deepEqual(it.initiator.remoteStatic, two.publicKey);
   });
 
+  await t.test('a stream’s payload comes in an array of byte arrays, and nothing else is taken for one', async () => {
+    const [one, other] = [new Handshake({ pattern: 'NN' }), new Handshake({ pattern: 'NN', responder: true })];
+    await other.read(await one.write());
+    await one.read(await other.write());
+    const [stream, reader] = [one.finishStream(), other.finishStream()];
+    for (const wrong of [text('all'), Buffer.from('all'), new Uint8Array(0), 'all', undefined, { length: 1 }]) {
+      assert.throws(() => stream.write(wrong), TypeError);
+    }
+    for (const wrong of [['all'], [text('some'), [1, 2]], [new Uint16Array(2)], [text('some'), undefined]]) {
+      assert.throws(() => stream.write(wrong), TypeError);
+    }
+    const [frame] = stream.write([text('a'), text('ll')]);    // the first: no nonce was used
+    assert.deepEqual(reader.read({ copyTo: (place) => place.set(frame) }, frame.length).value, text('all'));
+    for (const end of [stream, reader]) end.dispose();
+  });
+
   await t.test('a psk that was chosen for a refused message is taken back', async () => {
     const [server, client, other] = [await KeyPair.generate(), await KeyPair.generate(), await KeyPair.generate()];
     const psk = (number) => new Uint8Array(32).fill(number);

@@ -7,8 +7,10 @@ export function carrierOf(it: any): {
     room: ((size: any) => Uint8Array | undefined) | undefined;
     write: (frames: any) => Promise<any> | undefined;
     stream: any;
+    broken: Promise<any>;
     ready: () => Promise<void>;
 } | {
+    broken: Promise<any>;
     ready: () => any;
     write: (frames: any) => Promise<void>;
     pull: () => any;
@@ -16,6 +18,7 @@ export function carrierOf(it: any): {
     close: (patience: any) => Promise<void>;
     destroy: (reason: any) => void;
 } | {
+    broken: Promise<any>;
     ready: () => Promise<void>;
     write: (frames: any) => Promise<void>;
     pull: () => any;

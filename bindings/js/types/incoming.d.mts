@@ -3,6 +3,8 @@ export class Incoming {
     constructor(pull: any);
     /** How many bytes came and aren't used. */
     get left(): number;
+    /** Throws once the connection breaks, or ends where nothing came that isn't used. It uses nothing itself. */
+    watch(): Promise<void>;
     /**
      * What `look` makes of the first bytes, `{ value }`, or undefined where it needs more of them. `look(held,
      * count)` gets these bytes, and says `wanted`, how many more it needs, or else `used` and `value`. NOISE_TOO_LONG

@@ -9,6 +9,7 @@ export function ofNode(stream: any): {
     room: typeof takeSpare | undefined;
     write: (frames: any) => Promise<any> | undefined;
     stream: any;
+    broken: Promise<any>;
     ready: () => Promise<void>;
 };
 /**
@@ -26,7 +27,7 @@ export type NodeStream = AsyncIterable<Uint8Array> & {
     readonly writableLength?: number | undefined;
     allowHalfOpen?: boolean | undefined;
     setNoDelay?: ((isOn: boolean) => unknown) | undefined;
-    on: (event: 'error', listener: (error: Error) => void) => unknown;
+    on: (event: 'error' | 'close', listener: (error: Error) => void) => unknown;
     write: (bytes: Uint8Array, done: (error?: Error | null) => void) => boolean;
     end: (done: () => void) => unknown;
     destroy: () => unknown;

@@ -11,8 +11,10 @@ export function opened(connection: any, options: any): Promise<{
         room: ((size: any) => Uint8Array | undefined) | undefined;
         write: (frames: any) => Promise<any> | undefined;
         stream: any;
+        broken: Promise<any>;
         ready: () => Promise<void>;
     } | {
+        broken: Promise<any>;
         ready: () => any;
         write: (frames: any) => Promise<void>;
         pull: () => any;
@@ -20,6 +22,7 @@ export function opened(connection: any, options: any): Promise<{
         close: (patience: any) => Promise<void>;
         destroy: (reason: any) => void;
     } | {
+        broken: Promise<any>;
         ready: () => Promise<void>;
         write: (frames: any) => Promise<void>;
         pull: () => any;

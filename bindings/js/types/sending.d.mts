@@ -16,6 +16,11 @@ export class Sending {
     addEnd(): any;
     /** Seals a payload at once: a promise, or nothing where the connection has taken it. */
     putPayload(payload: any): any;
+    /**
+     * Seals a payload of at most SHARED bytes in its turn, which comes in parts that don't change until then: a promise,
+     * or nothing where the connection has taken it.
+     */
+    putAll(parts: any): any;
     putEnd(): any;
     /** Sends frames, after what was kept back: a promise, or nothing where the connection has taken them at once. */
     put(frames?: any[]): any;

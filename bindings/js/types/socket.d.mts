@@ -6,7 +6,8 @@
 export class NoiseSocket implements AsyncIterable<Uint8Array> {
     /**
      * Passes a handshake, without payloads, over a WebSocket, over `{readable, writable}`, or over a stream of Node.
-     * What a WebSocket got before this call isn't seen. Where it throws, the connection is destroyed. The last
+     * What a WebSocket got before this call isn't seen. Where it throws, the connection is destroyed. Where the
+     * connection breaks it throws NOISE_CUT, also while `verify`, `pskFor` or `agree` hasn't answered. The last
      * message of the handshake, if this party writes it, leaves with what is sent at once after this call, or else
      * soon after it.
      * @param {import('./carriers.mjs').Connection} connection
@@ -41,8 +42,8 @@ export class NoiseSocket implements AsyncIterable<Uint8Array> {
         signal?: import("./waiting.mjs").Signal | undefined;
     } | undefined): Promise<void>;
     /**
-     * Ends what this party sends, and waits until the connection has taken the end: the other party's `receive` gives
-     * undefined then. This party goes on to receive.
+     * Ends what this party sends, after all that was written to `writable` and `duplex`, and waits until the connection
+     * has taken the end: the other party's `receive` gives undefined then. This party goes on to receive.
      * @param {{ signal?: Signal }} [options]
      * @returns {Promise<void>}
      */
@@ -70,6 +71,11 @@ export class NoiseSocket implements AsyncIterable<Uint8Array> {
         signal?: import("./waiting.mjs").Signal | undefined;
     } | undefined): Promise<Uint8Array | undefined>;
     /**
+     * The next payload as `value`, or undefined in its place for the end, where it has come and nobody waits for it.
+     * @private
+     */
+    private came;
+    /**
      * What comes, as a stream of WHATWG of bytes, for `pipeTo` and Node's `pipeline`, and for reads into a buffer of
      * the reader's (`getReader({ mode: 'byob' })`). Who cancels it closes the connection, as Symbol.asyncDispose does.
      * @returns {import('./platform.js').PayloadReadable}
@@ -83,12 +89,14 @@ export class NoiseSocket implements AsyncIterable<Uint8Array> {
     /**
      * The channel as a Duplex of Node, for what takes a socket of TCP, as http.Agent: `end` is the end of this party's
      * stream, and 'end' comes with the other's. Without `allowHalfOpen`, which can be set, this party's ends then.
-     * `destroy` is that of the channel, unless 'finish' came before. Elsewhere than in Node it throws.
+     * `destroy` is that of the channel, also after 'finish', until both streams are ended: then it is `close`, and what
+     * was written still leaves. Writes and `send` keep their order. Elsewhere than in Node it throws.
      * @returns {import('./platform.js').ChannelDuplex}
      */
-    get duplex(): any;
+    get duplex(): import("./platform.js").ChannelDuplex;
     /**
-     * Sends payloads together.
+     * Sends payloads together, which don't change until they are sent: a promise, or nothing where the connection has
+     * taken them.
      * @private
      */
     private sendAll;

@@ -22,14 +22,11 @@ export class Stream extends Sealed {
     /** @private */
     private static kinds;
     /**
-     * The frame of a payload of at most MOST bytes, in memory that `room` has for it, or in its own. Of no bytes
-     * there is none, and it is empty.
+     * The frames of a payload that comes in an array of parts, as few as there can be, one after another in the same
+     * memory: what `room` has for so many bytes, or their own. Of no bytes there is none, unless the library refuses
+     * them.
      */
-    write(payload: any, room: any): any;
-    /**
-     * The frames of a payload of any length, one after another in the same memory: what `room` has for one, or their own.
-     */
-    writeAll(payload: any, room: any): any[];
+    write(parts: any, room: any): any[];
     /** The frame of the end. */
     end(): any;
     /**
@@ -51,5 +48,6 @@ export class Stream extends Sealed {
     };
     /** Whether a connection that ends with so many bytes left cuts the stream. */
     isCut(left: any): boolean;
+    #private;
 }
 import { Sealed } from "./transport.mjs";

@@ -43,6 +43,8 @@ export class Waiting {
     for(promise: any): Promise<any>;
     #private;
 }
+/** How long a channel that is closed waits for the other party to close the connection, in milliseconds. */
+export const LINGER: 5000;
 /** The longest time of a timer: a longer one would run out at once. */
 export const LONGEST: number;
 export function pause(milliseconds: any): Promise<any>;

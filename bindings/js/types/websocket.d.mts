@@ -1,5 +1,6 @@
 /** The carrier over a WebSocket. */
 export function ofWebSocket(socket: any): {
+    broken: Promise<any>;
     ready: () => Promise<void>;
     write: (frames: any) => Promise<void>;
     pull: () => Promise<any>;
@@ -12,6 +13,7 @@ export function ofWebSocket(socket: any): {
 };
 /** The carrier over a WebSocketStream: what came waits in the browser, which makes the other party wait in turn. */
 export function ofWebSocketStream(socket: any): {
+    broken: Promise<any>;
     ready: () => any;
     write: (frames: any) => Promise<void>;
     pull: () => any;
