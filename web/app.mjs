@@ -57,7 +57,10 @@ async function loadLate() {
   return { ...all, undo, control: new all.Control(page, acted, takeBack), take: new all.Take(page) };
 }
 
-/** Says what of a link is left out; and that it has a run, which is further down. */
+/**
+ * Says what of a link is left out, or of what came in; and that a link has a run, which is further down. It stands at
+ * the edge of the window, over the page, until it is closed or the next thing is told.
+ */
 function notice(sentences, hasRun) {
   const text = sentences.filter(Boolean).join(' ');
   at('notice').replaceChildren(text, ...(hasRun ? [at('has-run').content.cloneNode(true)] : []));
@@ -110,9 +113,12 @@ function leave() {
   queueMicrotask(keepNow);
 }
 
+/** Whether the run belongs to another set-up than the one that is there. */
+const hasOldRun = () => Boolean(page.run) && link.keyOf(page.run.given) !== link.keyOf(page.setup);
+
 /** After each change of the set-up. The run stays; it is greyed while it belongs to another one. */
 function changed(isTyped = false) {
-  page.isStale = Boolean(page.run) && link.keyOf(page.run.given) !== link.keyOf(page.setup);
+  page.isStale = hasOldRun();
   late?.undo.note(page.setup, isTyped);
   keepAddress();
   late?.take.clear();
@@ -129,9 +135,10 @@ function tellSecret(text, before) {
 function patternChanged(text, plan, isTyped, faults) {
   tellSecret(text, page.setup.text);
   page.setup.text = text;
-  Object.assign(page, { plan, faults });
+  Object.assign(page, { plan, faults, isStale: hasOldRun() });
   page.shape?.show();
   late?.showCapture?.();
+  late?.markChosen?.();
   changed(isTyped);
 }
 
@@ -208,15 +215,19 @@ async function follow({ state }) {
   return refocus(activeElement, at('step'));
 }
 
-/** What is folded comes when it is opened: by its heading, or by an address that ends with its name. */
+/**
+ * What is folded comes when it is opened: by its heading, also before this script was there, or by an address that ends
+ * with its name.
+ */
 function wireFolded() {
   const fold = (id, fill) => {
-    at(id).addEventListener('toggle', fill, { once: true });
     at(id).open ||= location.hash === `#${id}`;
+    if (at(id).open) fill();
+    else at(id).addEventListener('toggle', fill, { once: true });
   };
   fold('choose', async () => {
     const { choosing } = await import('./choose.mjs');
-    choosing(at('choosing'), (text) => takeIn({ text }, ''));
+    late.markChosen = choosing(at('choosing'), (text) => takeIn({ text }, ''), () => page.plan?.section);
   });
   fold('compare', openLog);
   fold('capture', async () => {
@@ -244,6 +255,7 @@ function wire() {
     });
   }
   at('interval').addEventListener('change', () => { at('interval').value = page.setup.interval; });
+  at('notice-close').addEventListener('click', () => notice([]));
   addEventListener('popstate', follow);
   addEventListener('pagehide', () => { if (late) keepNow(); });
 }

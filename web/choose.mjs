@@ -27,7 +27,7 @@ function keyOf(plan, party) {
   return { how: KEYS[isSealed ? 2 : 3], message: n + 1 };
 }
 
-const isEarly = ({ messages: [{ pieces }] }) => pieces.some(({ kind, sealed }) => kind === 'payload' && sealed);
+const isDH = (token) => /^[es]{2}$/.test(token);
 
 const keyWords = (party, { how, message }) => ({
   [KEYS[0]]: `the ${party} has no static key`,
@@ -43,16 +43,28 @@ function laterWords(base) {
   return ` It is ${plainName} with ${later.map((dh) => `${dh} in message ${placeOf(base, dh)}`).join(' and ')}.`;
 }
 
-/** A pattern of the standard as it is asked for, and in a sentence. */
-export function rowOf(base) {
+/**
+ * What of the payload of message 1 is encrypted, and what encrypts it. In a pattern with a psk each e makes a key,
+ * which everybody can compute (9.2).
+ */
+function earlyOf(name) {
+  const { messages: [{ tokens }], psks } = layout(textOfName(name));
+  if (tokens.some(isDH)) return { early: 'yes', words: 'message 1 takes encrypted data' };
+  if (tokens.includes('psk')) return { early: 'yes', words: 'message 1 takes data that the secret alone encrypts' };
+  const words = psks ? 'everybody can read the payload of message 1' : 'message 1 has nothing encrypted in its payload';
+  return { early: 'no', words };
+}
+
+/** A pattern of the standard, or this name of it with a psk, as it is asked for, and in a sentence. */
+export function rowOf(base, name = base) {
   const plan = layout(textOf(base));
   const [client, server] = ['client', 'server'].map((party) => keyOf(plan, party));
   const count = plan.messages.length;
-  const words = `${keyWords('server', server)}, and ${keyWords('client', client)}; `
-    + `${isEarly(plan) ? 'message 1 takes encrypted data' : 'message 1 has nothing encrypted in its payload'}`;
+  const { early, words: earlyWords } = earlyOf(name);
+  const words = `${keyWords('server', server)}, and ${keyWords('client', client)}; ${earlyWords}`;
   return {
-    base,
-    client: client.how, server: server.how, early: isEarly(plan) ? 'yes' : 'no', messages: String(count),
+    base, name,
+    client: client.how, server: server.how, early, messages: String(count),
     says: `${words[0].toUpperCase()}${words.slice(1)}. ${count === 1 ? 'One message, one-way' : `${count} messages`}.${
       laterWords(base)}`,
   };
@@ -70,17 +82,29 @@ export function pskNames(base) {
   return [...new Set([last < 3 ? first : last, last])].map((place) => `${base}psk${place}`);
 }
 
+/** Rows of one pattern that say the same are one item, with all their names. */
+function grouped(rows) {
+  const groups = new Map();
+  for (const row of rows) {
+    const key = `${row.base}: ${row.says}`;
+    groups.set(key, [...(groups.get(key) ?? []), row]);
+  }
+  return [...groups.values()];
+}
+
 /** Examples: what for, which pattern, and what has to be known of it. */
 export const PURPOSES = [
   ['A device and its server share a secret, and have no keys', 'NNpsk0',
     'Whoever lacks the secret is refused at message 1. Message 1 is encrypted by the secret alone: '
       + 'a recording of it is accepted again, and whoever gets the secret later can read it.'],
-  ['A client that knows its server’s key, and has none itself', 'NK', 'The server doesn’t learn who the client is.'],
+  ['A client that knows its server’s key, and has none itself', 'NK',
+    'The server doesn’t learn who the client is. Message 1 takes data (0-RTT), at the cost that IK has.'],
   ['The same, and the server learns which client it is', 'XK',
     'The client’s key comes in message 3, encrypted, after the server has shown that it has its own.'],
-  ['Data in the first message (0-RTT)', 'IK',
-    'It costs two things: the server accepts a recording of message 1 again (replay), and whoever gets the server’s '
-      + 'private key later can read what was in it (no forward secrecy). Later messages have neither fault.'],
+  ['Data in the first message (0-RTT), and the server learns which client it is', 'IK',
+    'The client’s key comes in message 1, encrypted. It costs two things: the server accepts a recording of message 1 '
+      + 'again (replay), and whoever gets the server’s private key later can read what was in it (no forward secrecy). '
+      + 'Later messages have neither fault.'],
   ['Neither knows the other’s key before; identities come late and hidden', 'XX',
     'The server’s key comes encrypted in message 2, the client’s in message 3. '
       + 'Whoever begins a handshake, even with an e alone, gets to see the server’s key. '
@@ -97,7 +121,8 @@ export const PURPOSES = [
 const PSK = [
   'psk0 stands before message 1, and pskN at the end of message N: no other place has a name (9.4).',
   'At psk0 a stranger is refused at once, and the reader has to know which secret to take before it knows who writes. '
-    + 'At the end of the message in which the other party’s key came, it can choose by that key.',
+    + 'At the end of the message in which the other party’s key came, it can choose by that key. '
+    + 'Without one, at psk2 it can choose by a name in the payload of message 1, which in NN everybody can read.',
   'A party encrypts after a psk only if it has sent an e: otherwise the same key and nonce could come again '
     + '(rule 5, and 9.3). A secret alone gives no forward secrecy: keep an ee beside it.',
 ];
@@ -124,7 +149,10 @@ const MEANS = [
     'Encryption to a known recipient, strong forward secrecy.',
   ]],
 ];
-const SOURCE = 'https://noiseprotocol.org/noise.html#payload-security-properties';
+const STANDARD = 'https://noiseprotocol.org/noise.html';
+
+/** A link to a section of the standard. */
+const cited = (words, section) => Object.assign(element('a', '', words), { href: `${STANDARD}#${section}` });
 
 function quotation() {
   const cell = (name, text) => element(name, '', text);
@@ -140,34 +168,71 @@ function quotation() {
   const table = element('table', '', element('thead', '', head), element('tbody', '', ...rows));
   const lists = MEANS.map(([name, all]) =>
     element('p', '', `${name}: ${all.map((it, n) => `${n} “${it}”`).join(' ')}`));
-  const cited = element('a', '', 'The Noise Protocol Framework, revision 34, section 7.7');
-  cited.href = SOURCE;
-  return element('details', '', element('summary', '', 'What the standard says of each payload (7.7)'),
+  const made = element('details', '', element('summary', '', 'What the standard says of each payload (7.7)'),
     element('p', '', 'Source and destination of each payload, in turn, the initiator’s first; after the handshake’s '
-      + 'last message come those of the transport that the standard names. Quoted from ', cited, '.'),
+      + 'last message come those of the transport that the standard names. Quoted from ',
+    cited('The Noise Protocol Framework, revision 34, section 7.7', 'payload-security-properties'), '.'),
     element('blockquote', '', element('div', 'scroll', table), ...lists));
+  // It is the last thing of a box that scrolls, and would open below its edge.
+  made.addEventListener('toggle', () => { if (made.open) made.scrollIntoView({ block: 'nearest' }); });
+  return made;
 }
 
+/** Who sees whose key: where it can be read off, and where it is graded. */
+const identities = () => element('p', '', 'In the clear everybody sees a static key. Of an encrypted one '
+  + '“What the tokens show” has which private keys are enough to read it. How well each pattern hides identities is '
+  + 'graded in ', cited('section 7.8 of the standard', 'identity-hiding'), '.');
+
+/** A button that takes the pattern of this name. */
+const taking = (name, take) => button(name, () => take(textOfName(name)), 'copy');
+
 function purposes(take) {
-  const rows = PURPOSES.map(([what, name, says]) => element('li', '',
-    button(name, () => take(textOfName(name)), 'copy'), ' ', element('strong', '', `${what}. `), says));
+  const rows = PURPOSES.map(([what, name, says]) => element('li', '', taking(name, take), ' ',
+    element('strong', '', `${what}. `), says));
   return element('ul', 'choices', ...rows);
 }
 
+/** How many items of what fits are shown until all are asked for: a phone has all of them below each other. */
+const SHOWN = 12;
+
+/** The patterns that fit: `show(rows)` puts them there. */
+function fittingList(take) {
+  const list = element('ul', 'choices');
+  const more = button('', () => {
+    for (const it of list.children) it.hidden = false;
+    more.hidden = true;
+    list.children[SHOWN].querySelector('button').focus();
+  });
+  const itemOf = (rows, n) => {
+    const names = rows.flatMap(({ name }) => [taking(name, take), ' ']);
+    return Object.assign(element('li', '', ...names, rows[0].says), { hidden: n >= SHOWN });
+  };
+  const show = (rows) => {
+    const groups = grouped(rows);
+    list.replaceChildren(...groups.map(itemOf));
+    more.hidden = groups.length <= SHOWN;
+    more.textContent = `Show ${groups.length - SHOWN} more`;
+  };
+  return { parts: [list, more], show };
+}
+
 /** The boxes with what is asked, and the patterns that fit. */
-function questions(take) {
-  const rows = [...FUNDAMENTAL, ...DEFERRED].map(rowOf);
+function questions(take, marked) {
+  const bases = [...FUNDAMENTAL, ...DEFERRED];
+  const rows = { plain: bases.map((base) => rowOf(base)) };
   const answers = {};
-  const [told, list] = [element('p', 'fit'), element('ul', 'choices')];
+  const told = element('p', 'fit');
+  const { parts, show: list } = fittingList(take);
   told.setAttribute('role', 'status');
   const show = () => {
-    const found = fitting(rows, answers);
-    const names = ({ base }) => (answers.psk === 'yes' ? pskNames(base) : [base]);
-    told.textContent = found.length
-      ? `${found.length} of the standard’s ${rows.length} patterns ${found.length === 1 ? 'fits' : 'fit'}.`
+    if (answers.psk === 'yes') rows.psk ??= bases.flatMap((base) => pskNames(base).map((name) => rowOf(base, name)));
+    const found = fitting(answers.psk === 'yes' ? rows.psk : rows.plain, answers);
+    const count = new Set(found.map(({ base }) => base)).size;
+    told.textContent = count
+      ? `${count} of the standard’s ${bases.length} patterns ${count === 1 ? 'fits' : 'fit'}.`
       : 'No pattern of the standard fits: leave one answer open.';
-    list.replaceChildren(...found.map((row) => element('li', '',
-      ...names(row).flatMap((name) => [button(name, () => take(textOfName(name)), 'copy'), ' ']), row.says)));
+    list(found);
+    marked();
   };
   const boxes = Object.entries(ASKED).map(([name, [label, values]]) => {
     const select = element('select', '', new Option('any', ''), ...values.map((it) => new Option(it)));
@@ -176,17 +241,27 @@ function questions(take) {
     return element('label', '', `${label} `, select);
   });
   show();
-  return [element('div', 'row', ...boxes), told, list];
+  return [element('div', 'row', ...boxes), told, ...parts];
 }
 
-/** Fills the box. `take(text)` puts a pattern into the editor. */
-export function choosing(box, take) {
+/**
+ * Fills the box. `take(text)` puts a pattern into the editor, and `taken()` is the name of the one that is there. What
+ * comes back marks that name, and is called after each change of it.
+ */
+export function choosing(box, take, taken) {
+  const marked = () => {
+    const name = taken();
+    for (const it of box.querySelectorAll('.choices button')) it.ariaCurrent = String(it.textContent === name);
+  };
   box.replaceChildren(
     element('p', 'hint', 'The client is the initiator, which writes first, and the server the responder. '
       + 'A static key is one that a party keeps. Press a name to take the pattern.'),
     element('h3', '', 'By purpose'), purposes(take),
-    element('h3', '', 'By what they know'), ...questions(take),
+    element('h3', '', 'By what they know'), ...questions(take, marked),
     element('h3', '', 'Where a psk stands'), ...PSK.map((it) => element('p', '', it)),
+    element('h3', '', 'Who sees whose key'), identities(),
     quotation(),
   );
+  marked();
+  return marked;
 }

@@ -1,6 +1,6 @@
 // The buttons of a run, and what comes of each.
 import { encode } from './bytes.mjs';
-import { enable, speak } from './element.mjs';
+import { enable, onPress, speak, tell } from './element.mjs';
 import { keyOf, write } from './link.mjs';
 import { FUNDAMENTAL } from './patterns.mjs';
 import { nextStep, seenOf, turnOf } from './progress.mjs';
@@ -47,12 +47,11 @@ export class Control {
 
   #wire(back) {
     const page = this.#page;
-    const onPress = (it, work) =>
-      it.addEventListener('click', () => { if (it.getAttribute('aria-disabled') !== 'true') work(); });
-    const onAct = (it, work) => onPress(it, () => this.#act(work));
-    onPress(at('start'), () => this.begin());
-    onPress(at('step'), () => this.#next());
-    onPress(at('back'), () => { back(); at('step').focus(); });
+    const press = (it, work) => onPress(it, work, (why) => say(why, true));
+    const onAct = (it, work) => press(it, () => this.#act(work));
+    press(at('start'), () => this.begin());
+    press(at('step'), () => this.#next());
+    press(at('back'), () => { back(); at('step').focus(); });
     onAct(at('all'), () => page.run.passAll(payload));
     onAct(at('close'), () => page.run.close());
     for (const it of document.querySelectorAll('[data-write]')) {
@@ -79,7 +78,7 @@ export class Control {
     const silence = (role) => (isLive ? `It can’t write: ${run.silenceOf(role) ?? 'this isn’t a stream'}.` : none);
     const { step, label } = nextStep(run, isStale);
     enable(at('step'), step !== 'begin' || plan, 'The pattern isn’t valid.');
-    at('step').textContent = label;
+    tell(at('step'), label);
     enable(at('start'), plan, 'The pattern isn’t valid.');
     at('start').hidden = !run || step === 'begin';
     enable(at('all'), isLive && (run.next || run.pending), isLive ? 'No message of the handshake is left.' : none);
@@ -129,7 +128,7 @@ export class Control {
     this.#shownRun = run;
     this.#current.show(run, isNew);
     this.#draw();
-    at('state').textContent = stateOf(run, run && turnOf(run));
+    tell(at('state'), stateOf(run, run && turnOf(run)));
     this.#log.show(run);
     showWindows(at('windows'), run);
     at('stale').hidden = !isStale;

@@ -136,7 +136,9 @@ export class Editor {
     for (let place = 0; place <= 8; place += 1) {
       const box = element('input');
       Object.assign(box, { type: 'checkbox', value: place });
-      box.setAttribute('aria-label', place === 0 ? 'psk before message 1' : `psk at the end of message ${place}`);
+      // the name begins with the number that is seen, for those who say it
+      const where = place === 0 ? 'before message 1' : `at the end of message ${place}`;
+      box.setAttribute('aria-label', `${place}: psk ${where}`);
       box.addEventListener('change', () => {
         this.replace(togglePsk(this.text, place));
         this.#setPlaces(this.text);    // where the text has no such place the box is as it was
@@ -214,6 +216,18 @@ export class Editor {
     this.#mine.replaceChildren(...(isStandard ? [] : [new Option('this pattern', 'this')]), ...mine);
   }
 
+  /**
+   * What is typed is "this pattern" of the list, unless it is one of the standard. One's own come into the list when it
+   * gets the focus.
+   */
+  #typed(text, base) {
+    this.#chosen = { text, isOther: false };
+    const [first] = this.#mine.children;
+    const has = first?.value === 'this';
+    if (base && has) first.remove();
+    else if (!base && !has) this.#mine.prepend(new Option('this pattern', 'this'));
+  }
+
   #choose(value) {
     const { text, isOther } = this.#chosen;
     if (!isOther) this.leaves();
@@ -234,6 +248,7 @@ export class Editor {
   /** Sets the text at the start, without a way back. */
   set(text) {
     this.#text.value = text;
+    this.#fillPick();
     this.judge();
   }
 
@@ -308,7 +323,7 @@ export class Editor {
   /** Shows which pattern of the standard this is. */
   #set(text) {
     const base = standardOf(text);
-    if (!this.#isReplacing) this.#fillPick();
+    if (!this.#isReplacing) this.#typed(text, base);
     this.#pick.value = base || 'this';
     if (!base && text !== this.#chosen.text) this.#pick.value = `own ${text}`;
     if (this.#pick.selectedIndex >= 0) return this.#setPlaces(text);

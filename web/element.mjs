@@ -6,11 +6,26 @@ export function element(name, cls, ...children) {
   return made;
 }
 
+/** Sets the text of an element, if it has another one. */
+export function tell(it, text) {
+  if (it.textContent !== text) it.textContent = text;
+}
+
+/**
+ * Has a button do something. While it is switched off it says why instead: its title isn't seen without a pointer.
+ */
+export function onPress(it, act, say = speak) {
+  it.addEventListener('click', (event) => {
+    if (it.getAttribute('aria-disabled') !== 'true') act(event);
+    else if (it.title) say(it.title);
+  });
+}
+
 /** A button that does something, unless it is switched off. */
 export function button(label, act, cls = '') {
   const made = element('button', cls, label);
   made.type = 'button';
-  made.addEventListener('click', (event) => { if (made.getAttribute('aria-disabled') !== 'true') act(event); });
+  onPress(made, act);
   return made;
 }
 
@@ -36,6 +51,37 @@ export function speak(text, after = 0) {
     const region = document.getElementById('live');
     region.textContent = region.textContent === text ? `${text}\u00a0` : text;
   }, after);
+}
+
+/** How long what isn't in view waits after the last change, in milliseconds. */
+const WAIT = 300;
+
+/** A part of the page that is made anew at each change where it is in view, and else once no more changes come. */
+export class Part {
+  #isInView = true;
+  #waiting;
+  #work;
+
+  constructor(box) {
+    new IntersectionObserver((entries) => {
+      this.#isInView = entries.at(-1).isIntersecting;
+      if (this.#isInView) this.#make();
+    }, { rootMargin: '200px' }).observe(box);
+  }
+
+  show(work) {
+    this.#work = work;
+    clearTimeout(this.#waiting);
+    if (this.#isInView) this.#make();
+    else this.#waiting = setTimeout(() => this.#make(), WAIT);
+  }
+
+  #make() {
+    clearTimeout(this.#waiting);
+    const work = this.#work;
+    this.#work = undefined;
+    work?.();
+  }
 }
 
 /** Gives the focus to another element, if the one that had it isn't shown any more. */

@@ -55,8 +55,8 @@ export function showFacts(box, plan) {
   box.replaceChildren(
     table('Private keys that are enough to compute each key', ['Key of', 'Mixed in', 'Enough'], keyRows),
     table(
-      'Who can have written a message, and what becomes of a recording of it',
-      ['Message', 'Written by', 'Sent again'],
+      'Who can have written a message, and what becomes of a recording of it in another handshake',
+      ['Message', 'Written by', 'Sent again later'],
       messageRows,
     ),
     element('p', 'hint', MEANING.join(' ')), element('p', 'hint', UNJUDGED.join(' ')),

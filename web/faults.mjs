@@ -141,7 +141,7 @@ function placeOf(lines, { message, token }) {
  * Where a party's key is first known: the line and the place of its token, that of what is known before the first
  * message, or undefined.
  */
-function keyPlace(lines, owner, key) {
+export function keyPlace(lines, owner, key) {
   const n = lines.findIndex(({ role, tokens }, at) =>
     at > 0 && role === owner && tokens?.some(({ name }) => name === key),
   );

@@ -1,7 +1,7 @@
 // Corrections of a refused text that the page offers. Each is a whole text, and is offered only if the proved check
-// takes it, or finds its next fault further on. There is no DOM here.
+// takes it, or less of it is left from its first fault on. There is no DOM here.
 import { checkPattern } from '../bindings/js/check.mjs';
-import { brokenRule, firstOf, forgottenDots, mixPlace } from './faults.mjs';
+import { brokenRule, firstOf, forgottenDots, keyPlace, mixPlace } from './faults.mjs';
 import { lookalikeIn, withoutLookalikes } from './lookalikes.mjs';
 import { freeName } from './own.mjs';
 import { textOfName } from './patterns.mjs';
@@ -47,14 +47,19 @@ function tidied(text) {
 
 const changedLine = (lines, n, line) => textOf(plain(lines).map((it, at) => (at === n ? line : it)));
 const withLine = (lines, n, line) => textOf([...plain(lines).slice(0, n), line, ...plain(lines).slice(n)]);
+const withoutLine = (lines, n) => textOf(plain(lines).filter((_, at) => at !== n));
 const namesOf = ({ tokens }) => tokens.map(({ name }) => name);
 
-/** The text with a token more before one of line N, or with one less. */
+/** The text with tokens more before one of line N, or with some less. */
 function spliced(lines, n, at, less, ...more) {
   const names = namesOf(lines[n]);
   names.splice(at, less, ...more);
   return changedLine(lines, n, bodyOf(names, lines[n].role));
 }
+
+/** Where the tokens of line N begin that aren't a psk at the front, and where those end that aren't one at the end. */
+const frontOf = ({ tokens }) => (tokens[0].name === 'psk' && tokens.length > 1 ? 1 : 0);
+const backOf = ({ tokens }) => tokens.length - (tokens.at(-1).name === 'psk' && tokens.length > 1 ? 1 : 0);
 
 /** The heading with the places at which the psk tokens stand, or undefined where one stands elsewhere. */
 function placed(lines) {
@@ -138,55 +143,83 @@ function named(lines, owner, key) {
   return textOf([lines[0].line, ...above, '  ...', ...plain(lines).slice(firstOf(lines))]);
 }
 
-/** Has a party send a key: in this message before the token, or as the last of its earlier ones. */
-function sending(lines, n, token, owner, key) {
-  if (lines[n]?.role === owner) return spliced(lines, n, token, 0, key);
-  const earlier = lines
-    .map(({ role }, at) => (role === owner && at >= firstOf(lines) && at < n ? at : -1))
+/** Takes a key out above “...”. */
+function unnamed(lines, owner, key) {
+  const n = lines.findIndex(({ role }, at) => at > 0 && role === owner);
+  const names = namesOf(lines[n]).filter((name) => name !== key);
+  if (names.length > 0) return changedLine(lines, n, bodyOf(names, owner));
+  const isLast = firstOf(lines) === 3;
+  return textOf(plain(lines).filter((_, at) => at !== n && !(isLast && at === 2)));
+}
+
+/** The lines of a party's messages up to line N, the last one first. */
+const ownLines = (lines, owner, n) =>
+  lines
+    .map(({ role }, at) => (role === owner && at >= firstOf(lines) && at <= n ? at : -1))
     .filter((at) => at >= 0)
-    .at(-1);
-  if (earlier === undefined) return undefined;
-  return spliced(
-    lines,
-    earlier,
-    key === 'e' ? 0 : lines[earlier].tokens.filter(({ name }) => name !== 'psk').length,
-    0,
-    key,
-  );
+    .reverse();
+
+/** Rule 1: the key is sent earlier, or named above “...”, or the DH is mixed after it. */
+function keyMends(lines, { message, token }, { owner, key, token: dh }) {
+  const n = firstOf(lines) + message - 1;
+  const place = keyPlace(lines, owner, key);
+  const sent = lines[n].role === owner
+    ? [spliced(lines, n, token, 0, key)]
+    : ownLines(lines, owner, n).map((own) =>
+      spliced(lines, own, key === 'e' ? frontOf(lines[own]) : backOf(lines[own]), 0, key),
+    );
+  const sending = sent.map((text) => [`Let the ${owner} send ${key} earlier`, text]);
+  // a key that comes in a message stays in one
+  if (!place) return [...sending, [`Name the ${owner}’s ${key} above “...”`, named(lines, owner, key)]];
+  const without = linesOf(spliced(lines, n, token, 1));
+  const at = place.at + 1 - (place.n === n ? 1 : 0);
+  const moving = `Mix ${dh} in message ${place.n - firstOf(lines) + 1}, after ${key}`;
+  return [[moving, without[n].tokens && spliced(without, place.n, at, 0, dh)], ...sending];
+}
+
+/** A token goes, or its message, where it is the last one. */
+function outMends(lines, { message, token }, what) {
+  const n = firstOf(lines) + message - 1;
+  if (lines[n].tokens.length > 1) return [[`Leave ${what} out`, spliced(lines, n, token, 1)]];
+  return n === lines.length - 1 && message > 1 ? [[`Leave message ${message} out`, withoutLine(lines, n)]] : [];
+}
+
+/** Rules 2 and 3: the second one goes. */
+function againMends(lines, verdict, { sender, token, isAbove }) {
+  const found = outMends(lines, verdict, `the second ${token}`);
+  if (isAbove) found.push([`Take the ${sender}’s ${token} out above “...”`, unnamed(lines, sender, token)]);
+  return found;
 }
 
 /**
- * The text with a DH mixed where both its keys are known first; if one is sent nowhere, it is sent in its party's last
- * message up to line N.
+ * Rule 4: the DH is mixed where both its keys are known first, or in a later message. If a key is sent nowhere, its
+ * party sends it.
  */
-function mixed(lines, dh, n) {
+function mixMends(lines, { message }, { missing: dh }) {
+  const n = Math.min(firstOf(lines) + message - 1, lines.length - 1);
   const { n: line, at, lacks, key } = mixPlace(lines, dh);
-  if (!lacks) return spliced(lines, line, at + 1, 0, dh);
-  const own = lines.findLastIndex(({ role }, place) => role === lacks && place >= firstOf(lines) && place <= n);
-  return own < 0 ? undefined : spliced(lines, own, 0, 0, key, dh);
+  if (lacks) {
+    const label = `Let the ${lacks} send ${key}, and mix ${dh} after it`;
+    return ownLines(lines, lacks, n).map((own) => [label, spliced(lines, own, frontOf(lines[own]), 0, key, dh)]);
+  }
+  const found = [];
+  for (let own = line; own <= n; own += 1) {
+    const place = own === line && at >= 0 ? at + 1 : frontOf(lines[own]);
+    const after = place > 0 ? `, after ${lines[own].tokens[place - 1].name}` : '';
+    found.push([`Mix ${dh} in message ${own - firstOf(lines) + 1}${after}`, spliced(lines, own, place, 0, dh)]);
+  }
+  return found;
 }
 
-function ruleMends(lines, verdict) {
-  const { rule, message, token } = verdict;
-  const n = firstOf(lines) + message - 1;
-  const { owner, key, sender, missing, mend, isLater } = brokenRule(lines, verdict);
-  if (rule === 1) {
-    // a key that comes in a message stays in one
-    const above = isLater ? [] : [[`Name the ${owner}’s ${key} above “...”`, named(lines, owner, key)]];
-    return [[`Let the ${owner} send ${key} before`, sending(lines, n, token, owner, key)], ...above];
-  }
-  if (rule === 2 || rule === 3) {
-    const names = namesOf(lines[n]);
-    if (names.length > 1) return [[`Leave the second ${names[token]} out`, spliced(lines, n, token, 1)]];
-    return n === lines.length - 1 ? [[`Leave message ${message} out`, textOf(plain(lines).slice(0, -1))]] : [];
-  }
-  if (rule === 5) {
-    return [
-      [`Let the ${sender} send e before`, sending(lines, n, lines[n]?.tokens[0].name === 'psk' ? 1 : 0, sender, 'e')],
-    ];
-  }
-  return [[mend.replace(/\.$/, ''), mixed(lines, missing, n)]];
+/** Rule 5: the sender sends e before it encrypts. */
+function freshMends(lines, { message }, { sender }) {
+  const n = Math.min(firstOf(lines) + message - 1, lines.length - 1);
+  return ownLines(lines, sender, n).map((own) =>
+    [`Let the ${sender} send e before it`, spliced(lines, own, frontOf(lines[own]), 0, 'e')],
+  );
 }
+
+const RULE_MENDS = { 1: keyMends, 2: againMends, 3: againMends, 4: mixMends, 5: freshMends };
 
 /** The pattern of the standard whose name a text is, in capitals or not: as a mend. */
 function namedBy(text) {
@@ -197,13 +230,27 @@ function namedBy(text) {
   return found ? [[`Take the pattern ${name}`, found]] : [];
 }
 
-/** The kinds of faults of a line, by code, in the order in which they are looked for. */
-const KINDS = [30, 31, 32, 33, 34, 37, 35, 36, 38];
+/** The column of a fault of a line, as the library's command has it, from 1 on. */
+function columnOf(code, number, line) {
+  const heading = /^[A-Z]/.test(line) ? Math.min(/^[A-Z0-9]*/.exec(line)[0].length, 8) + 1 : 1;
+  if (code === 30 || (code === 35 && number === 1)) return heading;
+  if (code === 31) return /^ {2}/.test(line) ? (/^ {2}(?:->|<-)/.test(line) ? 5 : 3) : 1;
+  if (code === 32) return /^(?:(?:e|s|ee|es|se|ss|psk), )*/.exec(line.slice(5))[0].length + 6;
+  return { 35: 6, 36: 1, 38: line.length + 1 }[code] ?? 3;
+}
 
-/** How far a text is right, as a number for comparing. */
-function reach(verdict) {
-  if (verdict.valid) return Infinity;
-  return verdict.rule ? 1e6 + verdict.message * 100 + verdict.token : verdict.line * 100 + KINDS.indexOf(verdict.code);
+/** What a text has from its first fault on. */
+function leftIn(text, verdict) {
+  const lines = text.split('\n');
+  const from = (n, column) => text.slice(lines.slice(0, n).reduce((sum, it) => sum + it.length + 1, 0) + column - 1);
+  if (!verdict.rule) {
+    return from(verdict.line - 1, columnOf(verdict.code, verdict.line, lines[verdict.line - 1] ?? ''));
+  }
+  const read = linesOf(text);
+  const n = firstOf(read) + verdict.message - 1;
+  const found = n < read.length ? read[n].tokens[verdict.token] : undefined;
+  const at = Math.min(n, read.length - 1);
+  return from(at, (found ? found.start : read[at].line.length) + 1);
 }
 
 const pskCount = (text) =>
@@ -211,23 +258,44 @@ const pskCount = (text) =>
 /** Whether a candidate keeps the secrets of a text. */
 const keepsPsks = (text, candidate) => pskCount(candidate) >= pskCount(text);
 
-/** Corrections of a refused text, each with a label and the whole text after it: at most two. */
-export function mendsOf(text, verdict) {
+/**
+ * Whether a text with this verdict is mended: it is valid, or less of it is left from its first fault on, and the rest
+ * is as it was. A text that is read goes on being read.
+ */
+function isMended(text, verdict, mended, found) {
+  if (found.valid) return true;
+  if (verdict.rule && !found.rule) return false;
+  const [before, after] = [leftIn(text, verdict), leftIn(mended, found)];
+  return after.length < before.length && before.endsWith(after);
+}
+
+function candidatesOf(text, verdict) {
   const lines = linesOf(text);
+  if (verdict.rule) return RULE_MENDS[verdict.rule](lines, verdict, brokenRule(lines, verdict));
   const tidyText = tidy(text);
   const found = [...namedBy(text), ...(tidyText === text ? [] : [[tidied(text), tidyText]])];
-  if (verdict.rule) {
-    found.push(...ruleMends(lines, verdict));
-  } else if (tidyText === text) {
-    found.push(...(FORM_MENDS[verdict.code]?.(lines, Math.min(verdict.line, lines.length) - 1) ?? []));
-  }
-  const isBetter = (candidate) =>
-    candidate !== undefined
-    && candidate !== text
-    && keepsPsks(text, candidate)
-    && reach(checkPattern(candidate)) > reach(verdict);
-  return found
-    .filter(([, candidate]) => isBetter(candidate))
-    .slice(0, 2)
-    .map(([label, candidate]) => ({ label, text: candidate }));
+  if (tidyText !== text) return found;
+  return [...found, ...(FORM_MENDS[verdict.code]?.(lines, Math.min(verdict.line, lines.length) - 1) ?? [])];
+}
+
+/** Those that are offered where none of these holds: of rule 1 the DH goes. */
+function lastOf(text, verdict) {
+  const lines = linesOf(text);
+  return verdict.rule === 1 ? outMends(lines, verdict, brokenRule(lines, verdict).token) : [];
+}
+
+/** Those of some candidates that mend a text, valid ones first. */
+function tried(text, verdict, candidates) {
+  const found = candidates
+    .filter(([, mended]) => mended !== undefined && mended !== text && keepsPsks(text, mended))
+    .map(([label, mended]) => ({ label, text: mended, found: checkPattern(mended) }))
+    .filter((it) => isMended(text, verdict, it.text, it.found));
+  return [...found.filter((it) => it.found.valid), ...found.filter((it) => !it.found.valid)];
+}
+
+/** Corrections of a refused text, each with a label and the whole text after it: at most two. */
+export function mendsOf(text, verdict) {
+  const first = tried(text, verdict, candidatesOf(text, verdict));
+  const found = first.length ? first : tried(text, verdict, lastOf(text, verdict));
+  return found.slice(0, 2).map(({ label, text: mended }) => ({ label, text: mended }));
 }

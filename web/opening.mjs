@@ -1,4 +1,5 @@
 // How a pattern comes in from elsewhere: by Open, by dropping a file or a text on the page, and by pasting one.
+import { enable } from './element.mjs';
 import { MOST, intake } from './intake.mjs';
 
 const at = (id) => document.getElementById(id);
@@ -24,6 +25,7 @@ export function wireOpening({ take, follow, compare, notice }) {
     else bring(await file.text(), true);
   };
   at('open').addEventListener('click', () => at('file').click());
+  enable(at('open'), true);
   at('file').addEventListener('change', async () => {
     await open(at('file').files[0]);
     at('file').value = '';

@@ -1,5 +1,5 @@
-// The texts of the 38 patterns of the standard, and the names of protocols. checks/web compares them with the library:
-// a text of a fundamental name that differs from the library's is refused.
+// The texts of the 38 patterns of the standard, and the names of protocols. checks/web compares them with the library,
+// which refuses another text of a fundamental name, and the deferred ones with examples/patterns.
 
 const K = { '': [], i: ['  -> s'], r: ['  <- s'], b: ['  -> s', '  <- s'] };
 

@@ -9,7 +9,7 @@ export const STYLE = `
   .noise .life{stroke:#c4cad6;stroke-width:1.5}.noise .e{fill:#8fb8f0}.noise .s{fill:#f2b872}
   .noise .sealed{fill:#7fc8a9}.noise .tag{fill:#b9a3e3}
   .noise .payload{fill:#e6e9ef;stroke:#566074;stroke-dasharray:3 2}
-  .noise .payload.sealed{fill:#cfeadf;stroke-dasharray:none}
+  .noise .payload.sealed{fill:#cfeadf;stroke-dasharray:none}.noise .nonce{fill:#e6e9ef;stroke:#566074}
   .noise .dh{fill:none;stroke:#566074}.noise .on{fill:#141a24;forced-color-adjust:none}
   .noise text{font:13px system-ui,sans-serif}
   .noise .small{font-size:12px}.noise .bold{font-weight:600}.noise .good{fill:#116b3f}.noise .bad{fill:#a8231b}
@@ -20,14 +20,14 @@ export const STYLE = `
   @media (prefers-color-scheme:dark){
     .noise .bg{fill:#171c25}.noise .ink{fill:#e7ebf2}.noise .dim{fill:#a3adbf}.noise .line,.noise .dh{stroke:#a3adbf}
     .noise .life{stroke:#3b4454}
-    .noise .payload{fill:#2a3140;stroke:#a3adbf}.noise .payload.sealed{fill:#24483b}
+    .noise .payload,.noise .nonce{fill:#2a3140;stroke:#a3adbf}.noise .payload.sealed{fill:#24483b}
     .noise .wrong{stroke:#ff9d92}
     .noise .good{fill:#6fd3a2}.noise .bad{fill:#ff9d92}.noise .way,.noise .now .head{fill:#7fb0f5}
     .noise .now .line,.noise .under rect{stroke:#7fb0f5}
   }
   @media (forced-colors:active){
-    .noise .bg,.noise .payload,.noise .payload.sealed{fill:Canvas}
-    .noise .line,.noise .dh,.noise .life,.noise .payload{stroke:CanvasText}
+    .noise .bg,.noise .payload,.noise .payload.sealed,.noise .nonce{fill:Canvas}
+    .noise .line,.noise .dh,.noise .life,.noise .payload,.noise .nonce{stroke:CanvasText}
     .noise .ink,.noise .dim,.noise .good,.noise .bad,.noise .way{fill:CanvasText}
     .noise .now .line,.noise .under rect{stroke:Highlight}
   }
@@ -137,6 +137,7 @@ function drawn(piece, scale, sizes) {
   if (kind === 'payload') {
     return { width: sizes.payload, cls: `payload${sealed ? ' sealed' : ''}`, label: 'payload', ink: 'ink' };
   }
+  if (kind === 'nonce') return { width: sizes.payload, cls: 'nonce', label: 'nonce 8', ink: 'ink' };
   if (length === 0) return { width: sizes.mixed, cls: 'dh', label: kind, ink: 'ink', isMixed: true };
   return {
     width: length * scale,
@@ -164,7 +165,7 @@ function rowsOf(pieces, scale, sizes, room) {
   return rows;
 }
 
-/** A bar of pieces to scale, around a middle. A payload, whose length is open, has a width of its own. */
+/** A bar of pieces to scale, around a middle; a payload, whose length is open, and a nonce have their own widths. */
 function bar(pieces, middle, y, scale, sizes, message) {
   let x = middle - widthOf(pieces, scale, sizes) / 2;
   return pieces.map((piece) => {

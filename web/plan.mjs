@@ -6,22 +6,28 @@ import { layout as layoutOf } from '../bindings/js/layout.mjs';
 const ROLES = { '->': 'initiator', '<-': 'responder' };
 const TAG = 16;
 
+function lineOf(line) {
+  const parts = /^( {2}(->|<-) )(.*)$/.exec(line);
+  if (!parts) return { line };
+  let start = parts[1].length;
+  const tokens = parts[3].split(', ').map((name) => {
+    const token = { name, start, end: start + name.length };
+    start = token.end + 2;
+    return token;
+  });
+  return { line, role: ROLES[parts[2]], tokens };
+}
+
+/** The text that was split last: at each key many ask for the lines of the same one. */
+let last = { text: '', lines: [lineOf('')] };
+
 /**
  * The lines of a text, split without a check: of each its words as they stand, and of a message its sender and its
- * tokens with their places.
+ * tokens with their places. They are for reading alone.
  */
 export function linesOf(text) {
-  return text.replace(/\n$/, '').split('\n').map((line) => {
-    const parts = /^( {2}(->|<-) )(.*)$/.exec(line);
-    if (!parts) return { line };
-    let start = parts[1].length;
-    const tokens = parts[3].split(', ').map((name) => {
-      const token = { name, start, end: start + name.length };
-      start = token.end + 2;
-      return token;
-    });
-    return { line, role: ROLES[parts[2]], tokens };
-  });
+  if (text !== last.text) last = { text, lines: text.replace(/\n$/, '').split('\n').map(lineOf) };
+  return last.lines;
 }
 
 /** The pieces of a message, each tag apart from what it seals; they have `sealed` where they come apart already. */

@@ -2,7 +2,7 @@
 // deliver it.
 import { hex, shown } from './bytes.mjs';
 import { bytesView } from './bytesview.mjs';
-import { button, copier, element, enable } from './element.mjs';
+import { button, copier, element, enable, tell } from './element.mjs';
 import { OTHER, ROLES } from './party.mjs';
 import { sorted } from './run.mjs';
 import { scheduleOf } from './schedule.mjs';
@@ -81,8 +81,8 @@ function deliverRow(run, entry, { act, whyNot }) {
     allow(row, whyNot());
     const { size } = item.flips;
     const [at] = item.flips;
-    deliver.textContent =
-      size === 0 ? `Deliver to the ${to}` : `Deliver with ${size === 1 ? `byte ${at}` : `${size} bytes`} changed`;
+    const changed = size === 1 ? `byte ${at}` : `${size} bytes`;
+    tell(deliver, size === 0 ? `Deliver to the ${to}` : `Deliver with ${changed} changed`);
   };
   show();
   return { row, show };
@@ -157,11 +157,15 @@ export class Current {
     if (!run || !newest) this.pick(run, undefined);
     else if (isNew || this.#item === undefined) this.pick(run, newest);
     if (!this.#item) return;
-    this.#parts.title.replaceChildren(headOf(this.#entry), ' ', element('span', 'fate', fateOf(this.#item)));
+    const [head, fate] = [headOf(this.#entry), fateOf(this.#item)];
+    const { title, more } = this.#parts;
+    if (title.textContent !== `${head} ${fate}`) title.replaceChildren(head, ' ', element('span', 'fate', fate));
     this.#row();
     const entries = run.log.filter(({ item }) => item === this.#item);
-    const hash = entries.at(-1).number === undefined ? undefined : hashLine(entries.at(-1).hash);
-    this.#parts.more.querySelector('.hashes').replaceChildren(...(hash ? [hash] : []));
+    if (entries.length > this.#shown) {
+      const hash = entries.at(-1).number === undefined ? undefined : hashLine(entries.at(-1).hash);
+      more.querySelector('.hashes').replaceChildren(...(hash ? [hash] : []));
+    }
     if (!this.#entry.isDatagram) {
       const details = (entry) =>
         scheduleDetails(
@@ -171,7 +175,7 @@ export class Current {
           `Key schedule of ${entry.at}: the ${entry.role}`,
         );
       const added = entries.slice(this.#shown).map(details);
-      this.#parts.more.querySelector('.schedule-lists').append(...added);
+      more.querySelector('.schedule-lists').append(...added);
     }
     this.#shown = entries.length;
   }
@@ -233,7 +237,7 @@ export class Log {
       this.#shown.push(made);
       this.#list.prepend(made.li);
     }
-    for (const { fate, entry } of this.#shown) if (entry.kind === 'wrote') fate.textContent = fateOf(entry.item);
+    for (const { fate, entry } of this.#shown) if (entry.kind === 'wrote') tell(fate, fateOf(entry.item));
     return this.#limit();
   }
 
@@ -244,7 +248,7 @@ export class Log {
       li.hidden = !isShort && n >= SHOWN && !li.contains(document.activeElement);
     });
     this.#more.hidden = isShort;
-    this.#more.textContent = `Show ${length - SHOWN} earlier ${length - SHOWN === 1 ? 'entry' : 'entries'}`;
+    tell(this.#more, `Show ${length - SHOWN} earlier ${length - SHOWN === 1 ? 'entry' : 'entries'}`);
   }
 }
 

@@ -1,6 +1,6 @@
 // The picture of the handshake with the run in it, what follows from its tokens, and another pattern beside it.
 import { visible } from './bytes.mjs';
-import { element } from './element.mjs';
+import { Part, element, tell } from './element.mjs';
 import { Beside, showFacts } from './factsview.mjs';
 import { partial } from './partial.mjs';
 import { STYLE, picture, pieceName, words } from './picture.mjs';
@@ -18,6 +18,9 @@ export class Shape {
   #beside;
   #seen;
   #under;
+  #facts = new Part(at('shown'));
+  /** The picture as it is drawn: what is the same isn't drawn again. */
+  #svg = '';
 
   /**
    * `page` has `setup` and `plan`. `chosen(name)` is called with the name of the pattern of the standard that was
@@ -31,6 +34,7 @@ export class Shape {
     this.#width = at('picture').clientWidth;
     this.#beside = new Beside(at('beside'), at('other'), chosen);
     this.#beside.choose(page.setup.beside);
+    at('words').parentElement.addEventListener('toggle', () => this.#tell());
     this.show();
     new ResizeObserver(() => {
       if (this.#width === at('picture').clientWidth) return;
@@ -43,12 +47,14 @@ export class Shape {
     const { plan, setup, faults } = this.#page;
     const drawn = plan ?? partial(setup.text, faults);
     at('picture').classList.toggle('old', !drawn);
-    if (drawn) at('shape-of').textContent = visible(drawn.section);
+    if (drawn) tell(at('shape-of'), visible(drawn.section));
     at('shape-old').hidden = Boolean(plan);
     const none = at('shape-of').textContent ? OLD : 'The text isn’t a valid pattern, and has no picture.';
-    at('shape-old').textContent = drawn ? PART : none;
+    if (!plan) tell(at('shape-old'), drawn ? PART : none);
     const seen = this.#page.isStale || !plan ? undefined : this.#seen;
-    if (drawn) at('picture').innerHTML = picture(drawn, this.#width, seen, unit());
+    const svg = drawn ? picture(drawn, this.#width, seen, unit()) : this.#svg;
+    if (svg !== this.#svg) at('picture').innerHTML = svg;
+    this.#svg = svg;
     this.#mark();
   }
 
@@ -96,8 +102,15 @@ export class Shape {
     at('no-facts').hidden = Boolean(plan);
     at('words').parentElement.hidden = !plan;
     if (!plan) return;
+    this.#tell();
+    this.#facts.show(() => showFacts(at('facts'), plan));
+  }
+
+  /** The picture in words, where they are unfolded. */
+  #tell() {
+    const { plan } = this.#page;
+    if (!plan || !at('words').parentElement.open) return;
     at('words').replaceChildren(...words(plan).map((line) => element('li', '', line)));
-    showFacts(at('facts'), plan);
   }
 
   /** Shows this pattern of the standard beside, or none. */

@@ -13,14 +13,15 @@ export function silence(run, role) {
   return party.hasEnded ? 'it has ended its stream' : undefined;
 }
 
-/** The frame of a payload, or without one that of the end. */
+/** The frame of a payload, which a field of the page or a link fits into one, or without one that of the end. */
 export function frameOf(party, payload) {
   if (payload === undefined) {
     const frame = party.sealer.end();
     party.hasEnded = true;
     return frame;
   }
-  return party.sealer.write(payload);
+  const [frame] = party.sealer.write([payload]);
+  return frame;
 }
 
 /** Reads one frame at the start of what a party holds: what came of it, or undefined where bytes are lacking. */

@@ -1,6 +1,6 @@
 // What is saved and copied, and the set-up as a program.
 import { visible } from './bytes.mjs';
-import { button, copier, element, enable, speak } from './element.mjs';
+import { button, copier, element, enable, onPress, speak } from './element.mjs';
 import { LANGUAGES } from './languages.mjs';
 import * as link from './link.mjs';
 import { pictureFile } from './picture.mjs';
@@ -44,9 +44,13 @@ export function forExplorer({ messages, oneWay }, text) {
   return `${text}${(oneWay ? [arrows[0]] : [arrows[first], arrows[1 - first]]).map((it) => `${it}\n`).join('')}`;
 }
 
+/** Of whom a program can be: of both parties, or of the one with a role. */
+const PARTIES = { both: ['Both parties', undefined], client: ['Client', 'initiator'], server: ['Server', 'responder'] };
+
 export class Take {
   #page;
   #language = 'C';
+  #party = 'both';
   #shown = '';
   #coding;
   /** The program is made anew when it comes into view; one that is out of it waits, and so do the scripts for it. */
@@ -56,8 +60,7 @@ export class Take {
   /** `page` has `setup`, `plan`, `run` and `text`. */
   constructor(page) {
     this.#page = page;
-    const wire = (id, work) =>
-      at(id).addEventListener('click', () => { if (at(id).getAttribute('aria-disabled') !== 'true') work(); });
+    const wire = (id, work) => onPress(at(id), work, say);
     wire('save-vector', () => { const { name, text } = vectorFile(page.run); save(name, 'text/plain', text); });
     wire('save-pattern', () => save(`${page.plan?.base ?? 'mine'}.pattern`, 'text/plain', page.setup.text));
     wire('save-picture', () => save(`${page.plan.base}.svg`, 'image/svg+xml', pictureFile(page.plan)));
@@ -70,6 +73,11 @@ export class Take {
     );
     for (const name of LANGUAGES) {
       at('languages').append(button(name, () => { this.#language = name; this.show(); this.#showCode(); }));
+    }
+    for (const [name, [label]] of Object.entries(PARTIES)) {
+      const made = button(label, () => { this.#party = name; this.show(); this.#showCode(); });
+      made.value = name;
+      at('parties').append(made);
     }
     new IntersectionObserver(([{ isIntersecting }]) => {
       this.#isInView = isIntersecting;
@@ -98,7 +106,7 @@ export class Take {
   async #program() {
     const { program } = await this.#made();
     const { plan, setup } = this.#page;
-    return program(this.#language, plan, setup);
+    return program(this.#language, plan, setup, PARTIES[this.#party][1]);
   }
 
   show() {
@@ -106,11 +114,13 @@ export class Take {
     for (const made of at('languages').children) {
       made.setAttribute('aria-pressed', String(made.textContent === this.#language));
     }
+    for (const made of at('parties').children) made.setAttribute('aria-pressed', String(made.value === this.#party));
     const none = run ? 'The run belongs to another set-up.' : 'No keys are drawn yet.';
     const isLive = run && !this.#page.isStale;
     for (const id of ['save-program', 'save-picture', 'copy-explorer']) {
       enable(at(id), plan, 'The pattern isn’t valid.');
     }
+    for (const id of ['copy-link', 'save-pattern']) enable(at(id), true);
     for (const id of ['copy-run', 'copy-log']) enable(at(id), isLive, none);
     enable(at('save-vector'), isLive && !run.hasOwnPsks, isLive ? at('no-vector').textContent : none);
     at('no-vector').hidden = !isLive || !run.hasOwnPsks;

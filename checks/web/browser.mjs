@@ -82,9 +82,9 @@ export class Browser {
     return result.value;
   }
 
-  /** Waits until an expression is true, at most 10 seconds. */
+  /** Waits until an expression is true, at most 60 seconds. */
   async until(expression) {
-    for (let n = 0; n < 1000; n += 1) {
+    for (const end = Date.now() + 60000; Date.now() < end;) {
       if (await this.evaluate(expression)) return;
       await new Promise((resolve) => { setTimeout(resolve, 10); });
     }

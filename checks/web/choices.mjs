@@ -13,7 +13,11 @@ const ANSWERED = [
   [{ messages: '1', server: '', client: '' }, 'N K X'],
   [{ messages: '4' }, 'X1N X1K X1K1 X1X X1X1'],
   [{ messages: '', client: 'it has none', server: 'it has none', psk: 'yes' }, 'NNpsk0 NNpsk2'],
-  [{ psk: '', early: 'yes' }, ''],
+  // the secret encrypts the payload of message 1, which NN alone doesn't
+  [{ early: 'yes' }, 'NNpsk0'],
+  [{ early: 'no' }, 'NNpsk2'],
+  [{ server: 'sent encrypted', early: 'yes' }, 'NXpsk0'],
+  [{ server: 'it has none', psk: '', early: 'yes' }, ''],
 ];
 
 const names = (page) => page.evaluate(
@@ -51,6 +55,10 @@ export async function choices(page) {
   assert.match(
     await page.evaluate('document.querySelector("#choosing blockquote").previousSibling.querySelector("a").href'),
     /^https:\/\/noiseprotocol\.org\/noise\.html#payload-security-properties$/,
+  );
+  assert.equal(
+    await page.evaluate('document.querySelector("#choosing a[href$=identity-hiding]")?.textContent'),
+    'section 7.8 of the standard',
   );
   const purposes = await page.evaluate('document.querySelectorAll("#choosing .choices:first-of-type button").length');
   for (let n = 1; n <= purposes; n += 1) {

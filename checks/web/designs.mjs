@@ -53,7 +53,7 @@ async function design(page, hand) {
   assert.equal(await verdict(), 'good Valid: 2 messages. ');
   await hand.type('#text', ONE_WAY);
   assert.equal(await verdict(), 'good Valid: 1 message. ');
-  assert.match(await page.textOf('facts'), /Message 1Whoever has the initiator’s s, or the responder’s s\./);
+  await page.facts(/Message 1Whoever has the initiator’s s, or the responder’s s\./);
   await hand.type('#text', FAULTY);
   assert.equal(await page.evaluate('document.querySelectorAll("#verdict .title, #verdict .more li").length'), 3);
   for (let n = 0; n < 3; n += 1) await hand.press('#mends button:last-child');

@@ -270,7 +270,7 @@ test('what the editor can mend it offers to', () => {
     ['XX:\n  -> e\n', 'MINE:\n  -> e\n'],
     ['MINE:\n  -> e, psk\n', 'MINEpsk1:\n  -> e, psk\n'],
     ['MINE:\n', 'MINE:\n  -> e\n'],
-    ['MINE:\n<- s\n', 'MINE:\n  <- s\n'],
+    ['MINE:\n-> s\n', 'MINE:\n  -> s\n'],
     ['  -> e\n', 'MINE:\n  -> e\n'],
     ['MINE:\n  <- s\n  -> s\n  ...\n  -> e, es, ss\n', 'MINE:\n  -> s\n  <- s\n  ...\n  -> e, es, ss\n'],
   ]) assert.equal(saidOf(text).offers[0]?.text, mended, JSON.stringify(text));
@@ -339,4 +339,37 @@ test('each pattern without one of its DHs has an offer that works', () => {
       if (verdict.rule === 4) assert.ok(mendsOf(text, verdict).length > 0, `${name} without${dh}`);
     }
   }
+});
+
+/** How many messages, and tokens of the message, are left from a broken rule on, by the verdict alone. */
+function leftBehind(text, { message, token }) {
+  const lines = text.split('\n').slice(0, -1);
+  const messages = lines.slice(lines.indexOf('  ...') + 1 || 1).map((line) => line.slice(5).split(', '));
+  return message > messages.length ? 0 : (messages.length - message) * 100 + messages[message - 1].length - token;
+}
+
+test('after an offer for a broken rule the text is valid, or less of it is left from its fault on', () => {
+  const next = numbers(82);
+  const known = ['', '  <- s', '  -> s', '  -> s\n  <- s', '  <- e, s', '  -> e'];
+  const counts = { broken: 0, offered: 0 };
+  while (counts.broken < 500) {
+    const body = Array.from({ length: 1 + next(4) }, (_, at) => {
+      const tokens = ['e', 's', 'ee', 'es', 'se', 'ss'].filter(() => next(5) < 2);
+      return `  ${at % 2 ? '<-' : '->'} ${[...tokens, ...(next(4) ? [] : ['psk'])].join(', ')}\n`;
+    });
+    const places = body.flatMap((line, n) => (line.includes('psk') ? [`psk${n + 1}`] : [])).join('+');
+    const above = known[next(known.length)];
+    const text = `MINE${places}:\n${above && `${above}\n  ...\n`}${body.join('')}`;
+    const verdict = checkPattern(text);
+    if (!verdict.rule) continue;
+    const offers = mendsOf(text, verdict);
+    counts.broken += 1;
+    counts.offered += Math.min(offers.length, 1);
+    for (const { text: mended } of offers) {
+      const found = checkPattern(mended);
+      const isBetter = found.valid || (found.rule && leftBehind(mended, found) < leftBehind(text, verdict));
+      assert.ok(isBetter, JSON.stringify([text, mended]));
+    }
+  }
+  assert.ok(counts.offered > 400, `only ${counts.offered} of them have an offer`);
 });

@@ -27,6 +27,28 @@ const PAINTING = `const it = document.getElementById('text'); const times = [];
   }
   return times.sort((x, y) => x - y)[10];`;
 
+/** Keys at a fourth of the processor: the median, in milliseconds, until what came of one is painted. */
+async function slowKeys(browser, text) {
+  const run = (work) => browser.evaluate(`(async () => { ${work} })()`);
+  await run(`const it = document.getElementById('text'); it.value = ${JSON.stringify(text)};
+    it.dispatchEvent(new Event('input')); it.focus(); it.setSelectionRange(8, 8); globalThis.keys = []; let start;
+    it.addEventListener('keydown', ({ timeStamp }) => { start = timeStamp; });
+    it.addEventListener('input', () => requestAnimationFrame(() => {
+      const { port1, port2 } = new MessageChannel();
+      port1.onmessage = () => keys.push(performance.now() - start);
+      port2.postMessage(0);
+    }));`);
+  await browser.send('Emulation.setCPUThrottlingRate', { rate: 4 });
+  for (const [n, key] of [...'e, es, ee, ss'].entries()) {
+    for (const type of ['keyDown', 'keyUp']) {
+      await browser.send('Input.dispatchKeyEvent', { type, key, ...(type === 'keyDown' ? { text: key } : {}) });
+    }
+    await browser.until(`keys.length > ${n}`);
+  }
+  await browser.send('Emulation.setCPUThrottlingRate', { rate: 1 });
+  return run('return keys.sort((x, y) => x - y)[keys.length >> 1];');
+}
+
 // Both parties of XX, and six times what WebCrypto takes for one result of X25519: a key imported, and bits derived.
 // The last 200 of 400: in the first ones the engine compiles what runs often.
 const RATIO = `const { Handshake, KeyPair, protocolName } = await import('../bindings/js/noise.mjs');
@@ -96,7 +118,13 @@ export async function figures(browser, open) {
   const [first, key, paint, ratio, rate] = [
     loads.sort((x, y) => x - y)[2], await run(TYPING), await run(PAINTING), await run(RATIO), await run(SEALING),
   ];
+  const slow = [];
+  for (const text of ['XX:\n  -> e\n  <- e, ee, s, es\n  -> s, se\n', `MINE:\n${'  -> e, ee\n'.repeat(199)}`]) {
+    await open();
+    slow.push(await slowKeys(browser, text));
+  }
   return `first verdict ${first.toFixed(0)} ms after the page is asked for, ${key.toFixed(2)} ms a key, `
-    + `${paint.toFixed(0)} ms until it is painted, `
+    + `${paint.toFixed(0)} ms until it is painted; at a fourth of the processor ${slow[0].toFixed(0)} ms, `
+    + `and ${slow[1].toFixed(0)} in a text of 200 lines; `
     + `both parties of XX ${ratio.toFixed(2)} times six results of X25519, sealing 16 KiB ${rate.toFixed(0)} MB/s`;
 }

@@ -17,6 +17,10 @@ const drop = (page, text) =>
   const how = { dataTransfer: data, bubbles: true, cancelable: true };
   document.getElementById('text').dispatchEvent(new DragEvent('drop', how))`);
 
+/** The code in what a comparison says: the call of the step, and the command that names the mistake. */
+const codes = '[...document.querySelectorAll(".compared code")].map((it) => it.textContent)';
+const CALL = /^\w+/;
+
 /** A log dropped on the text and its vector file: the line, the values, and what is right of them. */
 async function aLog(page, top) {
   const [log, vector] = await Promise.all(['log', 'vector'].map((it) =>
@@ -54,6 +58,33 @@ async function aLog(page, top) {
   assert.equal(await page.evaluate(isKept), false);
 }
 
+/** What the page says of a log with a mistake: where, what that step does, and the line itself. */
+async function plantedIn(page, log) {
+  await page.resize(1440, 900);
+  const [hashed, kept] = [/EncryptAndHash \(5\.2\).*and not the plain/, /MixKey \(5\.2\).*n becomes 0\./];
+  for (const [role, from, to, step] of [
+    // the plain key, and not the encrypted one, is mixed into h
+    ['responder', /(trace responder 2 2 s EncryptAndHash \S+ \S+) [0-9a-f]{8}/, '$1 00000000', hashed],
+    ['initiator', /(trace initiator 2 3 es MixKey .*) 0\n/, '$1 1\n', kept],
+  ]) {
+    await page.type('log-text', log.replace(from, to));
+    await page.run('document.querySelector(".compared").textContent = ""');
+    await page.click('#comparing button.main');
+    await page.until('document.querySelector(".compared .values") !== null');
+    assert.match(await page.evaluate('document.querySelector(".compared").textContent'), step);
+    assert.deepEqual(await page.evaluate(codes), [CALL.exec(step.source)[0], './noise compare your.log your.vector']);
+    await page.click('.compared button');
+    const line = await page.evaluate('document.activeElement.value.slice(document.activeElement.selectionStart, '
+      + 'document.activeElement.selectionEnd)');
+    assert.match(line, new RegExp(`^trace ${role} 2 [^\\n]*$`));
+    const gap = await page.evaluate(`(() => {
+      const [name, text] = document.querySelector('.values tr').children;
+      return text.getBoundingClientRect().left - name.getBoundingClientRect().left;
+    })()`);
+    assert.ok(gap < 200, `a value is ${gap} px from its name`);
+  }
+}
+
 /** The page's own run, whose log agrees with it; one of another run doesn't. */
 async function ownRun(page) {
   await page.open('#compare');
@@ -66,11 +97,13 @@ async function ownRun(page) {
   await page.until('document.querySelector(".compared .title.good") !== null');
   const told = await page.evaluate('document.querySelector(".compared").textContent');
   assert.match(told, /^agrees in \d+ lines.*4 of them are of Split/);
+  assert.deepEqual(await page.evaluate(codes), []);
   const other = (it, digit) => `ee MixKey 32 - ${digit === '0' ? 1 : 0}`;
   await page.type('log-text', log.replace(/ee MixKey 32 - ([0-9a-f])/, other));
   await page.click('#comparing button.main');
   const differs = '/^differs at line \\d+: responder, message 2, ee/';
   await page.until(`${differs}.test(document.querySelector(".compared").textContent)`);
+  await plantedIn(page, log);
 }
 
 /** Messages of a run, in hex, are read by the pattern; and anew where the pattern changes. */
@@ -92,6 +125,24 @@ async function aCapture(page) {
   assert.match((await items())[2], /^Transport message: 69 bytes, of which 53 are the payload/);
 }
 
+/** What is copied for Noise Explorer is read back. */
+async function readBack(page) {
+  const permissions = ['clipboardReadWrite', 'clipboardSanitizedWrite'];
+  await page.browser.send('Browser.grantPermissions', { permissions });
+  await page.browser.send('Emulation.setFocusEmulationEnabled', { enabled: true });    // only then a page may copy
+  for (const name of ['XX', 'N', 'IK']) {
+    await page.type('text', textOf(name));
+    await page.click('#copy-explorer');
+    await page.until('document.getElementById("copied").textContent === "The pattern for Noise Explorer copied."');
+    const exported = await page.evaluate('navigator.clipboard.readText()');
+    assert.ok(exported.startsWith(textOf(name)) && exported.length > textOf(name).length, name);
+    await page.type('text', 'x');
+    await paste(page, exported);
+    assert.equal(await value(page, 'text'), textOf(name));
+  }
+  await page.browser.send('Emulation.setFocusEmulationEnabled', { enabled: false });
+}
+
 /** Texts of others, by paste, and what is offered of names that are typed. */
 async function ofOthers(page) {
   await page.open();
@@ -100,7 +151,7 @@ async function ofOthers(page) {
   assert.equal(await value(page, 'text'), textOf('XX'));
   assert.match(await page.textOf('notice'), /^The suite 25519_AESGCM_SHA256 isn’t here/);
   assert.equal(await page.textOf('shape-of'), 'XX');
-  await page.click('#copy-explorer');
+  await readBack(page);
   const theirs = 'IK:\n  <- s\n  ...\n  -> e, es, s, ss\n  <- e, ee, se\n  ->\n  <-\n';
   await paste(page, theirs);
   assert.equal(await value(page, 'text'), textOf('IK'));
@@ -115,8 +166,25 @@ async function ofOthers(page) {
     await page.click('#mends button');
     assert.equal(await value(page, 'text'), text);
   }
+  // nothing is offered for what only its writer knows
+  await page.type('text', 'NN:\n  -> e, nonsense\n');
+  assert.equal(await page.evaluate('document.querySelectorAll("#mends button").length'), 0);
   await page.type('text', 'NN:\n  -> \u0435\n  <- e, ee\n');
   assert.match(await page.textOf('verdict'), /“е” looks like e, and is another sign \(U\+0435\)\./);
+}
+
+/** A file of 2000 lines is judged once when it is opened, and not at each of its lines. */
+async function openedOnce(page) {
+  await page.open();
+  await page.run(`globalThis.judged = 0;
+    const count = (all) => { judged += all.length; };
+    new MutationObserver(count).observe(document.getElementById('verdict'), { childList: true });
+    const data = new DataTransfer();
+    data.items.add(new File([${quoted(`MINE:\n${'  -> e, ee\n'.repeat(2000)}`)}], 'a.pattern'));
+    const file = document.getElementById('file'); file.files = data.files; file.dispatchEvent(new Event('change'))`);
+  await page.until('document.getElementById("text").value.length > 20000');
+  await page.evaluate('new Promise((done) => setTimeout(done, 50))');
+  assert.equal(await page.evaluate('judged'), 1, 'a file that is opened is judged more than once');
 }
 
 export async function finding(page, top) {
@@ -124,6 +192,7 @@ export async function finding(page, top) {
   await ownRun(page);
   await aCapture(page);
   await ofOthers(page);
+  await openedOnce(page);
   return 'a log is compared with a vector file and with the run, messages in hex are read, '
     + 'and texts of others are taken for what they are';
 }

@@ -14,6 +14,29 @@ const DISTANCE = `(selector) => {
   return from < 0 ? 0 : stops.indexOf(to) - from;
 }`;
 
+/** The middle of a control, once its box is the same in two frames, one after the other, and nothing covers it. */
+const STEADY = `async (selector) => {
+  const look = () => {
+    const it = document.querySelector(selector);
+    if (!it) return { why: 'it is not there' };
+    it.scrollIntoView({ block: 'center' });
+    const { left, top, width, height } = it.getBoundingClientRect();
+    const at = [left + width / 2, top + height / 2];
+    const there = document.elementFromPoint(...at);
+    const why = it.contains(there) ? '' : 'it is covered by ' + there?.outerHTML.slice(0, 100);
+    return { at, why, box: [left, top, width, height].join() };
+  };
+  const whyNot = (before, now) => now.why || (now.box === before.box ? '' : 'it moves');
+  const end = performance.now() + 60000;
+  let [before, now] = [{}, look()];
+  while (whyNot(before, now) && performance.now() < end) {
+    await new Promise((done) => { requestAnimationFrame(done); });
+    [before, now] = [now, look()];
+  }
+  if (whyNot(before, now)) throw new Error(selector + ' cannot be pressed: ' + whyNot(before, now));
+  return now.at;
+}`;
+
 class Hand {
   constructor(browser) {
     this.browser = browser;
@@ -87,7 +110,7 @@ export class Keyboard extends Hand {
   }
 }
 
-/** Moves to the middle of a control, and clicks. */
+/** Moves to the middle of a control that stays where it is, and clicks. */
 export class Pointer extends Hand {
   name = 'the pointer';
 
@@ -95,17 +118,15 @@ export class Pointer extends Hand {
     await this.click(selector);
   }
 
-  async click(selector) {
-    const [x, y] = await this.evaluate(`(async () => { const it = document.querySelector(${quoted(selector)});
-      if (!it) throw new Error('there is no ' + ${quoted(selector)});
-      it.scrollIntoView({ block: 'center' });
-      const { left, top, width, height } = it.getBoundingClientRect();
-      const at = [left + width / 2, top + height / 2];
-      const there = document.elementFromPoint(...at);
-      const by = there?.outerHTML.slice(0, 100);
-      if (!it.contains(there)) throw new Error(${quoted(selector)} + ' is covered by ' + by);
-      return at; })()`);
+  /** Moves to the middle of a control, which it gives. */
+  async point(selector) {
+    const [x, y] = await this.evaluate(`(${STEADY})(${quoted(selector)})`);
     await this.browser.send('Input.dispatchMouseEvent', { type: 'mouseMoved', x, y });
+    return [x, y];
+  }
+
+  async click(selector) {
+    const [x, y] = await this.point(selector);
     for (const type of ['mousePressed', 'mouseReleased']) {
       await this.browser.send('Input.dispatchMouseEvent', { type, x, y, button: 'left', clickCount: 1 });
     }

@@ -61,6 +61,11 @@ export class Page {
     return this.evaluate(`document.getElementById(${quoted(id)}).textContent`);
   }
 
+  /** Waits until the facts say this: where they aren't in view, that is a moment after the last key. */
+  facts(form) {
+    return this.until(`${form}.test(document.getElementById('facts').textContent)`);
+  }
+
   count() {
     return this.evaluate('document.getElementById("log").childElementCount');
   }

@@ -1,6 +1,7 @@
 // What of the page has no DOM besides its facts: links, the picture, and runs whose parties have other psks. node
 // --test parts.test.mjs.
 import assert from 'node:assert/strict';
+import { readFileSync } from 'node:fs';
 import { before, test } from 'node:test';
 import { checkPattern } from '../../bindings/js/check.mjs';
 import { load } from '../../bindings/js/module.mjs';
@@ -289,6 +290,23 @@ test('parties with other psks: the first tag after a psk is refused', async () =
   }
 });
 
+test('a stream’s payload is written in one frame and read, and then its end', async () => {
+  const run = await Run.start({
+    text: textOf('NN'), prologue: new Uint8Array(0), interval: 0, mode: 'stream', window: 64,
+  });
+  await run.passAll(() => new Uint8Array(0));
+  for (const size of [1, 45000]) {
+    const { item } = await run.write('initiator', new Uint8Array(size).fill(7));
+    assert.equal(item.message.length, size + 16);
+    await run.deliver('responder', item.n);
+    assert.match(sentenceOf(run, run.log.at(-1)), /^Responder accepted transport message \d of the initiator/);
+  }
+  await run.write('initiator');
+  await run.deliver('responder', 3);
+  assert.match(sentenceOf(run, run.log.at(-1)), /^Responder accepted the end of the initiator’s stream/);
+  run.dispose();
+});
+
 test('without psks, or with the same, nothing of it shows', async () => {
   for (const [base, places, ownPsks] of [['NN', [], true], ['NN', [2], false]]) {
     const run = await runOf(base, places, ownPsks);
@@ -344,6 +362,11 @@ test('the table of 7.7 is that of its definitions', () => {
   assert.deepEqual(Object.keys(TABLE), FUNDAMENTAL);
 });
 
+test('the deferred patterns are those of examples/patterns', () => {
+  const folder = new URL('../../examples/patterns/', import.meta.url);
+  for (const base of DEFERRED) assert.equal(textOf(base), readFileSync(new URL(`${base}.pattern`, folder), 'utf8'));
+});
+
 test('what helps to choose says what the layouts show', () => {
   assert.match(rowOf('XK1').says, /It is XK with es in message 2\.$/);
   assert.match(rowOf('X1X1').says, /It is XX with es in message 3 and se in message 4\.$/);
@@ -351,6 +374,11 @@ test('what helps to choose says what the layouts show', () => {
     rowOf('IK').says, 'The client knows the server’s key before, and the client’s key is sent encrypted in message 1; '
       + 'message 1 takes encrypted data. 2 messages.',
   );
+  assert.match(rowOf('NN').says, /; message 1 has nothing encrypted in its payload\./);
+  assert.match(rowOf('NN', 'NNpsk0').says, /; message 1 takes data that the secret alone encrypts\./);
+  assert.match(rowOf('IN', 'INpsk1').says, /in the clear in message 1; message 1 takes data that the secret alone/);
+  assert.match(rowOf('NN', 'NNpsk2').says, /; everybody can read the payload of message 1\./);
+  assert.match(rowOf('NK', 'NKpsk0').says, /; message 1 takes encrypted data\./);
   // the names of 9.4
   const named = 'Npsk0 Kpsk0 Xpsk1 NNpsk0 NNpsk2 NKpsk0 NKpsk2 NXpsk2 XNpsk3 XKpsk3 XXpsk3 KNpsk0 KNpsk2 KKpsk0 KKpsk2 '
     + 'KXpsk2 INpsk1 INpsk2 IKpsk1 IKpsk2 IXpsk2';

@@ -1,5 +1,6 @@
-// What is seen when: the first paint doesn't wait for the scripts, a program out of view waits, a long text doesn't
-// freeze the page, a run stands beside its arrows above the fold, designs are compared word by word, and a print.
+// What is seen when: the first paint doesn't wait for the scripts, a key makes nothing anew that is out of view, a long
+// text doesn't freeze the page, a run stands beside its arrows above the fold, programs by party, designs compared word
+// by word, a print, and the pages beside it.
 import assert from 'node:assert/strict';
 
 const XX = '#pattern=XX%3A%0A++-%3E+e%0A++%3C-+e%2C+ee%2C+s%2C+es%0A++-%3E+s%2C+se%0A';
@@ -39,6 +40,88 @@ async function waitingProgram(page) {
   assert.equal(await page.evaluate('made'), 0, 'a program out of view is made at each key');
   await page.run('document.getElementById("code").scrollIntoView()');
   await page.until('document.getElementById("code").textContent.includes("MINE")');
+}
+
+/** Counts the elements and pictures that are made anew, and those far from what is seen. Closed lists don't count. */
+const COUNT = `globalThis.made = { elements: 0, pictures: 0, unseen: [] };
+  const isSeen = (it) => {
+    const { top, bottom } = it.getBoundingClientRect();
+    return it.checkVisibility() && bottom >= -250 && top <= innerHeight + 250;
+  };
+  new MutationObserver((records) => {
+    for (const { target, addedNodes } of records) {
+      const elements = [...addedNodes].filter(({ nodeType }) => nodeType === 1);
+      if (!elements.length || target.closest('select')) continue;
+      for (const it of elements) made.elements += 1 + it.querySelectorAll('*').length;
+      if (target.id === 'picture') made.pictures += 1;
+      if (!isSeen(target)) made.unseen.push(target.id || target.outerHTML.slice(0, 60));
+    }
+  }).observe(document.body, { childList: true, subtree: true })`;
+const SHORT = 'XX:\n  -> e\n  <- e, ee, s, es\n  -> s, se\n';
+const LONG = ['MINE:', ...Array.from({ length: 199 }, (_, n) => `  ${n % 2 ? '<-' : '->'} e, ee`)].join('\n');
+
+/** A key makes anew what is seen, the picture once, and few elements: also in a text of 200 lines, and in a run. */
+async function oneKey(page) {
+  for (const [width, height, texts] of [[1280, 720, [SHORT, LONG]], [390, 844, [SHORT]]]) {
+    for (const text of texts) {
+      const isRun = text === SHORT;
+      await page.resize(width, height);
+      await page.open('#mode=transport');
+      if (isRun) await page.begin().then(() => page.passAll());
+      await page.type('text', text);
+      await page.run('scrollTo(0, 0); document.getElementById("text").focus(); '
+        + `await new Promise((done) => setTimeout(done, 700)); ${COUNT}`);
+      for (const change of ['  -> e, s', '  -> e']) {
+        await page.run(`made.elements = made.pictures = 0; const it = document.getElementById('text');
+          it.value = it.value.replace(/ {2}-> e.*/, ${JSON.stringify(change)}); it.dispatchEvent(new Event('input'));
+          await new Promise((done) => requestAnimationFrame(() => setTimeout(done)))`);
+        const { elements, pictures, unseen } = await page.evaluate('made');
+        const where = `at ${width} px, of ${text.split('\n').length} lines`;
+        assert.deepEqual(unseen, [], `a key makes anew what isn't seen, ${where}`);
+        assert.ok(pictures <= 1, `a key draws ${pictures} pictures, ${where}`);
+        assert.ok(elements <= 500, `a key makes ${elements} elements, ${where}`);
+      }
+    }
+  }
+}
+
+/** A program of one party: its text, and the name that it is saved by. */
+async function byParty(page) {
+  await page.open(XX);
+  await page.run('document.getElementById("code").scrollIntoView()');
+  for (const [party, language, file] of [
+    ['Client', 'C', 'xx-client.c'], ['Server', 'Python', 'xx-server.py'], ['Both parties', 'Go', 'xx.go'],
+  ]) {
+    await page.run(`for (const it of document.querySelectorAll('#program-row button')) {
+      if (['${party}', '${language}'].includes(it.textContent)) it.click();
+    }`);
+    const says = party === 'Both parties' ? 'both parties in one' : `The ${party.toLowerCase()} of the pattern XX`;
+    await page.until(`document.getElementById("code").textContent.includes(${JSON.stringify(says)})`);
+    const pressed = await page.evaluate(
+      '[...document.querySelectorAll("#program-row [aria-pressed=true]")].map(({ textContent }) => textContent).join()',
+    );
+    assert.equal(pressed, `${language},${party}`);
+    await page.click('#save-program');
+    await page.until(`document.getElementById("copied").textContent.includes(${JSON.stringify(file)})`);
+  }
+  await page.run('document.querySelector("#languages button").click()');
+}
+
+/** The page of the rules begins with which pattern one needs, and leads back; it ends with how it is made. */
+async function helpFirst(page) {
+  await page.browser.open(`${page.url}rules.html`);
+  await page.until('document.querySelector("article table") !== null && document.readyState === "complete"');
+  const [text, first, link] = await page.evaluate(`(() => {
+    const all = document.body.innerText;
+    const article = document.querySelector('article');
+    return [all, article.children[0].textContent.slice(0, 26), article.querySelector('a').getAttribute('href')];
+  })()`);
+  assert.equal(first, '"Which pattern do I need?"');
+  assert.equal(link, 'index.html');
+  const [need, table, made] = ['Which pattern', 'NNpsk0', 'tools/webpages'].map((it) => text.indexOf(it));
+  assert.ok(need >= 0 && need < table && table < made, 'rules.html begins with something else');
+  assert.ok(made > text.length - 120, 'how rules.html is made isn’t its end');
+  assert.ok(!/make web|http\.server/.test(text.slice(0, text.length / 2)), 'rules.html begins with how it is built');
 }
 
 /** 200 KB are judged in three seconds at most, also on a machine that does much else. */
@@ -116,11 +199,15 @@ async function printed(page) {
 export async function views(page) {
   await firstPaint(page);
   await waitingProgram(page);
+  await oneKey(page);
+  await byParty(page);
+  await helpFirst(page);
   const longest = await longText(page);
   await runBeside(page);
   await ownDesigns(page);
   await printed(page);
   await page.resize(1100);
-  return 'the first paint doesn’t wait for scripts, a run is beside its arrows at 1280 × 720, two designs are compared '
-    + `by words, and a print has no buttons; a text of 200 KB is judged in ${longest.toFixed(0)} ms`;
+  return 'the first paint doesn’t wait for scripts, a key makes nothing anew that is out of view, a run is beside its '
+    + 'arrows at 1280 × 720, programs come by party, two designs are compared by words, rules.html begins with help, '
+    + `and a print has no buttons; a text of 200 KB is judged in ${longest.toFixed(0)} ms`;
 }

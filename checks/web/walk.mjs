@@ -48,9 +48,8 @@ export class Walk {
     assert.equal(await this.text(), MENDED);
     assert.equal(await this.page.evaluate('document.activeElement.id'), 'text');
     assert.match(await this.of('verdict'), /^Valid: 2 messages/);
-    assert.match(await this.of('facts'), /Message 1, payloades.*The initiator’s e, or the responder’s s\./);
-    assert.match(
-      await this.of('facts'),
+    await this.page.facts(/Message 1, payloades.*The initiator’s e, or the responder’s s\./);
+    await this.page.facts(
       /Message 1Anyone, with an e of its own\.Accepted again: the responder puts in no e before\..*Noise Explorer/,
     );
     await hand.type('#text', 'MINE:\n  -> e\n  <- e\n');
@@ -58,12 +57,8 @@ export class Walk {
       await this.of('verdict'),
       /^Valid: 2 messages, with a warning\. Warning: Transport, recorded: no DH is mixed in, and everybody can compute the key/,
     );
-    assert.equal(
-      await this.page.evaluate(
-        'document.querySelectorAll("#facts tr.warns").length + document.getElementById("verdict").className',
-      ),
-      '1warned',
-    );
+    assert.equal(await this.page.evaluate('document.getElementById("verdict").className'), 'warned');
+    await this.page.until('document.querySelectorAll("#facts tr.warns").length === 1');
     await hand.undo();
     assert.equal(await this.text(), MENDED);
   }
@@ -342,9 +337,14 @@ export class Walk {
     );
   }
 
+  /** Does something after which the log has so many entries; if it hasn't, what the page says is in the error. */
   async adding(count, work) {
     await work();
-    await this.until(`document.getElementById("log").childElementCount === ${count}`);
+    try {
+      await this.until(`document.getElementById("log").childElementCount === ${count}`);
+    } catch ({ message }) {
+      assert.fail(`${message}; the page says: ${await this.of('said')}`);
+    }
   }
 
   async write(role) {

@@ -234,6 +234,17 @@ async function leaks(page) {
   }
 }
 
+/** A button that is switched off says why when it is pressed, also to those who see no title. */
+async function whyNot(page) {
+  await page.open(fragment(XX));
+  await page.click('#all');
+  assert.equal(await page.textOf('said'), 'No keys are drawn yet.');
+  await page.click('#save-vector');
+  assert.equal(await page.textOf('copied'), 'No keys are drawn yet.');
+  const names = await page.evaluate('[...document.querySelectorAll("#places input")].map((it) => it.ariaLabel)');
+  assert.ok(names.every((name, n) => name.startsWith(`${n}: psk `)), 'a box isn’t named by the number that is seen');
+}
+
 /** What is said by itself: once, 600 ms after the last key, and only what is new. */
 async function said(page) {
   await page.open(fragment(XX));
@@ -293,6 +304,7 @@ export async function workbench(page) {
   await designs(page);
   await wayIn(page);
   await leaks(page);
+  await whyNot(page);
   await said(page);
   await touch(page);
   await largeFont(page);

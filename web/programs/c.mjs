@@ -1,7 +1,8 @@
 // A pattern as a program in C, over include/noise.h and OpenSSL.
-import { lines, octalEscape, quoted } from './text.mjs';
+import { guide, lines, octalEscape, quoted } from './text.mjs';
 
-const HELPERS = `typedef struct {
+/** What both programs in C have: X25519 by OpenSSL. */
+export const HELPERS = `typedef struct {
     EVP_PKEY *secret;
     uint8_t public[32];
 } key_pair;
@@ -82,7 +83,7 @@ function start({ has, knows, knowsEphemeral, psks }) {
  * For each mode the call that ends the handshake, its two structs, and where it has messages the calls that seal and
  * open one.
  */
-const KINDS = {
+export const KINDS = {
   transport: ['noise_finish', 'noise_sender', 'noise_receiver', 'noise_seal', 'noise_open'],
   stream: ['noise_finish_stream', 'noise_stream_sender', 'noise_stream_receiver'],
   datagrams: [
@@ -158,23 +159,22 @@ function main({ psks, mode, interval, window, has }) {
   );
 }
 
+/** The pattern as an array of char: its protocol name, or its text. */
+export const patternText = ({ isNamed, section, lines: all }) => (isNamed
+  ? [`static const char pattern[] = "Noise_${section}_25519_ChaChaPoly_SHA256";`]
+  : ['static const char pattern[] =', ...all.map((line, n) => `    "${line}\\n"${n === all.length - 1 ? ';' : ''}`)]);
+
 export function c(facts) {
-  const { section, name, isNamed, prologue, psks, mode, has } = facts;
+  const { section, name, prologue, psks, mode, has } = facts;
   const [, sender, receiver] = KINDS[mode];
-  const text = isNamed
-    ? [`static const char pattern[] = "Noise_${section}_25519_ChaChaPoly_SHA256";`]
-    : [
-      'static const char pattern[] =',
-      ...facts.lines.map((line, n) => `    "${line}\\n"${n === facts.lines.length - 1 ? ';' : ''}`),
-    ];
   return lines(
     `// The pattern ${section}: both parties in one program. At the top of the repository, with OpenSSL's headers:`,
-    `//     cc -I include ${name}.c dist/noise_c.S -lcrypto -o ${name}`,
+    `//     cc -I include ${name}.c dist/noise_c.S -lcrypto -o ${name}`, `// The guide: ${guide('C')}`,
     '#include "noise.h"',
     '#include <openssl/evp.h>',
     psks > 0 && '#include <openssl/rand.h>',
     '#include <stdio.h>', '#include <stdlib.h>', '#include <string.h>', '',
-    text,
+    patternText(facts),
     `static const char prologue[] = ${quoted(prologue, octalEscape)};`,
     psks > 0 && [`enum { PSKS = ${psks} };`, 'static uint8_t psks[PSKS][32];    // in the order of the psk tokens'],
     '',

@@ -1,5 +1,5 @@
 // A pattern as a program in Go, over the package of bindings/go.
-import { hexEscape, lines, quoted } from './text.mjs';
+import { guide, hexEscape, lines, quoted } from './text.mjs';
 
 /** What a party's Config has besides what both have. */
 function config(role, { has, psks }) {
@@ -94,7 +94,7 @@ export function go(facts) {
     '\t"example.org/yulimosar/noise"',
   );
   return lines(
-    `// The pattern ${section}: both parties in one program, ${name}.go. docs/GO.md has the go.mod for it.`,
+    `// The pattern ${section}: both parties in one program, ${name}.go.`, `// ${guide('GO')} has the go.mod for it.`,
     'package main', '', 'import (', imports.trimEnd(), ')', '',
     `const pattern = ${text}`, '',
     'func main() {',

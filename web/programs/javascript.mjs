@@ -1,6 +1,6 @@
 // A pattern as a program in JavaScript, over the package of bindings/js.
 import { visible } from '../bytes.mjs';
-import { lines } from './text.mjs';
+import { guide, lines } from './text.mjs';
 
 const quoted = (text) =>
   `'${visible(JSON.stringify(text)).slice(1, -1).replaceAll('\\"', '"').replaceAll("'", "\\'")}'`;
@@ -108,8 +108,8 @@ export function javascript(facts) {
     ? `'${section}'`
     : `[\n${facts.lines.map((line) => `  '${line}',`).join('\n')}\n  '',\n].join('\\n')`;
   return lines(
-    `// The pattern ${section}: both parties in one program, ${name}.mjs. `
-      + 'docs/JAVASCRIPT.md says how the package is installed.',
+    `// The pattern ${section}: both parties in one program, ${name}.mjs.`,
+    `// ${guide('JAVASCRIPT')} says how the package is installed.`,
     `import { ${imported.join(', ')} } from 'yulimosar';`, '',
     'const bytes = (it) => new TextEncoder().encode(it);',
     'const text = (it) => new TextDecoder().decode(it);', '',

@@ -1,5 +1,5 @@
 // A pattern as a program in Python, over the package of bindings/python.
-import { hexEscape, lines, quoted } from './text.mjs';
+import { guide, hexEscape, lines, quoted } from './text.mjs';
 
 const bytes = (text) => `b${quoted(text, hexEscape)}`;
 
@@ -79,8 +79,8 @@ export function python(facts) {
   const text = isNamed ? `"${section}"` : `(\n${facts.lines.map((line) => `    "${line}\\n"\n`).join('')})`;
   const modules = lines(psks > 0 && 'import secrets', isStream && ['import socket', 'import threading']);
   return lines(
-    `# The pattern ${section}: both parties in one program, ${name}.py. `
-      + 'docs/PYTHON.md says how the package is installed.',
+    `# The pattern ${section}: both parties in one program, ${name}.py.`,
+    `# ${guide('PYTHON')} says how the package is installed.`,
     modules.trimEnd() || undefined,
     modules && '',
     `from yulimosar import ${imported.filter(Boolean).join(', ')}`,

@@ -1,5 +1,5 @@
 // A pattern as a program in Rust, over the crate of bindings/rust.
-import { hexEscape, lines, quoted } from './text.mjs';
+import { guide, hexEscape, lines, quoted } from './text.mjs';
 
 /** The calls of a Builder, for one party. */
 function builder(role, { has, knows, psks, interval, isDatagrams }) {
@@ -103,7 +103,8 @@ export function rust(facts) {
   const pair = facts.has.initiator || facts.has.responder || facts.psks > 0 ? 'KeyPair, ' : '';
   const text = isNamed ? `"${section}"` : `concat!(\n${facts.lines.map((line) => `    "${line}\\n",`).join('\n')}\n)`;
   return lines(
-    `// The pattern ${section}: both parties in one program, ${name}.rs. docs/RUST.md has the Cargo.toml for it.`,
+    `// The pattern ${section}: both parties in one program, ${name}.rs.`,
+    `// ${guide('RUST')} has the Cargo.toml for it.`,
     !isStream ? `use yulimosar::{Builder, Error, ${pair}MAX_MESSAGE};`
       : [
         'use std::io::{self, Read, Write};',
