@@ -80,7 +80,7 @@ def main() -> None:
     write(folder / "go/go.mod", indented("GO.md", "module example.org/hello"))
     write(folder / "go/main.go", first)
     (lines,) = listings("README.md", "go", ".")
-    write(folder / "go/readme/readme.go", README_MODULE % lines)
+    write(folder / "go/readme/readme.go", README_MODULE % textwrap.indent(lines, "\t"))
     for listing in others:
         stands("GO.md", listing, "bindings/go/example_test.go")
     write(folder / "rust/Cargo.toml", indented("RUST.md", "[package]"))

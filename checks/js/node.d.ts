@@ -23,6 +23,15 @@ declare module 'node:fs' {
   export interface WriteStream { close(): void; }
   export function createWriteStream(path: string): WriteStream;
 }
+declare module 'node:stream' {
+  export class Duplex {
+    destroy(error?: Error): this;
+    end(chunk: Uint8Array | string): this;
+    on(event: 'error', listener: (error: Error) => void): this;
+    pipe<T>(destination: T): T;
+    readonly writableFinished: boolean;
+  }
+}
 declare module 'node:stream/promises' {
   export function pipeline(from: AsyncIterable<Uint8Array>, to: WritableStream): Promise<void>;
   export function pipeline(from: ReadableStream, to: import('node:fs').WriteStream): Promise<void>;
@@ -45,6 +54,7 @@ declare module 'node:net' {
     write(buffer: Uint8Array | string, done?: (error?: Error | null) => void): boolean;
     end(done?: () => void): this;
     destroy(error?: Error): this;
+    resetAndDestroy(): this;
   }
   export interface Server {
     listen(port: number, host: string, listening?: () => void): this;

@@ -9,3 +9,5 @@ declare const verify: (remoteStatic: Uint8Array) => boolean;
 declare const socket: WebSocket;
 declare const serve: (socket: WebSocket) => Promise<void>;
 declare const channel: import('yulimosar').NoiseSocket;
+declare const duplex: import('yulimosar').NoiseSocket['duplex'];
+declare const plain: import('node:net').Socket;

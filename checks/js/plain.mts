@@ -9,6 +9,10 @@ const channel = await NoiseSocket.open(socket, { pattern: 'XX', staticKey, verif
 await channel.send(new Uint8Array(3));
 for await (const payload of channel) if (payload.length > 3) break;
 for await (const payload of channel.readable) if (payload.length > 3) break;
+const port: number | undefined = channel.duplex.remotePort;
+await channel.send(new Uint8Array(port ?? 0));
+// @ts-expect-error: no such property
+await channel.duplex.remotePorts;
 // @ts-expect-error: no such option
 await NoiseSocket.open(connection, { patern: 'XX' });
 // @ts-expect-error: no connection

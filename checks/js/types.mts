@@ -58,6 +58,11 @@ await channel.flush();
 await channel.readable.pipeTo(new WritableStream<Uint8Array>());
 await new Blob([]).stream().pipeTo(channel.writable);
 console.log(equal(channel.hash, hash), hex(got ?? hash).length);
+channel.duplex.setTimeout(1000).end('text').destroy();
+const isFinished: boolean = channel.duplex.writableFinished && channel.duplex.allowHalfOpen;
+console.log(isFinished);
+// @ts-expect-error: no such property
+console.log(channel.duplex.writableFinish);
 const name: Code = 'NOISE_CUT';
 console.log(name, new NoiseError(name).number);
 declare const refused: NoiseError;

@@ -311,6 +311,9 @@ def main():
         f"patterns: {count} random patterns, of {min(lengths)} to {max(lengths)} messages, are explained as another "
         f"program works them out (seed {seed})"
     )
+    known = sum(any(pattern.known.values()) for pattern in drawn_ones)
+    with_psks = sum(bool(pattern.psks) for pattern in drawn_ones)
+    print(f"patterns: {known} random patterns with keys before, and {with_psks} with psks")
 
 
 if __name__ == "__main__":

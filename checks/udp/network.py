@@ -77,7 +77,8 @@ class Flood:
     def __init__(self, port: int, addresses: list[str], rate: int, answers: bool) -> None:
         self._port, self._rate, self._answers = port, rate, answers
         self._strangers = [Stranger(address) for address in addresses]
-        self.sent = self.begun = 0    # datagrams, and handshakes that began by an answered cookie
+        self.sent = self.shown = self.begun = 0    # first messages, those with a cookie, and handshakes that began
+        self._answered = 0
         self._since = asyncio.get_running_loop().time()
 
     @property
@@ -105,9 +106,15 @@ class Flood:
         while self.sent < count:
             await asyncio.sleep(0.01)
 
-    def came(self) -> list[bytes]:
-        """What has come to those who don't answer."""
-        return [datagram for stranger in self._strangers for datagram in stranger.datagrams()]
+    async def has_shown(self, count: int) -> None:
+        """Waits until so many first messages were sent with the cookie that came."""
+        while self.shown < count:
+            await asyncio.sleep(0.01)
+
+    def answered(self) -> int:
+        """How many of those who don't answer have got message 1."""
+        self._answered += sum(it[:1] == b"\x01" for stranger in self._strangers for it in stranger.datagrams())
+        return self._answered
 
     async def _run(self) -> None:
         loop = asyncio.get_running_loop()
@@ -129,6 +136,7 @@ class Flood:
         """Sends a first message again, with the cookie that has come for it."""
         self.begun += datagram[:1] == b"\x01"
         if datagram[:1] == b"\x09" and datagram[1:17] in sent:
+            self.shown += 1
             stranger.send(b"\x0a" + datagram[17:] + sent[datagram[1:17]], self._port)
 
 
@@ -145,7 +153,8 @@ class Relay(asyncio.DatagramProtocol):
         self._closing: list[_Sender] = []
         self._holds, self.held = False, b""
         self.port = 0
-        self.went: list[bytes] = []    # the last datagrams to the server
+        self.is_open = True    # what comes for the server while it isn't is lost
+        self.went: list[bytes] = []    # the last datagrams for the server
         self.begun: set[bytes] = set()    # the first messages of clients
 
     @classmethod
@@ -189,7 +198,8 @@ class Relay(asyncio.DatagramProtocol):
         self.went = [*self.went[-20:], data]
         if data[:1] in (b"\x00", b"\x0a"):
             self.begun.add(data[1 if data[:1] == b"\x00" else 17:])
-        asyncio.get_running_loop().call_later(self._delay, self._there, data, addr)
+        if self.is_open:
+            asyncio.get_running_loop().call_later(self._delay, self._there, data, addr)
 
     def _there(self, data: bytes, addr: object) -> None:
         name = None if self._sticky else addr

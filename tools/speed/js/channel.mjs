@@ -1,6 +1,7 @@
 // How fast a channel over TCP moves bytes beside node:tls with ChaCha20-Poly1305: channel.mjs [ROUNDS] [BYTES OF A
-// WRITE] [MEGABYTES]. A second process reads. Both run in turn; a figure is the median over the rounds. The processor's
-// time holds beside other work, too. It needs the command openssl, which makes the certificate.
+// WRITE] [MEGABYTES] [send|joined|duplex]. Each call of `send` is awaited, of `joined` one for each 64 KiB; `duplex` is
+// written and read as node:tls's socket is. A second process reads. Both run in turn; a figure is the median over the
+// rounds. The processor's time holds beside other work, too. It needs the command openssl, which makes the certificate.
 import { execFileSync, fork } from 'node:child_process';
 import { once } from 'node:events';
 import { mkdtempSync, readFileSync, rmSync } from 'node:fs';
@@ -14,22 +15,23 @@ import { NoiseSocket, load } from '../../../bindings/js/noise.mjs';
 const TLS = { minVersion: 'TLSv1.3', ciphers: 'TLS_CHACHA20_POLY1305_SHA256' };
 const NN = { pattern: 'NN', acceptAnyKey: true };
 
-/** The bytes that come until the end, and the processor's time meanwhile. */
+/** The bytes that come until the end, by a loop or, of a stream of Node, by its events, and the processor's time. */
 async function counted(bytes) {
   const begun = process.cpuUsage();
   let count = 0;
-  for await (const { length } of bytes) count += length;
+  if (bytes.pipe) await once(bytes.on('data', ({ length }) => { count += length; }), 'end');
+  else for await (const { length } of bytes) count += length;
   const { user, system } = process.cpuUsage(begun);
   return { count, microseconds: user + system };
 }
 
 /** The reader: tells its ports, and of each connection what came. */
 async function read() {
-  const [, , , key, cert] = process.argv;
+  const [, , , how, key, cert] = process.argv;
   const told = async (bytes) => process.send(await counted(bytes));
   const tcp = createTcpServer({ allowHalfOpen: true }, async (socket) => {
     const channel = await NoiseSocket.open(socket, { ...NN, responder: true });
-    await told(channel);
+    await told(how === 'duplex' ? channel.duplex : channel);
     await channel.close();
   });
   const tls = createTlsServer({ ...TLS, key, cert, allowHalfOpen: true }, async (socket) => {
@@ -38,24 +40,45 @@ async function read() {
   });
   await Promise.all([tcp, tls].map((server) => once(server.listen(0, '127.0.0.1'), 'listening')));
   process.once('disconnect', () => process.exit());
-  process.send({ channel: tcp.address().port, 'node:tls': tls.address().port });
+  process.send({ [how]: tcp.address().port, 'node:tls': tls.address().port });
+}
+
+const opened = (port) => NoiseSocket.open(connectTcp(port, '127.0.0.1'), NN);
+
+/** A call of `send` is awaited after so many bytes. */
+async function sending(port, most) {
+  const channel = await opened(port);
+  let unsent = 0;
+  return {
+    write: (bytes) => {
+      const sent = channel.send(bytes);
+      unsent += bytes.length;
+      if (unsent < most) return undefined;
+      unsent = 0;
+      return sent;
+    },
+    end: () => channel.close(),
+  };
+}
+
+function writing(socket) {
+  socket.resume();
+  return {
+    write: (bytes) => (socket.write(bytes) ? undefined : once(socket, 'drain')),
+    end: async () => { socket.end(); await once(socket, 'close'); },
+  };
 }
 
 /** How each connects, and gives `write` and `end`. */
 const KINDS = {
-  channel: async (port) => {
-    const channel = await NoiseSocket.open(connectTcp(port, '127.0.0.1'), NN);
-    return { write: (bytes) => channel.send(bytes), end: () => channel.close() };
-  },
+  send: (port) => sending(port, 1),
+  joined: (port) => sending(port, 1 << 16),
+  duplex: async (port) => writing((await opened(port)).duplex),
   'node:tls': async (port) => {
     const socket = connectTls({ ...TLS, port, host: '127.0.0.1', rejectUnauthorized: false });
     await once(socket, 'secureConnect');
     if (socket.getCipher().name !== TLS.ciphers) throw new Error(`node:tls took ${socket.getCipher().name}`);
-    socket.resume();
-    return {
-      write: (bytes) => (socket.write(bytes) ? undefined : once(socket, 'drain')),
-      end: async () => { socket.end(); await once(socket, 'close'); },
-    };
+    return writing(socket);
   },
 };
 
@@ -99,7 +122,8 @@ function certificate() {
 
 async function write() {
   const [rounds, size, megabytes] = [9, 16384, 128].map((usual, n) => Number(process.argv[2 + n] ?? usual));
-  const reader = fork(fileURLToPath(import.meta.url), ['read', ...certificate()]);
+  const how = process.argv[5] ?? 'send';
+  const reader = fork(fileURLToPath(import.meta.url), ['read', how, ...certificate()]);
   const [ports] = await once(reader, 'message');
   const samples = Object.fromEntries(Object.keys(ports).map((kind) => [kind, []]));
   const payload = new Uint8Array(size);
@@ -123,7 +147,7 @@ async function write() {
     );
   }
   const ratio = (of) => {
-    const all = samples.channel.map((it, n) => of(it, samples['node:tls'][n]));
+    const all = samples[how].map((it, n) => of(it, samples['node:tls'][n]));
     return `${median(all).toFixed(2)} (${Math.min(...all).toFixed(2)} to ${Math.max(...all).toFixed(2)})`;
   };
   const slower = ({ sends, reads }) => Math.max(sends, reads);
