@@ -153,8 +153,10 @@ func TestTooManyFiles(t *testing.T) {
 		conn.Close()
 	}
 	var came bytes.Buffer
-	end := side{in: strings.NewReader("x"), out: &came}
-	for i := 0; i < 20; i++ {
+	var end side
+	for i := 0; i < 20; i++ { // each has the whole input: one that fails may have read it
+		came.Reset()
+		end = side{in: strings.NewReader("x"), out: &came}
 		if client(to(server)(l.address), &end); end.status == 0 {
 			break
 		}
