@@ -244,6 +244,14 @@ func (s *stubborn) SetDeadline(time.Time) error      { return s.fault }
 func (s *stubborn) SetReadDeadline(time.Time) error  { return s.fault }
 func (s *stubborn) SetWriteDeadline(time.Time) error { return s.fault }
 
+// running waits until a process has run for so long, in tenths of a second: each begins when this process runs, so that
+// the time in which other programs have the processor isn't counted.
+func running(tenths int) {
+	for i := 0; i < tenths; i++ {
+		time.Sleep(100 * time.Millisecond)
+	}
+}
+
 // TestCloseWithoutDeadlines closes connections whose deadlines end no call: while a Write waits, while Close itself
 // does, and where nothing does.
 func TestCloseWithoutDeadlines(t *testing.T) {
@@ -274,12 +282,12 @@ func TestCloseWithoutDeadlines(t *testing.T) {
 						time.Sleep(time.Millisecond)
 					}
 				}
-				begun := time.Now()
+				passed := goes(func() error { running(40); return nil }) // turnTime has 10, and endTime 50
 				if err := soon(t, "Close", c.Close); !errors.Is(err, it.want) {
 					t.Error(err)
 				}
-				if !it.isSlow && time.Since(begun) > 5*time.Second {
-					t.Errorf("Close took %v", time.Since(begun))
+				if !it.isSlow && len(passed) > 0 {
+					t.Error("Close took more than 4 seconds")
 				}
 				if it.writes {
 					wants(t, <-wrote, net.ErrClosed)
