@@ -180,7 +180,7 @@ func TestPacketBeginsElsewhere(t *testing.T) {
 func TestPacketDoneHasTime(t *testing.T) {
 	t.Parallel()
 	initiator, responder := packetConfigs(t, "XX")
-	responder.HandshakeTimeout = 5 * time.Second
+	responder.HandshakeTimeout = 10 * time.Second
 	l, err := ListenPacket("udp", "127.0.0.1:0", responder)
 	if err != nil {
 		t.Fatal(err)
@@ -190,9 +190,9 @@ func TestPacketDoneHasTime(t *testing.T) {
 	client, own := newRawPacket(t, initiator, l.Addr()), rawSocket(t)
 	client.send(own)
 	client.channel.take(context.Background(), client.next(own, 20*time.Second))
-	time.Sleep(3 * time.Second)
+	time.Sleep(6 * time.Second)
 	client.send(own) // message 2
-	time.Sleep(2500 * time.Millisecond)
+	time.Sleep(5 * time.Second)
 	if !client.echoes(own, own, "late") {
 		t.Error("the listener has forgotten a session of which its client knows")
 	}

@@ -280,7 +280,7 @@ func tryEnds(t *testing.T, l *PacketListener, client, server *PacketSession) {
 func TestPacketLimits(t *testing.T) {
 	t.Parallel()
 	initiator, responder := packetConfigs(t, "XX")
-	l, err := PacketConfig{Config: responder, MaxSessions: 2, Idle: 6 * time.Second}.Listen("udp", "127.0.0.1:0")
+	l, err := PacketConfig{Config: responder, MaxSessions: 2, Idle: 12 * time.Second}.Listen("udp", "127.0.0.1:0")
 	if err != nil {
 		t.Fatal(err)
 	}
@@ -422,7 +422,7 @@ func TestPacketFaults(t *testing.T) {
 		t.Fatal(err)
 	}
 	defer l.Close()
-	short.HandshakeTimeout = 3 * time.Second // so that an answer comes by then
+	short.HandshakeTimeout = 10 * time.Second // so that an answer comes by then
 	_, err = DialPacket("udp", l.Addr().String(), &short)
 	if !errors.Is(err, ErrHandshakeTimeout) || !errors.Is(err, ErrPeerKey) {
 		t.Error(err)
