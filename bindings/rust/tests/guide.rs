@@ -166,7 +166,7 @@ fn connect(socket: &UdpSocket, key: &KeyPair, server: &[u8; 32]) -> io::Result<D
 
 fn udp() -> UdpSocket {
     let socket = UdpSocket::bind("127.0.0.1:0").unwrap();
-    socket.set_read_timeout(Some(Duration::from_millis(500))).unwrap();
+    socket.set_read_timeout(Some(Duration::from_secs(60))).unwrap();
     socket
 }
 
@@ -205,6 +205,7 @@ fn datagrams_of_one_client() {
         // Now it does nothing.
         stranger.send(&message).unwrap();
     }
+    stranger.set_read_timeout(Some(Duration::from_millis(500))).unwrap();
     assert!(stranger.recv(&mut buffer).is_err());
 }
 
