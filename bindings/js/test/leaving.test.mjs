@@ -46,7 +46,7 @@ test('leaving', async (t) => {
         await leaving;
       })();
       assert.equal(await outcome(left, SOON), undefined);
-      for (let n = 0; n < 100 && !near.destroyed; n += 1) await new Promise((resolve) => { setTimeout(resolve, 10); });
+      for (let n = 0; n < 6000 && !near.destroyed; n += 1) await new Promise((resolve) => { setTimeout(resolve, 10); });
       assert.equal(near.destroyed, true);
       if (count !== undefined) assert.ok(near.bytesRead - count < 4 << 20, `${near.bytesRead - count} bytes`);
       await babbling;

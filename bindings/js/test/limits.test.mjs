@@ -44,12 +44,16 @@ test('limits', { timeout: 300000 }, async (t) => {
     const sends = Array.from({ length: 60 }, () => a.send(new Uint8Array(65519)));
     let got = 0;
     const reading = (async () => { for await (const { length } of b) got += length; })();
-    for (let round = 0; round < 6; round += 1) {
+    let isSent = false;
+    const all = Promise.all(sends).then(() => { isSent = true; });
+    let rounds = 0;
+    for (; !isSent; rounds += 1) {
       await new Promise((resolve) => { setTimeout(resolve, 30); });
       assert.ok(near.bufferedAmount <= (1 << 20) + 65535, `${near.bufferedAmount} bytes`);
       near.bufferedAmount = 0;
     }
-    await Promise.all(sends);
+    await all;
+    assert.ok(rounds >= 3, `${rounds} rounds`);
     assert.equal(await outcome(a.send(text('x'))), undefined);
     near.bufferedAmount = 1 << 21;
     const late = outcome(a.send(text('y')));
@@ -280,7 +284,8 @@ test('limits', { timeout: 300000 }, async (t) => {
       [65535, 65535, 'pending'],
     ]) {
       const [near, far] = await overTcp();
-      const opened = outcome(NoiseSocket.open(near, { ...NN, responder: true, handshakeLimit }), 200);
+      const opening = NoiseSocket.open(near, { ...NN, responder: true, handshakeLimit });
+      const opened = outcome(opening, name === 'pending' ? 200 : 60000);
       far.write(Uint8Array.of(length >> 8, length & 255));
       assert.equal(await opened, name, `${handshakeLimit}, ${length}`);
       assert.equal(near.destroyed, name !== 'pending');

@@ -7,6 +7,12 @@ import { NN, channels, openSockets, outcome, refused, text } from './connections
 
 const pause = (milliseconds) => new Promise((resolve) => { setTimeout(resolve, milliseconds); });
 
+/** Waits until a socket is paused. */
+async function paused(socket) {
+  for (let n = 0; n < 6000 && !socket.isPaused; n += 1) await pause(10);
+  assert.equal(socket.isPaused, true);
+}
+
 /** Lets a socket be paused: what comes meanwhile waits at the other party, unsent. */
 function pausable(socket) {
   const take = socket.take.bind(socket);
@@ -63,8 +69,7 @@ test('WebSockets', { timeout: 300000 }, async (t) => {
       for (let n = 0; n < 640; n += 1) await a.send(new Uint8Array(65519).fill(n));
       await a.end();
     })();
-    await pause(50);
-    assert.equal(far.isPaused, true);
+    await paused(far);
     for (let n = 0; n < 640; n += 1) assert.equal((await b.receive())[65518], n & 255);
     assert.equal(await b.receive(), undefined);
     await Promise.all([sending, a.close(), b.close()]);
@@ -76,8 +81,7 @@ test('WebSockets', { timeout: 300000 }, async (t) => {
       const [near, far] = openSockets();
       const [a, b] = await channels([near, pausable(far)]);
       for (let n = 0; n < 20; n += 1) a.send(new Uint8Array(65519)).catch(() => {});
-      await pause(20);
-      assert.equal(far.isPaused, true);
+      await paused(far);
       await b[end]();
       assert.equal(far.isPaused, false);
       a.destroy();
@@ -87,7 +91,7 @@ test('WebSockets', { timeout: 300000 }, async (t) => {
   await t.test('a stranger’s messages during the handshake are bounded, or wait', async () => {
     const [near, far] = openSockets();
     const opened = outcome(
-      NoiseSocket.open(pausable(near), { ...NN, responder: true, signal: AbortSignal.timeout(500) }),
+      NoiseSocket.open(pausable(near), { ...NN, responder: true, signal: AbortSignal.timeout(60000) }),
     );
     for (let n = 0; n < 1000; n += 1) far.send(new Uint8Array(60000));
     assert.match(await opened, /^NOISE_(TOO_LONG|BACKLOG)$/u);
