@@ -1,9 +1,11 @@
 """Channels over blocking sockets: ends, cuts and refusals, timeouts, threads, and what is left."""
+import contextlib
 import copy
 import http.client
 import io
 import os
 import pickle
+import select
 import signal
 import socket
 import threading
@@ -358,6 +360,7 @@ def test_close_under_a_call_that_waits(end):
     client, server, _, _ = pair("NN", tcp=True)
     receiving = in_thread(client.recv, 10)
     sending = in_thread(client.sendall, bytes(50_000_000))
+    assert select.select([server], [], [], LONG)[0]    # it is being sent
     time.sleep(0.1)
     getattr(client, end)()
     with pytest.raises(CallError):
@@ -416,22 +419,40 @@ def test_close_has_a_limit_though_the_peer_takes_a_little(monkeypatch):
     started = time.monotonic()
     with pytest.raises(ChannelCut) as caught:
         client.close()
-    assert "bytes were left" in str(caught.value) and time.monotonic() - started < 5
+    assert "bytes were left" in str(caught.value) and time.monotonic() - started < 15    # all would take 20
     with server, pytest.raises(ChannelCut):
         server.recv(1)
+
+
+@contextlib.contextmanager
+def handler_of_a_signal(call, is_due):
+    """Has a handler of a signal make a call, once something holds."""
+    def handler(*_):
+        if is_due():
+            signal.setitimer(signal.ITIMER_REAL, 0)
+            call()
+
+    before = signal.signal(signal.SIGALRM, handler)
+    signal.setitimer(signal.ITIMER_REAL, 0.1, 0.1)
+    try:
+        yield
+    finally:
+        signal.setitimer(signal.ITIMER_REAL, 0)
+        signal.signal(signal.SIGALRM, before)
 
 
 @pytest.mark.parametrize("end", ["close", "abort"])
 @pytest.mark.parametrize("call", ["recv", "send"])
 def test_close_in_a_handler_of_a_signal(call, end):
     client, server, _, _ = pair("NN", tcp=True)
-    before = signal.signal(signal.SIGALRM, lambda *_: getattr(client, end)())
-    signal.setitimer(signal.ITIMER_REAL, 0.2)
-    try:
-        with pytest.raises((CallError, OSError)):
-            client.recv(1) if call == "recv" else client.sendall(bytes(50_000_000))
-    finally:
-        signal.signal(signal.SIGALRM, before)
+
+    def runs():
+        if call == "recv":
+            return client._receiving._is_taken
+        return client._sending._is_taken and select.select([server], [], [], 0)[0]
+
+    with handler_of_a_signal(getattr(client, end), runs), pytest.raises((CallError, OSError)):
+        client.recv(1) if call == "recv" else client.sendall(bytes(50_000_000))
     assert client.fileno() == -1
     with server:
         if call == "recv" and end == "close":
@@ -446,7 +467,7 @@ def test_a_handler_of_a_signal_makes_no_call_inside_another():
     client, server, _, _ = pair("NN")
     raised = []
 
-    def handler(*_):
+    def calls():
         for again in (lambda: client.recv(1), lambda: client.send(b"inside")):
             try:
                 again()
@@ -454,14 +475,9 @@ def test_a_handler_of_a_signal_makes_no_call_inside_another():
                 raised.append(error)
         server.sendall(b"x")
 
-    before = signal.signal(signal.SIGALRM, handler)
-    signal.setitimer(signal.ITIMER_REAL, 0.1)
-    try:
-        with client, server:
-            assert client.recv(1) == b"x" and len(raised) == 1
-            assert server.recv(10) == b"inside"
-    finally:
-        signal.signal(signal.SIGALRM, before)
+    with client, server, handler_of_a_signal(calls, lambda: client._receiving._is_taken):
+        assert client.recv(1) == b"x" and len(raised) == 1
+        assert server.recv(10) == b"inside"
 
 
 def test_one_way():
