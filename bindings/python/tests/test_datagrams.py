@@ -504,8 +504,8 @@ def test_the_first_message_is_sent_once_until_it_is_due_again(each_loop):
         loop = asyncio.get_running_loop()
         transport, silent = await loop.create_datagram_endpoint(lambda: Recorder(None), local_addr=("127.0.0.1", 0))
         first, _ = configs("NN")
+        begun = loop.time()
         async with client_at(transport.get_extra_info("sockname"), first):
-            begun = loop.time()
             sent = [await silent.came.get(), await silent.came.get()]
             assert sent[0] == sent[1] and loop.time() - begun >= udp.RESEND / 2
         transport.close()
@@ -526,7 +526,7 @@ def test_a_handshake_that_does_not_succeed(each_loop):
         with pytest.raises(HandshakeTimeout):
             await client.connected
         silent.close()
-        first, second = configs("XX", handshake_timeout=0.6)
+        first, second = configs("XX", handshake_timeout=3)    # the server answers within it
         other = Config(pattern="XX", key=Xor(), accept_any_key=True, prologue=b"test", ephemeral=Xor)
         async with server_behind(other) as (_, address), client_at(address, first) as client:
             with pytest.raises(HandshakeTimeout) as caught:
@@ -549,11 +549,12 @@ def test_a_fault_of_the_servers_program_is_logged_as_an_error(each_loop):
     logging.getLogger("yulimosar").addHandler(handler)
 
     async def main(_result):
-        first, second = configs("IK", handshake_timeout=0.6)
+        first, second = configs("IK", handshake_timeout=60)
         broken = Config(pattern="IK", key=second.key, verify=verify, prologue=b"test", ephemeral=Xor)
         async with server_behind(broken) as (_, address), client_at(address, first) as client:
-            with pytest.raises(HandshakeTimeout):
-                await client.connected
+            await until(lambda: records)
+        with pytest.raises(HandshakeTimeout):
+            await client.connected
     try:
         run(main)
     finally:

@@ -125,7 +125,7 @@ def test_who_is_asked_for_cookies_for_ever_is_told(each_loop):
     async def main(_result):
         loop = asyncio.get_running_loop()
         transport, _ = await loop.create_datagram_endpoint(Asks, local_addr=("127.0.0.1", 0))
-        first, _ = configs("XX", handshake_timeout=0.8)
+        first, _ = configs("XX", handshake_timeout=3)    # the responder answers within it
         async with client_at(transport.get_extra_info("sockname"), first) as client:
             with pytest.raises(HandshakeTimeout, match="asked for a cookie"):
                 await client.connected
@@ -193,7 +193,7 @@ def test_an_initiator_that_has_read_the_last_message_holds_to_it(each_loop, monk
         )
         async with client_at(transport.get_extra_info("sockname"), first) as client:
             begun = asyncio.get_running_loop().time()
-            await until(lambda: len(set(mute.came)) == 2)
+            await until(lambda: len(set(mute.came)) >= 2)
             assert asyncio.get_running_loop().time() - begun > 0.5, "another was begun beside it"
             mute.answers = True
             peer = await client.connected
@@ -300,16 +300,16 @@ def test_a_peer_that_is_closed_as_it_connects_gets_no_payload(each_loop, monkeyp
 def test_a_handshake_that_is_done_has_its_time_anew(each_loop):
     """Else a client that is the first to know of the session would have one of which the server knows nothing."""
     async def main(_result):
-        first, second = configs("XX", handshake_timeout=1.5)
+        first, second = configs("XX", handshake_timeout=5)
         async with server_behind(second) as (server, address), raw_at(address) as raw:
             channel = DatagramChannel(first, True)
             raw.transport.sendto(channel.datagrams_to_send()[0])
             channel.receive(await raw.next())
-            await asyncio.sleep(1.1)
+            await asyncio.sleep(3)
             raw.transport.sendto(channel.datagrams_to_send()[0])
             while channel.agreed is None:
                 channel.receive(await raw.next())
-            await asyncio.sleep(0.8)    # 1.9 s after message 0
+            await asyncio.sleep(2.5)    # 5.5 s after message 0
             channel.send(b"text")
             raw.transport.sendto(channel.datagrams_to_send()[-1])
             await until(lambda: server.peers)
