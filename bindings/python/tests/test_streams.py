@@ -287,7 +287,7 @@ def test_clients_that_are_slow_or_silent():
         writer.close()
 
     async def main(log):
-        client, server = configs("XX", handshake_timeout=3)
+        client, server = configs("XX", handshake_timeout=6)
         async with server_of(echo, server) as address:
             strangers = [asyncio.create_task(stranger(address, talk, pause)) for talk, pause in (
                 (b"", 0), (b"\x00", 0), (b"\x00\x30123", 0), (b"\x00\x20" + bytes(30), 0.25))]
