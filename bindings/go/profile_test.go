@@ -148,7 +148,7 @@ func TestProfile(t *testing.T) {
 		t.Skip("Go follows no frame of this code on this processor")
 	}
 	all, known := profiled(t)
-	for i := 0; i < 60 && all < 50; i++ {
+	for i := 0; i < 60 && all < 20; i++ {
 		more, ofKnown := profiled(t)
 		all, known = all+more, known+ofKnown
 	}
