@@ -36,7 +36,7 @@ def pass_on(far, data):
 
 def relay(near, far, asking, direction, kind, number):
     """Passes datagrams until the client has ended; does something to the one of this number in one direction."""
-    client, counts, until = None, [0, 0], time.monotonic() + 15
+    client, counts, until = None, [0, 0], time.monotonic() + 60
     while asking.poll() is None and time.monotonic() < until:
         for it in select.select([near, far], [], [], 0.05)[0]:
             way = 0 if it is near else 1
@@ -69,7 +69,7 @@ def run(udp, direction, kind, number):
                 if asking.poll() is None:
                     asking.kill()
                 said, status = asking.communicate()[0], asking.wait()
-            status = status or serving.wait(20)
+            status = status or serving.wait(60)
         finally:
             serving.kill()
     if status != 0 or said != f"client: the server says: {TEXT}\n":
