@@ -12,7 +12,7 @@ from typing import NamedTuple
 TOP = os.path.dirname(os.path.dirname(os.path.dirname(os.path.realpath(__file__))))
 PROGRAM = os.path.realpath(os.environ.get("NOISE_PROGRAM", f"{TOP}/crates/noise/out/noise"))
 ANY_TEXT = "[..]"
-LIMIT = 60    # seconds of a run; the longest takes one
+LIMIT = 300    # seconds of a run; the longest takes one of a processor
 
 
 class Ran(NamedTuple):
