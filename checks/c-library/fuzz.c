@@ -1,8 +1,8 @@
-// Calls of the library on random values, for so many seconds: fuzz SECONDS [SEED]. What a call gets as const is on
-// pages that can't be written, every place ends before a page that can't be touched or begins after one, and what a
-// refusal leaves is compared byte by byte. Genuine messages have to be taken and changed ones refused; of structs
-// with changed bytes each call has to answer one of its codes. The seed is printed: with it the run is the same
-// again, as far as it goes.
+// Calls of the library on random values, for so many seconds, and at least 20 rounds: fuzz SECONDS [SEED]. What a call
+// gets as const is on pages that can't be written, every place ends before a page that can't be touched or begins after
+// one, and what a refusal leaves is compared byte by byte. Genuine messages have to be taken and changed ones refused;
+// of structs with changed bytes each call has to answer one of its codes. The seed is printed: with it the run is the
+// same again, as far as it goes.
 #define _GNU_SOURCE
 #include "ends.h"
 #include <inttypes.h>
@@ -668,7 +668,7 @@ int main(int count, char **words) {
         make_place(places[i]);
         put(places[i], NULL, 0, false);
     }
-    while (time(NULL) < until) try_round();
+    while (time(NULL) < until || rounds < 20) try_round();    // a busy machine makes few in a second
     printf("c-library: fuzz: %lu rounds, %lu calls, %lu of them went well\n", rounds, calls, went_well);
     return 0;
 }
