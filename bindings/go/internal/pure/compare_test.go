@@ -61,6 +61,23 @@ func number(name string, other int64) int64 {
 	return other
 }
 
+// comparing is a driver that makes each call of the assembler and of this package, and compares all that they leave.
+// It counts the calls by their names and codes.
+func comparing(t *testing.T, seed int64, outcomes map[string]int) *driver {
+	worlds := []*world{new(world), new(world)}
+	d := &driver{Rand: rand.New(rand.NewSource(seed)), worlds: worlds}
+	d.do = func(name string, args func(w *world) []any) uint32 {
+		a, b := callAssembled(name, args(worlds[0])), callPlain(name, args(worlds[1]))
+		if a != b || *worlds[0] != *worlds[1] {
+			t.Fatalf("call %d of the seed %d, %s: %d and %d, or other bytes", d.made, seed, name, a, b)
+		}
+		d.made++
+		outcomes[fmt.Sprint(name, " ", a)]++
+		return a
+	}
+	return d
+}
+
 // TestCompared makes the same random calls of the assembler and of this package, and compares all that they leave:
 // NOISE_CALLS of them, of the seed NOISE_SEED.
 func TestCompared(t *testing.T) {
@@ -68,19 +85,9 @@ func TestCompared(t *testing.T) {
 	if testing.Short() {
 		calls /= 10
 	}
-	worlds := []*world{new(world), new(world)}
-	outcomes, made := map[string]int{}, int64(0)
-	d := driver{Rand: rand.New(rand.NewSource(seed)), worlds: worlds}
-	d.do = func(name string, args func(w *world) []any) uint32 {
-		a, b := callAssembled(name, args(worlds[0])), callPlain(name, args(worlds[1]))
-		if a != b || *worlds[0] != *worlds[1] {
-			t.Fatalf("call %d of the seed %d, %s: %d and %d, or other bytes", made, seed, name, a, b)
-		}
-		made++
-		outcomes[fmt.Sprint(name, " ", a)]++
-		return a
-	}
-	for made < calls {
+	outcomes := map[string]int{}
+	d := comparing(t, seed, outcomes)
+	for d.made < calls {
 		d.step()
 	}
 	for name := range plain {
@@ -88,5 +95,5 @@ func TestCompared(t *testing.T) {
 			t.Errorf("no call of %s has succeeded", name)
 		}
 	}
-	t.Logf("%d calls, %d outcomes", made, len(outcomes))
+	t.Logf("%d calls, %d outcomes", d.made, len(outcomes))
 }

@@ -59,7 +59,8 @@ type driver struct {
 	*rand.Rand
 	worlds []*world
 	do     func(name string, args func(w *world) []any) uint32
-	last   int // the length of the last message
+	last   int   // the length of the last message
+	made   int64 // how many calls there were, as a comparison counts them
 }
 
 var (
