@@ -4,6 +4,11 @@ AT_A_BLOCK = "no call: a block begins at word 0, 16, 32 or 48 of the 64, so the 
 OVERLAP = "no call: the copy is of what overlaps, and each argument of a call has its own place (calls.go)"
 
 EQUIVALENT = {
+    (
+        "noise_aead::authenticator::tag",
+        "l5 = (l1 + l5)",
+        "l5 = (l1 - l5)",
+    ): "no call: it is of a last block of fewer than 16 bytes, and both texts are padded to whole blocks",
     ("noise_aead::keystream::apply", "l10 = 1", "l10 = 2"): AT_A_BLOCK,
     (
         "noise_aead::keystream::apply",
