@@ -4,8 +4,22 @@ import assert from 'node:assert/strict';
 import { load } from '../noise.mjs';
 import { channels, outcome, overTcp, pair, text } from './connections.mjs';
 
-/** It closes in some 200 ms. This is less than the 5 seconds of `close`, also on a busy machine. */
-const SOON = 4000;
+/**
+ * What becomes of a promise while this program runs for 4 seconds: a channel closes in some 200 ms, and the time of
+ * `close` is 5 seconds. Each tenth of a second begins when this program runs, so on a busy machine they take longer.
+ */
+async function soon(promise) {
+  let isOver = false;
+  const late = (async () => {
+    for (let n = 0; n < 40 && !isOver; n += 1) await new Promise((resolve) => { setTimeout(resolve, 100); });
+    return 'pending';
+  })();
+  try {
+    return await Promise.race([outcome(promise), late]);
+  } finally {
+    isOver = true;
+  }
+}
 
 /** Sends until it can't. */
 async function babble(channel) {
@@ -45,7 +59,7 @@ test('leaving', async (t) => {
         if (name !== 'pipeTo that is aborted') count = near.bytesRead;
         await leaving;
       })();
-      assert.equal(await outcome(left, SOON), undefined);
+      assert.equal(await soon(left), undefined);
       for (let n = 0; n < 6000 && !near.destroyed; n += 1) await new Promise((resolve) => { setTimeout(resolve, 10); });
       assert.equal(near.destroyed, true);
       if (count !== undefined) assert.ok(near.bytesRead - count < 4 << 20, `${near.bytesRead - count} bytes`);
@@ -57,7 +71,7 @@ test('leaving', async (t) => {
   await t.test('over a pair of streams, too', async () => {
     const [a, b] = await channels(pair({ highWaterMark: 1e6 }, { highWaterMark: 1e6 }));
     const babbling = babble(b);
-    assert.equal(await outcome(WAYS.break(a), SOON), undefined);
+    assert.equal(await soon(WAYS.break(a)), undefined);
     await babbling;
   });
 
@@ -74,7 +88,7 @@ test('leaving', async (t) => {
     await Promise.all([sent, left]);
     const [here, there] = await overTcp();
     const [c, d] = await channels([here, there]);
-    assert.equal(await outcome(c[Symbol.asyncDispose](), SOON), undefined);    // d doesn't close
+    assert.equal(await soon(c[Symbol.asyncDispose]()), undefined);    // d doesn't close
     assert.equal(here.destroyed, true);
     d.destroy();
   });
