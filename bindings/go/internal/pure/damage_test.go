@@ -81,7 +81,8 @@ func TestWindowsCompared(t *testing.T) {
 			d.change(func(w *world) {
 				binary.LittleEndian.PutUint64(w.ds[0].Opaque[nonceOfSender:], uint64(nonce))
 			})
-			d.do("DatagramSeal", func(w *world) []any { return []any{&w.ds[0], w.buf[0][:3], w.buf[2][:27], &w.result} })
+			seal := func(w *world) []any { return []any{&w.ds[0], w.buf[0][:3], w.buf[2][:27], &w.result} }
+			d.do("DatagramSeal", seal)
 			open := func(w *world) []any { return []any{&w.dr[0], w.buf[2][:27], &w.result} }
 			if d.do("DatagramOpen", open) == 0 && nonce > highest {
 				highest = nonce

@@ -206,5 +206,6 @@ func TestPatternsCompared(t *testing.T) {
 			valid++
 		}
 	}
-	t.Logf("%d patterns and %d random ones, %d messages, %d outcomes", len(patterns)/step, valid, messages, len(outcomes))
+	given := len(patterns) / step
+	t.Logf("%d patterns and %d random ones, %d messages, %d outcomes", given, valid, messages, len(outcomes))
 }
