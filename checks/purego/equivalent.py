@@ -46,6 +46,16 @@ EQUIVALENT = {
         "t192 := uint32(uint8(l6a << 16))",
     ): "no call: it is of lists of more than 32, and the only ones are places of psk tokens, at most 9",
     (
+        "noise_c::split::finished",
+        "m.put128q(uint32(l2)-0xfcbf0, l3a, l3b)",
+        "m.put128q(uint32(l2)-0xfcbef, l3a, l3b)",
+    ): "zeros for a refusal, which copies them and gives nothing of the copy: where it is none, both are put anew",
+    (
+        "noise_handshake::writer::write_lacking::<#9bbb2dae5a99aff0>",
+        "binary.LittleEndian.PutUint64(t9[8:16], l8b)",
+        "binary.LittleEndian.PutUint64(t9[7:15], l8b)",
+    ): "zeros that are read nowhere: all 34 bytes of the place are put anew on each way to where it is read",
+    (
         "rattle::export noise_start",
         "t367, t368 := m.get128q(uint32(l6) - 0xfceb0)",
         "t367, t368 := m.get128q(uint32(l6) - 0xfceb1)",
