@@ -1,12 +1,16 @@
 -- Two programs that run turn by turn.
-use Rattle.std.proofs.Common.{◌≡◌, ◌⊎◌, ◌<◌, ◌≤◌, ◌-◌, inl, inr, ℕ, suc, List, [], ◌∷◌, ◌++◌, length, drop, true, false, refl, ap, sym, subst, ◌∙◌, arith}
-use Rattle.std.specs.Prelude.{◌==◌, ◌&&◌, ◌↔◌, All, Err, IfOk, IfSome, IsSome, MatchOption, Ok, Option, Result, Some, Vec, max, not}
+use Rattle.std.proofs.Common.{◌≡◌, ◌⊎◌, ◌<◌, ◌≤◌, ◌-◌, inl, inr, ℕ, suc, List, [], ◌∷◌, ◌++◌, length, length-append, drop, take, true, false, refl, ap, sym, subst, ◌∙◌, arith}
+use Rattle.std.specs.Prelude.{◌==◌, ◌&&◌, ◌||◌, ◌↔◌, All, Err, IfOk, IfSome, IsSome, MatchOption, Ok, Option, Result, Some, Vec, map, max, not}
 use Rattle.std.specs.Global.{Global}
 use Rattle.std.specs.declared.alloc.AllocError.{AllocError}
 use Rattle.std.proofs.lemmas.List.{append_assoc, append-nil, drop_all, map-append}
 use Rattle.std.specs.Bool.{beq}
+use Rattle.std.specs.List.{filter}
+use Rattle.std.proofs.lemmas.List.Elements.{filter-append}
+use Rattle.std.proofs.lemmas.List.Folds.{list_any-append}
 use Rattle.noise_names.specs.declared.token.Role.TheVariants.{Initiator, Responder}
 use Rattle.noise_names.specs.Tokens.{other}
+use Rattle.noise_names.specs.Validity.{TokensKeepRules}
 use Rattle.noise_session.specs.Halves.{HalfValue}
 use Rattle.noise_c.specs.declared.structs.NoiseHalf.{NoiseHalf}
 use Rattle.noise_c.specs.declared.structs.NoiseResult.{NoiseResult}
@@ -19,22 +23,24 @@ use Rattle.noise_c.specs.declared.two_runs.Turn.TheVariants as turn
 use Rattle.noise_c.specs.declared.codes.numbers.TheConstants.{OK, RECEIVER, SENDER}
 use Rattle.noise_c.specs.Finishing.{AreHalvesOf, Finishes}
 use Rattle.noise_c.specs.HalfStructs.{half_from_c, is_half, is_party}
-use Rattle.noise_c.specs.HandshakeStructs.{ForParty, IsStarted, entry_in, held_psks, key_to_c, own_in, psks_in}
-use Rattle.noise_c.specs.Outcomes.{WriteOutcome}
-use Rattle.noise_c.specs.Outcomes.WriteOutcome.{written, wants_dh_result as write_wants, wants_psk as write_wants_psk, withheld, no_room, unusable as write_unusable}
-use Rattle.noise_c.specs.RunSteps.{EndsAs, IsFirst, IsPassedAt, ReadTurn, ReadsStep, Runs, Turned, WritesStep}
+use Rattle.noise_c.specs.HandshakeStructs.{ForParty, IsStarted, LacksLastPsk, entry_in, held_psks, key_to_c, own_in, psks_in}
+use Rattle.noise_c.specs.Outcomes.{ReadOutcome}
+use Rattle.noise_c.specs.Outcomes.ReadOutcome.{accepted, wants_dh_result as read_wants, wants_psk as read_wants_psk, declined, refused, too_long, unusable as read_unusable}
+use Rattle.noise_c.specs.RunSteps.{EndsAs, IsFirst, IsPassedAt, PskTurn, ReadTurn, ReadsStep, Runs, Turned, WritesStep, accepts_or_ends}
 use Rattle.noise_c.specs.RunSteps.Runs.{none as none_yet, initiator as by_initiator, responder as by_responder}
 use Rattle.noise_c.specs.TwoPrograms.{Agree, Calls, HaveTalked, IsFront, Passed, Program, Secrets, TakesNext, TwoProgramsAgree, messages_in}
 use Rattle.noise_c.specs.TwoPrograms.Calls.{none}
-use Rattle.noise_c.specs.TwoRuns.{Adds, Answers, AreRight, Asks, BeginAlike, Dh, IsWritten, Meet, ReadsFirst, RunIsRight, passed_at, passed_by, psks_of_turns, turns_of, waiting}
-use Rattle.noise_c.specs.TwoRuns.AreRight.{none as no_steps, one_more}
-use Rattle.noise_c.proofs.Common.{Bool, None, if◌then◌else◌, Plan, IsValid, Party, Role, WasRead, WasWritten, and_parts, code_of, drop-append_seam, false≢true, fault_in, handshake_from_c, key_from_c, nat_lt, nat_tests, pairs_in, party_with, psks_of, public_in, remote_of, role_in, setup_fault, start_code, table_of, text_from_c, IsPatternOf, NoiseHandshake}
+use Rattle.noise_c.specs.TwoRuns.{Adds, Answers, AreRight, Asks, BeginAlike, Dh, EndIsRight, IsStrange, IsWritten, Meet, ReadsFirst, has_strayed, passed_at, passed_by, psks_of_turns, turns_of, waiting}
+use Rattle.noise_c.specs.TwoRuns.AreRight.{none as no_steps, one_more, strayed}
+use Rattle.noise_c.proofs.Common.{Bool, None, if◌then◌else◌, Plan, IsValid, Party, Role, WasRead, WasWritten, and_parts, code_of, drop-append_seam, false≢true, fault_in, handshake_from_c, key_from_c, nat_lt, nat_tests, pairs_in, party_with, psks_of, public_in, remote_of, role_in, setup_fault, start_code, table_of, text_from_c, IsPatternOf, NoiseHandshake, HandshakeValue, Table, IsGiven, IsUsable, take-append_seam}
 use Rattle.noise_c.proofs.Alike.{Setups, meets, results_of, shown}
 use Rattle.noise_c.proofs.Finished.{finish-done}
+use Rattle.noise_c.proofs.Lengths.{overhead-few}
 use Rattle.noise_c.proofs.Programs.{read-of, written-of}
-use Rattle.noise_c.proofs.Sides.{Side, named-in, own-party, side-answered, side-set, side-start, side-took, side-wrote}
+use Rattle.noise_c.proofs.Sides.{Side, named-in, own-party, side-answered, side-same, side-set, side-start, side-took, side-wrote}
 use Rattle.noise_c.proofs.Toying.{code-is, no-fault}
-use Rattle.noise_c.proofs.WriteCodes.{WriteIs, role-of, write-done, write-due, write-early, write-is}
+use Rattle.noise_c.proofs.Turning.{Left, runs-text, write-unchanged}
+use Rattle.noise_c.proofs.WriteCodes.{AreShort, WriteIs, role-of, write-done, write-due, write-early, write-is}
 
 -- a program that began and has come so far
 abbrev pub program_of : List ℕ → List ℕ → NoiseSetup → Secrets → NoiseHandshake → List Passed → List Passed → NoiseHandshake → Program
@@ -81,10 +87,10 @@ module _ (setups : Setups) (law : TwoProgramsAgree) (text prologue : List ℕ) (
   front-part xs ys all f = (ys ++ f.0, f.1 ∙ append_assoc xs ys f.0)
 
   first : role_in g.responder ≡ Initiator
-  first = role-first g.responder alike.initiator
+  first = role-first g.responder alike.roles.0
 
   second : role_in h.responder ≡ Responder
-  second = role-second h.responder alike.responder
+  second = role-second h.responder alike.roles.1
 
   fault : setup_fault p Initiator (public_in (table_of g)) (remote_of g) (max (length (psks_in g)) (psks_of p.messages)) ≡ None
   fault = subst (λ (r : Role). setup_fault p r (public_in (table_of g)) (remote_of g) (max (length (psks_in g)) (psks_of p.messages)) ≡ None) first none_wrong
@@ -116,8 +122,8 @@ module _ (setups : Setups) (law : TwoProgramsAgree) (text prologue : List ℕ) (
     };
     prologue = refl;
     psks = refl;
-    known = shown setups p Initiator g h alike.knows fault;
-    known_too = shown setups p Responder h g alike.knows_too fault_too;
+    known = shown setups p Initiator g h alike.knows.0 fault;
+    known_too = shown setups p Responder h g alike.knows.1 fault_too;
     dh_results = meets setups p (public_in (table_of g)) (public_in (table_of h)) (remote_of g) (remote_of h) _ _ d d_too valid fault fault_too alike.agree;
     there = front-messages xs ws there;
     back = front-messages rs us back;
@@ -131,24 +137,16 @@ module _ (setups : Setups) (law : TwoProgramsAgree) (text prologue : List ℕ) (
 
 -- ---- the steps of a run
 
--- a message that isn't written leaves the struct as it was
-pub write-unchanged : (k next : NoiseHandshake) (payload out after : List ℕ) (results new : NoiseResult) (code : ℕ)
-    → WriteOutcome k payload out results next after new code → 0 < code → next ≡ k
-write-unchanged k next payload out after results new _ (written u m r l d f) e = absurd (omega (arith, e))
-write-unchanged k next payload out after results new _ (write_wants a b c f) e = b
-write-unchanged k next payload out after results new _ (write_wants_psk a b c f) e = b
-write-unchanged k next payload out after results new _ (withheld code low high a b c f) e = b
-write-unchanged k next payload out after results new _ (no_room a b c d g) e = d
-write-unchanged k next payload out after results new _ (write_unusable a b c d) e = c
+abbrev passed-of : Step → Passed
+passed-of s = record { message = s.message.items; payload = s.payload.items }
+
+abbrev is-by : Bool → Bool → Step → Bool
+is-by side reads s = beq s.responder side && beq s.reads reads && (s.code == OK)
 
 passed-append : (side reads : Bool) (ss ts : List Step) → passed_by side reads (ss ++ ts) ≡ passed_by side reads ss ++ passed_by side reads ts
-passed-append side reads [] ts = refl
-passed-append side reads (s ∷ ss) ts =
-    ap (λ (z : List Passed). here ++ z) (passed-append side reads ss ts)
-    ∙ sym (append_assoc here (passed_by side reads ss) (passed_by side reads ts)) where
-      here : List Passed
-      here = if beq s.responder side && beq s.reads reads && (s.code == OK)
-          then record { message = s.message.items; payload = s.payload.items } ∷ [] else []
+passed-append side reads ss ts =
+    ap (map passed-of) (filter-append (is-by side reads) ss ts)
+    ∙ map-append passed-of (filter (is-by side reads) ss) (filter (is-by side reads) ts)
 
 -- a step that is none of these messages
 passed-none : (side reads : Bool) (s : Step) → (beq s.responder side && beq s.reads reads && (s.code == OK)) ≡ false → passed_by side reads (s ∷ []) ≡ []
@@ -192,7 +190,91 @@ passed-failed side reads s e = passed-none side reads s (which (beq s.responder 
   which true false = refl
   which false c = refl
 
+-- ---- strangers
+
+strayed-append : (ss ts : List Step) → has_strayed (ss ++ ts) ≡ (has_strayed ss || has_strayed ts)
+strayed-append ss ts = list_any-append (λ (s : Step). s.stray) ss ts
+
+or-false : (b : Bool) → (b || false) ≡ b
+or-false true = refl
+or-false false = refl
+
+strayed-last : (ss : List Step) (t : Step) (b : Bool) → has_strayed ss ≡ false → t.stray ≡ b → has_strayed (ss ++ t ∷ []) ≡ b
+strayed-last ss t b clean e = strayed-append ss (t ∷ []) ∙ ap (λ (z : Bool). z || (t.stray || false)) clean ∙ or-false t.stray ∙ e
+
+strayed-before : (ss ts : List Step) → has_strayed ss ≡ true → has_strayed (ss ++ ts) ≡ true
+strayed-before ss ts e = strayed-append ss ts ∙ ap (λ (z : Bool). z || has_strayed ts) e
+
+-- what a call that accepted a message, or ended the handshake, returned
+accepts-then : (ends : Bool) (code : ℕ) (x y z : Bool) → (code == 0) ≡ x → nat_lt code 15 ≡ y → nat_lt 16 code ≡ z
+    → (x || (ends && not y && not z)) ≡ true → (code ≡ 0) ⊎ ((ends ≡ true) × (15 ≤ code) × (code ≤ 16))
+accepts-then ends code true y z ex ey ez e = inl (code-is code 0 ex)
+accepts-then true code false false false ex ey ez e = inr (refl, grind (arith, nat_tests, ey), grind (arith, nat_tests, ez))
+accepts-then true code false false true ex ey ez e = cc
+accepts-then true code false true z ex ey ez e = cc
+accepts-then false code false y z ex ey ez e = cc
+
+or-true : (b : Bool) → (b || true) ≡ true
+or-true true = refl
+or-true false = refl
+
+accepts-if : (ends : Bool) (code : ℕ) → (code ≡ 0) ⊎ ((ends ≡ true) × (15 ≤ code) × (code ≤ 16)) → accepts_or_ends ends code ≡ true
+accepts-if ends code (inl ok) = rw ok refl
+accepts-if ends code (inr (e, low, high)) =
+    let y : nat_lt code 15 ≡ false = grind (arith, nat_tests, low) in
+    let z : nat_lt 16 code ≡ false = grind (arith, nat_tests, high) in
+    rw (e, y, z) (or-true (code == 0))
+
+strange-of : (side ends : Bool) (old new : NoiseHandshake) (message : List ℕ) (t : Step) → ReadsStep side ends true old new message t → IsStrange side ends message t
+strange-of side ends old new message t r = record {
+  call = (r.side_is, r.reads, r.message_is);
+  stray = (
+    (λ e. accepts-then ends t.code (t.code == 0) (nat_lt t.code 15) (nat_lt 16 t.code) refl refl refl (sym r.stray ∙ e)),
+    (λ codes. r.stray ∙ accepts-if ends t.code codes),
+  );
+}
+
+-- one that did neither left the struct as it was
+strange-unchanged : (ends : Bool) (k next : NoiseHandshake) (message after : List ℕ) (results new : NoiseResult) (code : ℕ)
+    → ReadOutcome ends k message results next after new code → Left k next code → accepts_or_ends ends code ≡ false → next ≡ k
+strange-unchanged ends k next message after results new _ (accepted u r l d f) left no = absurd (false≢true (sym no))
+strange-unchanged ends k next message after results new _ (read_wants a b f) left no = left (inr (omega arith)) (omega arith)
+strange-unchanged ends k next message after results new _ (read_wants_psk a b f) left no = left (inr (omega arith)) (omega arith)
+strange-unchanged ends k next message after results new _ (declined code low a b c f) left no = b
+strange-unchanged true k next message after results new _ (refused code low high a b c d f) left no =
+    absurd (false≢true (sym no ∙ accepts-if true code (inr (refl, low, high))))
+strange-unchanged false k next message after results new _ (refused code low high a b c d f) left no = b
+strange-unchanged ends k next message after results new _ (too_long a b c d) left no = left (inr (omega arith)) (omega arith)
+strange-unchanged ends k next message after results new _ (read_unusable a b c) left no = left (inr (omega arith)) (omega arith)
+
+not-ok : (ends : Bool) (code : ℕ) → accepts_or_ends ends code ≡ false → 0 < code
+not-ok ends code no = at (nat_lt 0 code) refl where
+  at : (b : Bool) → nat_lt 0 code ≡ b → 0 < code
+  at true e = grind (arith, nat_tests, e)
+  at false e = let zero-code : code ≡ 0 = grind (arith, nat_tests, e) in absurd (false≢true (sym no ∙ accepts-if ends code (inl zero-code)))
+
+-- a psk that is handed in, and taken back, leaves the handshake as it was
+taken-back : (old given new : NoiseHandshake) (psk : List ℕ) → IsGiven old given psk → length (held_psks given) ≡ given.psk_count → LacksLastPsk given new
+    → (q : Plan) → handshake_from_c q new ≡ handshake_from_c q old
+taken-back old given new psk g count lacks q =
+    let held : held_psks given ≡ held_psks old ++ psk ∷ [] = ap (λ (z : HandshakeValue Table). z.psks) (g.handshake q) in
+    let one : given.psk_count - 1 ≡ length (held_psks old) =
+    let n : length (held_psks given) ≡ length (held_psks old ++ psk ∷ []) = ap length held in
+    omega (arith, count, n, length-append (held_psks old) (psk ∷ [])) in
+    let psks : take (given.psk_count - 1) (handshake_from_c q given).psks ≡ held_psks old =
+    ap (λ (i : ℕ). take i (held_psks given)) one ∙ ap (take (length (held_psks old))) held ∙ take-append_seam (held_psks old) (psk ∷ []) in
+    lacks.handshake q
+    ∙ ap (λ (z : List (List ℕ)). record (handshake_from_c q given) { psks = z }) psks
+    ∙ ap (λ (z : HandshakeValue Table). record z { psks = held_psks old }) (g.handshake q)
+
 -- ---- a turn
+
+-- what a turn of a stranger's message that is accepted, or that ends the handshake, adds
+pub record Strays (p : Plan) (side : Bool) (turn : Turn) (ss ts : List Step) : Type 0 where
+  pub more : List Step
+  pub adds : Adds (length p.messages) side turn ss more
+  pub steps : ts ≡ ss ++ more
+  pub strayed : has_strayed ts ≡ true
 
 -- the psk that a turn hands in
 abbrev pub psk_of : Turn → List (List ℕ)
@@ -205,6 +287,9 @@ psks-more turn.Read more = refl
 psks-more turn.TryRead more = refl
 psks-more (turn.Answer a) more = refl
 psks-more (turn.SetPsk psk) more = refl
+psks-more (turn.Deliver m) more = refl
+psks-more (turn.TryDeliver m) more = refl
+psks-more (turn.TryPsk psk m) more = refl
 
 -- a DH result that this turn hands in is that of these keys
 abbrev pub Answers-with : Secrets → Turn → Type 0
@@ -221,6 +306,7 @@ pub record Gone (text : List ℕ) (p : Plan) (s : Secrets) (begun new : NoiseHan
   pub more : List Step
   pub adds : Adds (length p.messages) side turn ss more
   pub steps : ts ≡ ss ++ more
+  pub clean : has_strayed ts ≡ false
 
 same-end : (xs ys : List Passed) → ys ≡ [] → xs ++ ys ≡ xs
 same-end xs ys e = ap (λ (z : List Passed). xs ++ z) e ∙ append-nil xs
@@ -230,8 +316,9 @@ asked : (code : ℕ) → Asks code → (20 ≤ code) × (0 < code)
 asked code (inl e) = (omega (arith, e), omega (arith, e))
 asked code (inr e) = (omega (arith, e), omega (arith, e))
 
-module _ (text : List ℕ) (p : Plan) (s : Secrets) (begun old new : NoiseHandshake) (named : IsPatternOf text p) (one : (q : Plan) → IsPatternOf text q → q ≡ p)
-    (side : Bool) (role : role_in begun.responder ≡ role-of side) (ss ts : List Step) (read : IsFront (passed_by side true ss) (passed_by (not side) false ss)) where
+module _ (text : List ℕ) (p : Plan) (short : AreShort p) (s : Secrets) (begun old new : NoiseHandshake) (named : IsPatternOf text p) (one : (q : Plan) → IsPatternOf text q → q ≡ p)
+    (side : Bool) (role : role_in begun.responder ≡ role-of side) (ss ts : List Step) (clean : has_strayed ss ≡ false)
+    (read : IsFront (passed_by side true ss) (passed_by (not side) false ss)) where
   abbrev wrote_before : List Passed
   wrote_before = passed_by side false ss
 
@@ -250,17 +337,17 @@ module _ (text : List ℕ) (p : Plan) (s : Secrets) (begun old new : NoiseHandsh
     more = [];
     adds = adds;
     steps = sym (append-nil ss);
+    clean = clean;
   })
 
   -- a step of no message that passed
-  failed : (turn : Turn) (t : Step) (rest : List (List ℕ)) → Side text p s begun old wrote_before read_before rest → new ≡ old → 0 < t.code
+  failed : (turn : Turn) (t : Step) (rest : List (List ℕ)) → Side text p s begun new wrote_before read_before rest → 0 < t.code → t.stray ≡ false
       → Adds (length p.messages) side turn ss (t ∷ []) → ts ≡ ss ++ t ∷ [] → Gone text p s begun new side turn ss ts rest
-  failed turn t rest st same low adds e =
+  failed turn t rest st low calm adds e =
       let none = λ (b r : Bool). passed-append b r ss (t ∷ []) ∙ same-end (passed_by b r ss) (passed_by b r (t ∷ [])) (passed-failed b r t low) in
       subst (λ (z : List Step). Gone text p s begun new side turn ss z rest) (sym e) (record {
         stands = subst (λ (ws : List Passed). Side text p s begun new ws (passed_by side true (ss ++ t ∷ [])) rest) (sym (none side false))
-            (subst (λ (rs : List Passed). Side text p s begun new wrote_before rs rest) (sym (none side true))
-            (subst (λ (k : NoiseHandshake). Side text p s begun k wrote_before read_before rest) (sym same) st));
+            (subst (λ (rs : List Passed). Side text p s begun new wrote_before rs rest) (sym (none side true)) st);
         other_wrote = none (not side) false;
         other_read = none (not side) true;
         read_front = (read.0, read.1 ∙ ap (λ (z : List Passed). z ++ read.0) (sym (none side true)));
@@ -268,7 +355,13 @@ module _ (text : List ℕ) (p : Plan) (s : Secrets) (begun old new : NoiseHandsh
         more = t ∷ [];
         adds = adds;
         steps = refl;
+        clean = strayed-last ss t false clean calm;
       })
+
+  -- the same of a struct that was left as it was
+  failed-same : (turn : Turn) (t : Step) (rest : List (List ℕ)) → Side text p s begun old wrote_before read_before rest → new ≡ old → 0 < t.code → t.stray ≡ false
+      → Adds (length p.messages) side turn ss (t ∷ []) → ts ≡ ss ++ t ∷ [] → Gone text p s begun new side turn ss ts rest
+  failed-same turn t rest st same = failed turn t rest (subst (λ (k : NoiseHandshake). Side text p s begun k wrote_before read_before rest) (sym same) st)
 
   -- a message that the program wrote
   wrote-one : (turn : Turn) (t : Step) (room : ℕ) (rest : List (List ℕ)) → Side text p s begun old wrote_before read_before rest
@@ -293,11 +386,12 @@ module _ (text : List ℕ) (p : Plan) (s : Secrets) (begun old new : NoiseHandsh
         more = t ∷ [];
         adds = adds;
         steps = refl;
+        clean = strayed-last ss t false clean w.stray;
       })
 
   -- a message that it read, the next one of the other program's
   read-one : (turn : Turn) (t : Step) (ends : Bool) (rest : List (List ℕ)) → Side text p s begun old wrote_before read_before rest
-      → (r : ReadsStep side ends old new t.message.items t) → (later : List Passed) (payload : List ℕ)
+      → (r : ReadsStep side ends false old new t.message.items t) → (later : List Passed) (payload : List ℕ)
       → passed_by (not side) false ss ≡ read_before ++ record { message = t.message.items; payload = payload } ∷ later
       → t.payload.items ≡ payload → t.code ≡ 0 → Adds (length p.messages) side turn ss (t ∷ []) → ts ≡ ss ++ t ∷ []
       → Gone text p s begun new side turn ss ts rest
@@ -323,6 +417,7 @@ module _ (text : List ℕ) (p : Plan) (s : Secrets) (begun old new : NoiseHandsh
         more = t ∷ [];
         adds = adds;
         steps = refl;
+        clean = strayed-last ss t false clean r.stray;
       })
 
   -- the next message of the other program isn't refused
@@ -337,23 +432,22 @@ module _ (text : List ℕ) (p : Plan) (s : Secrets) (begun old new : NoiseHandsh
     w1 : WritesStep side old new t.payload.items room t
     w1 = subst (λ (z : List ℕ). WritesStep side old new z room t) (sym w.payload_is) w
 
-    is : WriteIs p old room t.code
-    is = subst (λ (n : ℕ). WriteIs p old n t.code) w.room_is
-        (write-is p old (named-in text p s begun old wrote_before read_before rest st named) st.usable st.going new payload w.out w.after w.results w.next t.code w.outcome)
+    is : WriteIs p old (length payload) room t.code
+    is = subst (λ (n : ℕ). WriteIs p old (length payload) n t.code) w.room_is
+        (write-is p short old (named-in text p s begun old wrote_before read_before rest st named) st.usable st.going new payload w.out w.after w.results w.next t.code w.outcome)
 
     step : IsWritten side payload room (length p.messages) (passed_at side ss) t
     step = let n : ℕ = passed_at side ss in let now : role_in old.responder ≡ role-of side = st.role ∙ role in record {
-      call = (w.side_is, w.writes);
-      payload_is = w.payload_is;
-      done = write-done p old room n side st.count now t.code is;
-      early = write-early p old room n side st.count now t.code is;
-      due = write-due p old room n side st.count now t.code is;
+      call = (w.side_is, w.writes, w.payload_is, w.stray);
+      done = write-done p old (length payload) room n side st.count now t.code is;
+      early = write-early p old (length payload) room n side st.count now t.code is;
+      due = write-due p old (length payload) room n side st.count now t.code is;
     }
 
     at : (b : Bool) → nat_lt 0 t.code ≡ b → Gone text p s begun new side turn ss ts rest
     at true low =
         let l : 0 < t.code = grind (arith, nat_tests, low) in
-        failed turn t rest st (write-unchanged old new payload w.out w.after w.results w.next t.code w.outcome l) l (adds step) e
+        failed-same turn t rest st (write-unchanged old new payload w.out w.after w.results w.next t.code w.outcome l) l w.stray (adds step) e
     at false least = wrote-one turn t room rest st w1 (grind (arith, nat_tests, least)) (adds step) e
 
   read-turn : (turn : Turn) (ends : Bool) (rest : List (List ℕ))
@@ -363,7 +457,7 @@ module _ (text : List ℕ) (p : Plan) (s : Secrets) (begun old new : NoiseHandsh
       still turn rest (subst (λ (k : NoiseHandshake). Side text p s begun k wrote_before read_before rest) (sym idle.1) st)
       (adds [] (subst (λ (z : List Passed). ReadsFirst side z []) (sym idle.0) refl)) idle.2
   read-turn turn ends rest adds (inr (message, t, first, r, e)) next st =
-      let r1 : ReadsStep side ends old new t.message.items t = subst (λ (z : List ℕ). ReadsStep side ends old new z t) (sym r.message_is) r in
+      let r1 : ReadsStep side ends false old new t.message.items t = subst (λ (z : List ℕ). ReadsStep side ends false old new z t) (sym r.message_is) r in
       let m : Passed = record { message = t.message.items; payload = first.payload } in
       let waits : waiting side ss ≡ m ∷ first.later =
       first.all_is ∙ ap (λ (z : List ℕ). record { message = z; payload = first.payload } ∷ first.later) (sym r.message_is) in
@@ -373,10 +467,10 @@ module _ (text : List ℕ) (p : Plan) (s : Secrets) (begun old new : NoiseHandsh
       let taken = next m first.later are ends new r1.after r1.results r1.next t.code r1.outcome in
       let step = λ (codes : (t.code ≡ 0) ⊎ Asks t.code) (paid : t.code ≡ 0 → t.payload.items ≡ first.payload).
       adds (t ∷ []) (subst (λ (z : List Passed). ReadsFirst side z (t ∷ [])) (sym waits)
-      (t, record { call = (r.side_is, r.reads); message_is = refl; payload_is = paid; codes = codes }, refl)) in
+      (t, record { call = (r.side_is, r.reads, refl, r.stray); payload_is = paid; codes = codes }, refl)) in
       let asks = λ (is : Asks t.code).
       let low = asked t.code is in
-      failed turn t rest st (r1.left (inr low.0) low.1) low.1 (step (inr is) (λ ok. absurd (omega (arith, ok, low.1)))) e in
+      failed-same turn t rest st (r1.left (inr low.0) low.1) low.1 r.stray (step (inr is) (λ ok. absurd (omega (arith, ok, low.1)))) e in
       elim taken [
         | inl ok ↦
             let paid : t.payload.items ≡ first.payload = r1.payload_is ok.0 ∙ ok.1 in
@@ -384,17 +478,89 @@ module _ (text : List ℕ) (p : Plan) (s : Secrets) (begun old new : NoiseHandsh
         | inr is ↦ asks is
       ]
 
+  -- a message of a stranger
+  strange-turn : (turn : Turn) (t : Step) (rest : List (List ℕ)) → Adds (length p.messages) side turn ss (t ∷ []) → ts ≡ ss ++ t ∷ []
+      → (t.stray ≡ false → Side text p s begun new wrote_before read_before rest × (0 < t.code))
+      → Gone text p s begun new side turn ss ts rest ⊎ Strays p side turn ss ts
+  strange-turn turn t rest adds e left = at t.stray refl where
+    at : (b : Bool) → t.stray ≡ b → Gone text p s begun new side turn ss ts rest ⊎ Strays p side turn ss ts
+    at true stray = inr (record {
+      more = t ∷ [];
+      adds = adds;
+      steps = e;
+      strayed = ap has_strayed e ∙ strayed-last ss t true clean stray;
+    })
+    at false calm = let w = left calm in inl (failed turn t rest w.0 w.1 calm adds e)
+
+  deliver-turn : (turn : Turn) (ends : Bool) (message : List ℕ) (t : Step) (rest : List (List ℕ)) → Adds (length p.messages) side turn ss (t ∷ []) → ts ≡ ss ++ t ∷ []
+      → ReadsStep side ends true old new message t → Side text p s begun old wrote_before read_before rest
+      → Gone text p s begun new side turn ss ts rest ⊎ Strays p side turn ss ts
+  deliver-turn turn ends message t rest adds e r st =
+      strange-turn turn t rest adds e (λ calm.
+      let no : accepts_or_ends ends t.code ≡ false = sym r.stray ∙ calm in
+      let same = strange-unchanged ends old new message r.after r.results r.next t.code r.outcome r.left no in
+      (subst (λ (k : NoiseHandshake). Side text p s begun k wrote_before read_before rest) (sym same) st, not-ok ends t.code no))
+
+  psk-turn : (turn : Turn) (psk message : List ℕ) (rest : List (List ℕ)) (w : PskTurn side old new psk message ss ts)
+      → Adds (length p.messages) side turn ss (w.step ∷ []) → Side text p s begun old wrote_before read_before rest
+      → Gone text p s begun new side turn ss ts rest ⊎ Strays p side turn ss ts
+  psk-turn turn psk message rest w adds st =
+      strange-turn turn w.step rest adds w.steps (λ calm. (left calm, not-ok false w.step.code (sym w.reads.stray ∙ calm))) where
+        left : w.step.stray ≡ false → Side text p s begun new wrote_before read_before rest
+        left calm =
+            let r = w.reads in
+            let no : accepts_or_ends false w.step.code ≡ false = sym r.stray ∙ calm in
+            let same : w.after ≡ w.given = strange-unchanged false w.given w.after message r.after r.results r.next w.step.code r.outcome r.left no in
+            let low : 0 < w.step.code = not-ok false w.step.code no in
+            let given : IsUsable w.given = w.stays st.usable in
+            elim w.sets.codes [
+              | inl ok ↦
+                  let back = w.taken ok low in
+                  let after : IsUsable w.after = subst IsUsable (sym same) given in
+                  let ok_back : back.0 ≡ 0 = elim back.1.codes [
+                    | inl e ↦ e
+                    | inr e ↦ absurd (back.1.unusable.0 e after)
+                  ] in
+                  let lacks : LacksLastPsk w.given new = subst (λ (k : NoiseHandshake). LacksLastPsk k new) same (back.1.lacks ok_back) in
+                  let gives : IsGiven old w.given psk = w.sets.given ok in
+                  side-same text p s begun old new wrote_before read_before rest st named (back.2 after) (lacks.text ∙ gives.text)
+                  (taken-back old w.given new psk gives (w.count given) lacks)
+              | inr other ↦
+                  let high : 0 < w.code = elim other [ | inl e ↦ omega (arith, e) | inr e ↦ omega (arith, e) ] in
+                  let all : new ≡ old = w.kept (λ ok. absurd (omega (arith, ok, high))) ∙ same ∙ w.sets.unchanged high in
+                  subst (λ (k : NoiseHandshake). Side text p s begun k wrote_before read_before rest) (sym all) st
+            ]
+
   pub turned : (turn : Turn) (rest : List (List ℕ)) → Turned side turn old new ss ts → Answers-with s turn → Next
-      → Side text p s begun old wrote_before read_before (psk_of turn ++ rest) → Gone text p s begun new side turn ss ts rest
+      → Side text p s begun old wrote_before read_before (psk_of turn ++ rest) → Gone text p s begun new side turn ss ts rest ⊎ Strays p side turn ss ts
   turned (turn.Write payload room) rest (t, w, e) is next st =
-      wrote-turn (turn.Write payload room) payload.items room rest t (λ step. (t, step, refl)) w e st
-  turned turn.Read rest moved is next st = read-turn turn.Read true rest (λ more a. a) moved next st
-  turned turn.TryRead rest moved is next st = read-turn turn.TryRead false rest (λ more a. a) moved next st
+      inl (wrote-turn (turn.Write payload room) payload.items room rest t (λ step. (t, step, refl)) w e st)
+  turned turn.Read rest moved is next st = inl (read-turn turn.Read true rest (λ more a. a) moved next st)
+  turned turn.TryRead rest moved is next st = inl (read-turn turn.TryRead false rest (λ more a. a) moved next st)
   turned (turn.Answer a) rest (code, supplies, e) is next st =
-      still (turn.Answer a) rest (side-answered text p s begun old new wrote_before read_before rest st named (entry_in a) code supplies is) refl e
+      inl (still (turn.Answer a) rest (side-answered text p s begun old new wrote_before read_before rest st named (entry_in a) code supplies is) refl e)
   turned (turn.SetPsk psk) rest (code, sets, goes, stays, count, e) is next st =
-      still (turn.SetPsk psk) rest
-      (side-set text p s begun old new wrote_before read_before (psk ∷ rest) st named psk rest code refl one (count st.usable) sets goes stays) refl e
+      inl (still (turn.SetPsk psk) rest
+      (side-set text p s begun old new wrote_before read_before (psk ∷ rest) st named psk rest code refl one (count st.usable) sets goes stays) refl e)
+  turned (turn.Deliver m) rest (t, r, e) is next st =
+      deliver-turn (turn.Deliver m) true m.items t rest (t, strange-of side true old new m.items t r, refl) e r st
+  turned (turn.TryDeliver m) rest (t, r, e) is next st =
+      deliver-turn (turn.TryDeliver m) false m.items t rest (t, strange-of side false old new m.items t r, refl) e r st
+  turned (turn.TryPsk psk m) rest w is next st =
+      psk-turn (turn.TryPsk psk m) psk m.items rest w (w.step, strange-of side false w.given w.after m.items w.step w.reads, refl) st
+
+-- the steps that a turn adds
+turned-more : (side : Bool) (turn : Turn) (old new : NoiseHandshake) (ss ts : List Step) → Turned side turn old new ss ts → (more : List Step) × (ts ≡ ss ++ more)
+turned-more side (turn.Write payload room) old new ss ts (t, w, e) = (t ∷ [], e)
+turned-more side turn.Read old new ss ts (inl idle) = ([], idle.2 ∙ sym (append-nil ss))
+turned-more side turn.Read old new ss ts (inr (message, t, first, r, e)) = (t ∷ [], e)
+turned-more side turn.TryRead old new ss ts (inl idle) = ([], idle.2 ∙ sym (append-nil ss))
+turned-more side turn.TryRead old new ss ts (inr (message, t, first, r, e)) = (t ∷ [], e)
+turned-more side (turn.Answer a) old new ss ts (code, supplies, e) = ([], e ∙ sym (append-nil ss))
+turned-more side (turn.SetPsk psk) old new ss ts (code, sets, goes, stays, count, e) = ([], e ∙ sym (append-nil ss))
+turned-more side (turn.Deliver m) old new ss ts (t, r, e) = (t ∷ [], e)
+turned-more side (turn.TryDeliver m) old new ss ts (t, r, e) = (t ∷ [], e)
+turned-more side (turn.TryPsk psk m) old new ss ts w = (w.step ∷ [], w.steps)
 
 -- ---- both programs
 
@@ -404,6 +570,9 @@ answers-with d psks turn.Read a = tt
 answers-with d psks turn.TryRead a = tt
 answers-with d psks (turn.Answer x) a = ap Some (sym a)
 answers-with d psks (turn.SetPsk psk) a = tt
+answers-with d psks (turn.Deliver m) a = tt
+answers-with d psks (turn.TryDeliver m) a = tt
+answers-with d psks (turn.TryPsk psk m) a = tt
 
 -- where both stand after these steps, with these turns to come
 pub record Both (text : List ℕ) (p : Plan) (d d_too : Dh) (psks : List (List ℕ)) (a0 b0 a b : NoiseHandshake) (ss : List Step) (turns : List (Bool × Turn))
@@ -414,6 +583,7 @@ pub record Both (text : List ℕ) (p : Plan) (d d_too : Dh) (psks : List (List �
   pub back : IsFront (passed_by false true ss) (passed_by true false ss)
   pub answers : All (Answers d) (turns_of false turns)
   pub answers_too : All (Answers d_too) (turns_of true turns)
+  pub clean : has_strayed ss ≡ false
 
 front-longer : (xs ys zs : List Passed) → IsFront xs ys → IsFront ys zs → IsFront xs zs
 front-longer xs ys zs f g = (f.0 ++ g.0, g.1 ∙ ap (λ (z : List Passed). z ++ g.0) f.1 ∙ append_assoc xs f.0 g.0)
@@ -471,9 +641,11 @@ meets-half : (sender receiver : NoiseHalf) → is_half SENDER sender ≡ true �
     → half_from_c receiver ≡ record (half_from_c sender) { role = other (half_from_c sender).role } → Meet sender receiver
 meets-half sender receiver a b face = record {
   kinds = (mark-of SENDER sender a, mark-of RECEIVER receiver b);
-  key = some-same receiver.key sender.key (ap (λ (z : HalfValue). z.key) face);
-  nonce = ap (λ (z : HalfValue). z.nonce) face;
-  interval = ap (λ (z : HalfValue). z.interval) face;
+  same = (
+    some-same receiver.key sender.key (ap (λ (z : HalfValue). z.key) face),
+    ap (λ (z : HalfValue). z.nonce) face,
+    ap (λ (z : HalfValue). z.interval) face,
+  );
 }
 
 -- ---- what a run begins with
@@ -482,6 +654,7 @@ pub record Begins (text prologue : List ℕ) (p : Plan) (g h : NoiseSetup) (a0 b
     : Type 0 where
   pub setups : Setups
   pub law : TwoProgramsAgree
+  pub once : TokensKeepRules p
   pub valid : IsValid p
   pub named : IsPatternOf text p
   pub one : (q : Plan) → IsPatternOf text q → q ≡ p
@@ -508,10 +681,10 @@ module _ (text prologue : List ℕ) (p : Plan) (g h : NoiseSetup) (a0 b0 : Noise
   At a b ss more = Both text p d d_too psks a0 b0 a b ss more
 
   begun-role : role_in a0.responder ≡ Initiator
-  begun-role = ap (λ (z : Party). z.role) (o.started.begun_is p o.named []).matches ∙ role-first g.responder o.alike.initiator
+  begun-role = ap (λ (z : Party). z.role) (o.started.begun_is p o.named []).matches ∙ role-first g.responder o.alike.roles.0
 
   begun-role-too : role_in b0.responder ≡ Responder
-  begun-role-too = ap (λ (z : Party). z.role) (o.started_too.begun_is p o.named []).matches ∙ role-second h.responder o.alike.responder
+  begun-role-too = ap (λ (z : Party). z.role) (o.started_too.begun_is p o.named []).matches ∙ role-second h.responder o.alike.roles.1
 
   agreed-at : (a b : NoiseHandshake) (ss : List Step) (more : List (Bool × Turn)) → At a b ss more
       → Agree p (left o.setups o.law text prologue p o.valid o.named g h a0 b0 o.started o.started_too o.none_wrong o.none_wrong_too turns d d_too psks o.alike a (passed_by false false ss) (passed_by false true ss))
@@ -527,14 +700,9 @@ module _ (text prologue : List ℕ) (p : Plan) (g h : NoiseSetup) (a0 b0 : Noise
     pub adds : Adds (length p.messages) side t ss steps
     pub steps_are : ts ≡ ss ++ steps
 
-  pub next-left : (a a2 b : NoiseHandshake) (ss ts : List Step) (t : Turn) (more : List (Bool × Turn)) → At a b ss ((false, t) ∷ more)
-      → Turned false t a a2 ss ts → Taken a2 b false t ss ts more
-  next-left a a2 b ss ts t more w moved =
-      let agree = agreed-at a b ss ((false, t) ∷ more) w in
-      let gone = turned text p (secrets_of d psks) a0 a a2 o.named o.one false begun-role ss ts w.back t (psks_of_turns (turns_of false more)) moved
-      (answers-with d psks t (head-of (Answers d) t (turns_of false more) w.answers)) agree.next_back
-      (subst (λ (z : List (List ℕ)). Side text p (secrets_of d psks) a0 a (passed_by false false ss) (passed_by false true ss) z) (psks-more t (turns_of false more)) w.left) in
-      record {
+  went-left : (a a2 b : NoiseHandshake) (ss ts : List Step) (t : Turn) (more : List (Bool × Turn)) → At a b ss ((false, t) ∷ more)
+      → Gone text p (secrets_of d psks) a0 a2 false t ss ts (psks_of_turns (turns_of false more)) → Taken a2 b false t ss ts more
+  went-left a a2 b ss ts t more w gone = record {
         both = record {
           left = gone.stands;
           right = subst (λ (z : List Passed). Side text p (secrets_of d_too psks) b0 b z (passed_by true true ts) (psks_of_turns (turns_of true more))) (sym gone.other_wrote)
@@ -544,20 +712,27 @@ module _ (text prologue : List ℕ) (p : Plan) (g h : NoiseSetup) (a0 b0 : Noise
           back = subst (λ (z : List Passed). IsFront (passed_by false true ts) z) (sym gone.other_wrote) gone.read_front;
           answers = tail-of (Answers d) t (turns_of false more) w.answers;
           answers_too = w.answers_too;
+          clean = gone.clean;
         };
         steps = gone.more;
         adds = gone.adds;
         steps_are = gone.steps;
       }
 
-  pub next-right : (a b b2 : NoiseHandshake) (ss ts : List Step) (t : Turn) (more : List (Bool × Turn)) → At a b ss ((true, t) ∷ more)
-      → Turned true t b b2 ss ts → Taken a b2 true t ss ts more
-  next-right a b b2 ss ts t more w moved =
-      let agree = agreed-at a b ss ((true, t) ∷ more) w in
-      let gone = turned text p (secrets_of d_too psks) b0 b b2 o.named o.one true begun-role-too ss ts w.there t (psks_of_turns (turns_of true more)) moved
-      (answers-with d_too psks t (head-of (Answers d_too) t (turns_of true more) w.answers_too)) agree.next_there
-      (subst (λ (z : List (List ℕ)). Side text p (secrets_of d_too psks) b0 b (passed_by true false ss) (passed_by true true ss) z) (psks-more t (turns_of true more)) w.right) in
-      record {
+  pub next-left : (a a2 b : NoiseHandshake) (ss ts : List Step) (t : Turn) (more : List (Bool × Turn)) → At a b ss ((false, t) ∷ more)
+      → Turned false t a a2 ss ts → Taken a2 b false t ss ts more ⊎ Strays p false t ss ts
+  next-left a a2 b ss ts t more w moved =
+      let agree = agreed-at a b ss ((false, t) ∷ more) w in
+      elim (turned text p (overhead-few p o.once) (secrets_of d psks) a0 a a2 o.named o.one false begun-role ss ts w.clean w.back t (psks_of_turns (turns_of false more)) moved
+      (answers-with d psks t (head-of (Answers d) t (turns_of false more) w.answers)) agree.next_back
+      (subst (λ (z : List (List ℕ)). Side text p (secrets_of d psks) a0 a (passed_by false false ss) (passed_by false true ss) z) (psks-more t (turns_of false more)) w.left)) [
+        | inl gone ↦ inl (went-left a a2 b ss ts t more w gone)
+        | inr stray ↦ inr stray
+      ]
+
+  went-right : (a b b2 : NoiseHandshake) (ss ts : List Step) (t : Turn) (more : List (Bool × Turn)) → At a b ss ((true, t) ∷ more)
+      → Gone text p (secrets_of d_too psks) b0 b2 true t ss ts (psks_of_turns (turns_of true more)) → Taken a b2 true t ss ts more
+  went-right a b b2 ss ts t more w gone = record {
         both = record {
           left = subst (λ (z : List Passed). Side text p (secrets_of d psks) a0 a z (passed_by false true ts) (psks_of_turns (turns_of false more))) (sym gone.other_wrote)
               (subst (λ (z : List Passed). Side text p (secrets_of d psks) a0 a (passed_by false false ss) z (psks_of_turns (turns_of false more))) (sym gone.other_read) w.left);
@@ -567,11 +742,23 @@ module _ (text prologue : List ℕ) (p : Plan) (g h : NoiseSetup) (a0 b0 : Noise
               (front-longer (passed_by false true ss) (passed_by true false ss) (passed_by true false ts) w.back gone.wrote_more);
           answers = w.answers;
           answers_too = tail-of (Answers d_too) t (turns_of true more) w.answers_too;
+          clean = gone.clean;
         };
         steps = gone.more;
         adds = gone.adds;
         steps_are = gone.steps;
       }
+
+  pub next-right : (a b b2 : NoiseHandshake) (ss ts : List Step) (t : Turn) (more : List (Bool × Turn)) → At a b ss ((true, t) ∷ more)
+      → Turned true t b b2 ss ts → Taken a b2 true t ss ts more ⊎ Strays p true t ss ts
+  next-right a b b2 ss ts t more w moved =
+      let agree = agreed-at a b ss ((true, t) ∷ more) w in
+      elim (turned text p (overhead-few p o.once) (secrets_of d_too psks) b0 b b2 o.named o.one true begun-role-too ss ts w.clean w.there t (psks_of_turns (turns_of true more)) moved
+      (answers-with d_too psks t (head-of (Answers d_too) t (turns_of true more) w.answers_too)) agree.next_there
+      (subst (λ (z : List (List ℕ)). Side text p (secrets_of d_too psks) b0 b (passed_by true false ss) (passed_by true true ss) z) (psks-more t (turns_of true more)) w.right)) [
+        | inl gone ↦ inl (went-right a b b2 ss ts t more w gone)
+        | inr stray ↦ inr stray
+      ]
 
   first-both : At a0 b0 [] turns
   first-both = record {
@@ -579,43 +766,60 @@ module _ (text prologue : List ℕ) (p : Plan) (g h : NoiseSetup) (a0 b0 : Noise
     right = side-start text prologue p (secrets_of d_too psks) h b0 (psks_of_turns (turns_of true turns)) o.named o.started_too o.held_too o.alike.psks_too;
     there = ([], refl);
     back = ([], refl);
-    answers = o.alike.answers;
-    answers_too = o.alike.answers_too;
+    answers = o.alike.answers.0;
+    answers_too = o.alike.answers.1;
+    clean = refl;
   }
 
-  -- after some of the turns
+  -- after some of the turns: no message of a stranger was accepted or ended a handshake, or one did
+  abbrev SoFar : List (Bool × Turn) → List (Bool × Turn) → NoiseHandshake → NoiseHandshake → List Step → Type 0
+  SoFar sofar rest a b ss = AreRight (length p.messages) sofar ss × (At a b ss rest ⊎ (has_strayed ss ≡ true))
+
+  went-on : (sofar rest : List (Bool × Turn)) (a b : NoiseHandshake) (ss ts : List Step) (side : Bool) (t : Turn) → AreRight (length p.messages) sofar ss
+      → has_strayed ss ≡ false → Taken a b side t ss ts rest ⊎ Strays p side t ss ts → SoFar (sofar ++ (side, t) ∷ []) rest a b ts
+  went-on sofar rest a b ss ts side t right clean (inl n) = (
+    subst (λ (z : List Step). AreRight (length p.messages) (sofar ++ (side, t) ∷ []) z) (sym n.steps_are) (one_more sofar ss n.steps side t right clean n.adds),
+    inl n.both,
+  )
+  went-on sofar rest a b ss ts side t right clean (inr n) = (
+    subst (λ (z : List Step). AreRight (length p.messages) (sofar ++ (side, t) ∷ []) z) (sym n.steps) (one_more sofar ss n.more side t right clean n.adds),
+    inr n.strayed,
+  )
+
+  went-astray : (sofar rest : List (Bool × Turn)) (a b k next : NoiseHandshake) (ss ts : List Step) (side : Bool) (t : Turn) → AreRight (length p.messages) sofar ss
+      → has_strayed ss ≡ true → Turned side t k next ss ts → SoFar (sofar ++ (side, t) ∷ []) rest a b ts
+  went-astray sofar rest a b k next ss ts side t right stray moved = let m = turned-more side t k next ss ts moved in (
+    subst (λ (z : List Step). AreRight (length p.messages) (sofar ++ (side, t) ∷ []) z) (sym m.1) (strayed sofar ss m.0 (side, t) right stray),
+    inr (ap has_strayed m.1 ∙ strayed-before ss m.0 stray),
+  )
+
   pub so-far : (sofar rest : List (Bool × Turn)) (a b : NoiseHandshake) (ss : List Step) → Runs a0 b0 sofar a b ss → turns ≡ sofar ++ rest
-      → At a b ss rest × AreRight (length p.messages) sofar ss
-  so-far _ rest _ _ _ none_yet e = (subst (λ (z : List (Bool × Turn)). At a0 b0 [] z) e first-both, no_steps)
+      → SoFar sofar rest a b ss
+  so-far _ rest _ _ _ none_yet e = (no_steps, inl (subst (λ (z : List (Bool × Turn)). At a0 b0 [] z) e first-both))
   so-far _ rest _ _ _ (by_initiator sofar a a2 b ss ts t before moved) e =
       let w = so-far sofar ((false, t) ∷ rest) a b ss before (e ∙ append_assoc sofar ((false, t) ∷ []) rest) in
-      let n = next-left a a2 b ss ts t rest w.0 moved in (
-        n.both,
-        subst (λ (z : List Step). AreRight (length p.messages) (sofar ++ (false, t) ∷ []) z) (sym n.steps_are)
-            (one_more sofar ss n.steps false t w.1 n.adds),
-      )
+      elim w.1 [
+        | inl at ↦ went-on sofar rest a2 b ss ts false t w.0 at.clean (next-left a a2 b ss ts t rest at moved)
+        | inr stray ↦ went-astray sofar rest a2 b a a2 ss ts false t w.0 stray moved
+      ]
   so-far _ rest _ _ _ (by_responder sofar a b b2 ss ts t before moved) e =
       let w = so-far sofar ((true, t) ∷ rest) a b ss before (e ∙ append_assoc sofar ((true, t) ∷ []) rest) in
-      let n = next-right a b b2 ss ts t rest w.0 moved in (
-        n.both,
-        subst (λ (z : List Step). AreRight (length p.messages) (sofar ++ (true, t) ∷ []) z) (sym n.steps_are)
-            (one_more sofar ss n.steps true t w.1 n.adds),
-      )
+      elim w.1 [
+        | inl at ↦ went-on sofar rest a b2 ss ts true t w.0 at.clean (next-right a b b2 ss ts t rest at moved)
+        | inr stray ↦ went-astray sofar rest a b2 b b2 ss ts true t w.0 stray moved
+      ]
 
-  pub right-at-end : (a b : NoiseHandshake) (interval : ℕ) (ran : Ran) → Runs a0 b0 turns a b ran.steps.items → EndsAs a b interval ran
-      → RunIsRight g h turns ran
-  right-at-end a b interval ran runs ends =
-      let w = so-far turns [] a b ran.steps.items runs (sym (append-nil turns)) in
-      let agree = agreed-at a b ran.steps.items [] w.0 in
+  end-at : (a b : NoiseHandshake) (interval : ℕ) (ran : Ran) → EndsAs a b interval ran → At a b ran.steps.items [] → EndIsRight g h ran
+  end-at a b interval ran ends at =
+      let agree = agreed-at a b ran.steps.items [] at in
       let i = ends.initiator in
       let r = ends.responder in
-      let st = w.0.left in
-      let st_too = w.0.right in
+      let st = at.left in
+      let st_too = at.right in
       let here : IsPatternOf (text_from_c a) p = named-in text p (secrets_of d psks) a0 a _ _ _ st o.named in
       let here_too : IsPatternOf (text_from_c b) p = named-in text p (secrets_of d_too psks) b0 b _ _ _ st_too o.named in
       let all : ran.initiator.messages ≡ length p.messages = i.messages p here in
       record {
-        steps = subst (λ (n : ℕ). AreRight n turns ran.steps.items) (sym all) w.1;
         passed = i.passed ∙ st.count;
         passed_too = r.passed ∙ st_too.count;
         hash = λ same. i.hash ∙ agree.hash (sym i.passed ∙ same ∙ r.passed) ∙ sym r.hash;
@@ -635,6 +839,19 @@ module _ (text prologue : List ℕ) (p : Plan) (g h : NoiseSetup) (a0 b0 : Noise
               meets-half x.their_sender x.receiver both.1.known.0 both.0.known.1 face.back,
             ));
       }
+
+  pub right-at-end : (a b : NoiseHandshake) (interval : ℕ) (ran : Ran) → Runs a0 b0 turns a b ran.steps.items → EndsAs a b interval ran
+      → AreRight ran.initiator.messages turns ran.steps.items × (has_strayed ran.steps.items ≡ false → EndIsRight g h ran)
+  right-at-end a b interval ran runs ends =
+      let w = so-far turns [] a b ran.steps.items runs (sym (append-nil turns)) in
+      let name : text_from_c a ≡ text = runs-text a0 b0 turns a b ran.steps.items runs o.started.usable o.started_too.usable ∙ o.started.text_is in
+      let here : IsPatternOf (text_from_c a) p = subst (λ (z : List ℕ). IsPatternOf z p) (sym name) o.named in (
+        subst (λ (n : ℕ). AreRight n turns ran.steps.items) (sym (ends.initiator.messages p here)) w.0,
+        λ clean. elim w.1 [
+          | inl at ↦ end-at a b interval ran ends at
+          | inr stray ↦ absurd (false≢true (sym clean ∙ stray))
+        ],
+      )
 
 -- ---- the message of a number
 

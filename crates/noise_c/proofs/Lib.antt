@@ -30,3 +30,4 @@ pub mod Sides
 pub mod WriteCodes
 pub mod Both
 pub mod Turning
+pub mod Lengths
