@@ -237,21 +237,21 @@ strange-of side ends old new message t r = record {
 -- one that did neither left the struct as it was
 strange-unchanged : (ends : Bool) (k next : NoiseHandshake) (message after : List ℕ) (results new : NoiseResult) (code : ℕ)
     → ReadOutcome ends k message results next after new code → Left k next code → accepts_or_ends ends code ≡ false → next ≡ k
-strange-unchanged ends k next message after results new _ (accepted u r l d f) left no = absurd (false≢true (sym no))
-strange-unchanged ends k next message after results new _ (read_wants a b f) left no = left (inr (omega arith)) (omega arith)
-strange-unchanged ends k next message after results new _ (read_wants_psk a b f) left no = left (inr (omega arith)) (omega arith)
-strange-unchanged ends k next message after results new _ (declined code low a b c f) left no = b
-strange-unchanged true k next message after results new _ (refused code low high a b c d f) left no =
-    absurd (false≢true (sym no ∙ accepts-if true code (inr (refl, low, high))))
-strange-unchanged false k next message after results new _ (refused code low high a b c d f) left no = b
-strange-unchanged ends k next message after results new _ (too_long a b c d) left no = left (inr (omega arith)) (omega arith)
-strange-unchanged ends k next message after results new _ (read_unusable a b c) left no = left (inr (omega arith)) (omega arith)
+strange-unchanged ends k next message after results new _ (accepted u r l d f) left same_code = absurd (false≢true (sym same_code))
+strange-unchanged ends k next message after results new _ (read_wants a b f) left same_code = left (inr (omega arith)) (omega arith)
+strange-unchanged ends k next message after results new _ (read_wants_psk a b f) left same_code = left (inr (omega arith)) (omega arith)
+strange-unchanged ends k next message after results new _ (declined code low a b c f) left same_code = b
+strange-unchanged true k next message after results new _ (refused code low high a b c d f) left same_code =
+    absurd (false≢true (sym same_code ∙ accepts-if true code (inr (refl, low, high))))
+strange-unchanged false k next message after results new _ (refused code low high a b c d f) left same_code = b
+strange-unchanged ends k next message after results new _ (too_long a b c d) left same_code = left (inr (omega arith)) (omega arith)
+strange-unchanged ends k next message after results new _ (read_unusable a b c) left same_code = left (inr (omega arith)) (omega arith)
 
 not-ok : (ends : Bool) (code : ℕ) → accepts_or_ends ends code ≡ false → 0 < code
-not-ok ends code no = at (nat_lt 0 code) refl where
+not-ok ends code same_code = at (nat_lt 0 code) refl where
   at : (b : Bool) → nat_lt 0 code ≡ b → 0 < code
   at true e = grind (arith, nat_tests, e)
-  at false e = let zero-code : code ≡ 0 = grind (arith, nat_tests, e) in absurd (false≢true (sym no ∙ accepts-if ends code (inl zero-code)))
+  at false e = let zero-code : code ≡ 0 = grind (arith, nat_tests, e) in absurd (false≢true (sym same_code ∙ accepts-if ends code (inl zero-code)))
 
 -- a psk that is handed in, and taken back, leaves the handshake as it was
 taken-back : (old given new : NoiseHandshake) (psk : List ℕ) → IsGiven old given psk → length (held_psks given) ≡ given.psk_count → LacksLastPsk given new
@@ -497,9 +497,9 @@ module _ (text : List ℕ) (p : Plan) (short : AreShort p) (s : Secrets) (begun 
       → Gone text p s begun new side turn ss ts rest ⊎ Strays p side turn ss ts
   deliver-turn turn ends message t rest adds e r st =
       strange-turn turn t rest adds e (λ calm.
-      let no : accepts_or_ends ends t.code ≡ false = sym r.stray ∙ calm in
-      let same = strange-unchanged ends old new message r.after r.results r.next t.code r.outcome r.left no in
-      (subst (λ (k : NoiseHandshake). Side text p s begun k wrote_before read_before rest) (sym same) st, not-ok ends t.code no))
+      let same_code : accepts_or_ends ends t.code ≡ false = sym r.stray ∙ calm in
+      let same = strange-unchanged ends old new message r.after r.results r.next t.code r.outcome r.left same_code in
+      (subst (λ (k : NoiseHandshake). Side text p s begun k wrote_before read_before rest) (sym same) st, not-ok ends t.code same_code))
 
   psk-turn : (turn : Turn) (psk message : List ℕ) (rest : List (List ℕ)) (w : PskTurn side old new psk message ss ts)
       → Adds (length p.messages) side turn ss (w.step ∷ []) → Side text p s begun old wrote_before read_before rest
@@ -509,9 +509,9 @@ module _ (text : List ℕ) (p : Plan) (short : AreShort p) (s : Secrets) (begun 
         left : w.step.stray ≡ false → Side text p s begun new wrote_before read_before rest
         left calm =
             let r = w.reads in
-            let no : accepts_or_ends false w.step.code ≡ false = sym r.stray ∙ calm in
-            let same : w.after ≡ w.given = strange-unchanged false w.given w.after message r.after r.results r.next w.step.code r.outcome r.left no in
-            let low : 0 < w.step.code = not-ok false w.step.code no in
+            let same_code : accepts_or_ends false w.step.code ≡ false = sym r.stray ∙ calm in
+            let same : w.after ≡ w.given = strange-unchanged false w.given w.after message r.after r.results r.next w.step.code r.outcome r.left same_code in
+            let low : 0 < w.step.code = not-ok false w.step.code same_code in
             let given : IsUsable w.given = w.stays st.usable in
             elim w.sets.codes [
               | inl ok ↦

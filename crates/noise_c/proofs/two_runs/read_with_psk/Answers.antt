@@ -5,14 +5,14 @@ use Rattle.noise_c.proofs.two_runs.read_with_psk.Goals as goal
 
 pub returns : goal.returns
 returns c =
-    let given = c.noise_set_psk.new.handshake in
+    let given = c.noise_set_psk-code.new.handshake in
     let after = c.read.new.handshake in
     let nine : length given.psks ≡ 9 = search rules in
     record {
       given = given;
-      code = c.noise_set_psk.result;
-      sets = c.noise_set_psk.ensures.sets;
-      stays = c.noise_set_psk.ensures.stays;
+      code = c.noise_set_psk-code.result;
+      sets = c.noise_set_psk-code.ensures.sets;
+      stays = c.noise_set_psk-code.ensures.stays;
       count = λ u. omega (arith, length-drop (9 - given.psk_count) given.psks, nine, u.psks);
       after = after;
       step = c.in_ok-step.step;
