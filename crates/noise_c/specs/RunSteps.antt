@@ -86,8 +86,8 @@ pub record PskTurn (side : Bool) (old new : NoiseHandshake) (psk message : List 
   pub code : ℕ
   pub sets : SetsPsk old given psk code
   pub stays : IsUsable old → IsUsable given
-  pub count : IsUsable given → length (held_psks given) ≡ given.psk_count
   pub after : NoiseHandshake
+  pub count : IsUsable after → length (held_psks after) ≡ after.psk_count
   pub step : Step
   pub reads : ReadsStep side false true given after message step
   pub steps : ts ≡ ss ++ step ∷ []

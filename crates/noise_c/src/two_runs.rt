@@ -279,6 +279,7 @@ fn take_back(handshake: &mut NoiseHandshake, handed_in: u32, read: u32) -> u32
     ensures kept { (handed_in ≡ OK → read ≡ OK) → handshake.new ≡ handshake.old }
     ensures taken { handed_in ≡ OK → OK < read → UnsetsPsk handshake.old handshake.new result }
     ensures stays { IsUsable handshake.old → IsUsable handshake.new }
+    ensures places { length handshake.old.psks ≡ 9 }
 {
     if handed_in == OK && read != OK {
         noise_unset_psk(handshake)
