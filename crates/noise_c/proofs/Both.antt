@@ -16,11 +16,10 @@ use Rattle.noise_c.specs.declared.two_runs.Ran.{Ran}
 use Rattle.noise_c.specs.declared.two_runs.Step.{Step}
 use Rattle.noise_c.specs.declared.two_runs.Turn.{Turn}
 use Rattle.noise_c.specs.declared.two_runs.Turn.TheVariants as turn
-use Rattle.noise_c.specs.declared.codes.numbers.TheConstants.{OK, RECEIVER, SENDER}
+use Rattle.noise_c.specs.declared.codes.numbers.TheConstants.{RECEIVER, SENDER}
 use Rattle.noise_c.specs.Finishing.{AreHalvesOf, Finishes}
 use Rattle.noise_c.specs.HalfStructs.{half_from_c, is_half, is_party}
 use Rattle.noise_c.specs.HandshakeStructs.{ForParty, IsStarted, held_psks, key_to_c, psks_in}
-use Rattle.noise_c.specs.Outcomes.ReadOutcome.{accepted}
 use Rattle.noise_c.specs.RunSteps.{EndsAs, IsFirst, IsPassedAt, Runs, Turned}
 use Rattle.noise_c.specs.RunSteps.Runs.{none as none_yet, initiator as by_initiator, responder as by_responder}
 use Rattle.noise_c.specs.TwoPrograms.{Agree, Calls, HaveTalked, IsFront, Passed, Program, Secrets, TwoProgramsAgree, messages_in}

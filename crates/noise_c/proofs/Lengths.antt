@@ -1,7 +1,6 @@
 -- A message is at most 96 bytes longer than its payload: one e, one s with a tag, and the payload's tag.
 use Rattle.std.proofs.Common.{◌≡◌, ◌<◌, ◌≤◌, ◌+◌, ◌-◌, ℕ, List, [], ◌∷◌, ◌++◌, length, drop, take, true, false, refl, ap, sym, subst, ◌∙◌, arith}
 use Rattle.std.specs.Prelude.{◌&&◌, ◌||◌, not, slice_index_or}
-use Rattle.std.specs.List.{list_any}
 use Rattle.std.proofs.lemmas.List.{append_assoc, append-nil, drop_more, take-append-drop}
 use Rattle.std.proofs.lemmas.List.Folds.{list_any-append}
 use Rattle.noise_c.proofs.Common.{Bool, if◌then◌else◌, Plan, Role, Token, E, S, Ee, Es, Se, Ss, false≢true}
@@ -9,8 +8,8 @@ use Rattle.noise_c.proofs.Sides.{taken-len}
 use Rattle.noise_names.specs.declared.token.Role.TheVariants.{Initiator, Responder}
 use Rattle.noise_names.specs.declared.token.Token.TheVariants.{Psk}
 use Rattle.noise_names.specs.Tokens.{same_role, same_token, turn_from}
-use Rattle.noise_names.specs.Plan.{Place, place, does, payload, first_places, message_places, token_places, places_before}
-use Rattle.noise_names.specs.Overhead.{added_len, has_key, overhead_from, overhead_of, tag_len}
+use Rattle.noise_names.specs.Plan.{Place, place, does, payload, first_places, message_places, token_places}
+use Rattle.noise_names.specs.Overhead.{added_len, has_key, overhead_from, overhead_of}
 use Rattle.noise_names.specs.Validity.{TokensKeepRules, is_among, is_at, key_is_first}
 
 -- what a key of this party may still take

@@ -17,9 +17,7 @@ use Rattle.noise_c.specs.Outcomes.{ReadOutcome}
 use Rattle.noise_c.specs.Outcomes.ReadOutcome.{accepted, wants_dh_result as read_wants, wants_psk as read_wants_psk, declined, refused, too_long, unusable as read_unusable}
 use Rattle.noise_c.specs.RunSteps.{PskTurn, ReadTurn, ReadsStep, Turned, WritesStep, accepts_or_ends}
 use Rattle.noise_c.specs.TwoPrograms.{IsFront, Passed, Secrets, TakesNext}
-use Rattle.noise_c.specs.TwoPrograms.Calls.{none}
 use Rattle.noise_c.specs.TwoRuns.{Adds, Asks, IsStrange, IsWritten, ReadsFirst, has_strayed, passed_at, passed_by, psks_of_turns, waiting}
-use Rattle.noise_c.specs.TwoRuns.AreRight.{strayed}
 use Rattle.noise_c.proofs.Common.{Bool, Plan, WasRead, WasWritten, drop-append_seam, false≢true, handshake_from_c, nat_lt, nat_tests, role_in, IsPatternOf, NoiseHandshake, HandshakeValue, Table, IsGiven, IsUsable, take-append_seam}
 use Rattle.noise_c.proofs.Programs.{read-of, written-of}
 use Rattle.noise_c.proofs.Sides.{Side, named-in, side-answered, side-same, side-set, side-took, side-wrote}

@@ -1,7 +1,7 @@
 -- Two programs on the C calls, turn by turn, as whoever has only their bytes and numbers sees them: what each handed in,
 -- and what each call returned.
 use Rattle.std.specs.declared.alloc.AllocError.{AllocError}
-use Rattle.std.specs.Prelude.{◌≡◌, ◌≢◌, ◌⊎◌, ◌↔◌, ◌<◌, ◌≤◌, ◌+◌, ℕ, zero, suc, ◌==◌, ◌&&◌, not, List, [], ◌∷◌, ◌++◌, drop, length, map, Bool, true, false, All, Option, Some, if◌then◌else◌, Result, IfOk, IfSome, IsSome}
+use Rattle.std.specs.Prelude.{◌≡◌, ◌≢◌, ◌⊎◌, ◌↔◌, ◌<◌, ◌≤◌, ◌+◌, ℕ, zero, suc, ◌==◌, ◌&&◌, not, List, [], ◌∷◌, ◌++◌, drop, length, map, Bool, true, false, All, Option, Some, Result, IfOk, IfSome, IsSome}
 use Rattle.std.specs.Bool.{beq}
 use Rattle.std.specs.List.{filter, list_any}
 use Rattle.noise_keys.specs.declared.keys.Own.{Own}
