@@ -30,3 +30,5 @@ pub mod Sides
 pub mod WriteCodes
 pub mod Both
 pub mod Turning
+pub mod Network
+pub mod Directions
