@@ -322,6 +322,23 @@ runs-hold v w x x_too y y_too there0 back0 there back turns (responder before th
     let both = runs-hold v w x x_too y y_too there0 back0 there1 back1 before run h k in
     let after = takes-turn w v x_too x y_too y t back1 back there1 there s both.1 both.0 in (after.1, after.0)
 
+-- both readers stay known
+pub turn-known : (t : StreamTurn) (out out_after into into_after : Stream) → TakesTurn t out out_after into into_after
+    → is_stream_receiver out.receiver ≡ true → is_stream_receiver into.receiver ≡ true
+    → (is_stream_receiver out_after.receiver ≡ true) × (is_stream_receiver into_after.receiver ≡ true)
+turn-known (turn.Write payload) out out_after into into_after s h k = (
+  ap (λ (z : Stream). is_stream_receiver z.receiver) s.0.others ∙ h,
+  ap (λ (z : Stream). is_stream_receiver z.receiver) s.1 ∙ k,
+)
+turn-known turn.End out out_after into into_after s h k = (
+  ap (λ (z : Stream). is_stream_receiver z.receiver) s.0.others ∙ h,
+  ap (λ (z : Stream). is_stream_receiver z.receiver) s.1 ∙ k,
+)
+turn-known (turn.Read bytes) out out_after into into_after s h k = (
+  ap (λ (z : Stream). is_stream_receiver z.receiver) s.1 ∙ h,
+  s.0.known,
+)
+
 -- ---- a direction between halves that are opposite
 
 no-rekeys : (i : ℕ) → rekeys i 0 ≡ 0

@@ -20,7 +20,7 @@ use crate::split::noise_finish_stream;
 use crate::streams::{noise_stream_end, noise_stream_write};
 use crate::structs::{NoiseHandshake, NoiseStreamResult};
 pub use crate::structs::{NoiseStreamReceiver, NoiseStreamSender};
-use noise_channel::laws::{finished_is_one, prefix_or_forged, stream_arrives};
+use noise_channel::laws::{calls_make_stream, finished_is_one, prefix_or_forged, stream_arrives};
 use noise_duel::laws::history_follows;
 use noise_session::limits::PAYLOAD_MAX;
 use std::alloc::{AllocError, Global};
@@ -195,6 +195,7 @@ pub fn run_streams(
         → IfOk result (λ one. IfSome one (λ r. FaceInStreams r ⊎ ForgedOrTwice p a b ps qs)) }
     ensures right { StreamsRight interval result }
 {
+    calls_make_stream();
     prefix_or_forged();
     stream_arrives();
     finished_is_one();
