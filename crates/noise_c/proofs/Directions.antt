@@ -466,7 +466,9 @@ known-sender : (k : NoiseStreamSender) → is_stream_sender k ≡ true → is_pa
 known-sender k e = party-known STREAM_SENDER k.half (is_writer (half_from_c k.half) (not (k.ended == 0))) e
 
 known-receiver : (k : NoiseStreamReceiver) → is_stream_receiver k ≡ true → is_party k.half.party ≡ true
-known-receiver k e = party-known STREAM_RECEIVER k.half (is_state k.state && is_reader (half_from_c k.half) (state_in k.state)) e
+known-receiver k e =
+    party-known STREAM_RECEIVER k.half (is_state k.state)
+    (and_parts (is_half STREAM_RECEIVER k.half && is_state k.state) (is_reader (half_from_c k.half) (state_in k.state)) e).0
 
 opposite-at : (x k : NoiseStreamSender) (y l : NoiseStreamReceiver) → k ≡ x → l ≡ y → Opposite x.half y.half → Opposite k.half l.half
 opposite-at x k y l e f o =
