@@ -1,19 +1,18 @@
 -- What holds of a direction between two programs, turn by turn, and what comes of it at the end.
-use Rattle.std.proofs.Common.{◌≡◌, ◌≢◌, ◌⊎◌, inl, inr, ℕ, zero, suc, ◌+◌, ◌-◌, ◌<◌, ◌≤◌, ◌/◌, List, [], ◌∷◌, ◌++◌, length, take, drop, Option, Some, refl, sym, ◌∙◌, ap, subst, arith, append-nil}
+use Rattle.std.proofs.Common.{◌≡◌, ◌≢◌, ◌⊎◌, inl, inr, ℕ, zero, suc, ◌+◌, ◌-◌, ◌<◌, ◌/◌, List, [], ◌∷◌, ◌++◌, length, take, drop, Some, refl, sym, ◌∙◌, ap, subst, arith, append-nil}
 use Rattle.std.proofs.Math.Nat.{zero-div}
 use Rattle.std.proofs.lemmas.List.{nil_from_length}
 use Rattle.std.proofs.lemmas.List.Folds.{concat-append}
 use Rattle.std.proofs.lemmas.Option.{same_Some}
 use Rattle.std.specs.List.{concat}
-use Rattle.std.specs.Prelude.{Result, Ok, Err, IfOk, IfSome, None, false, true, not, ◌&&◌, ◌↔◌}
-use Rattle.std.specs.declared.alloc.AllocError.{AllocError}
+use Rattle.std.specs.Prelude.{false, true, not, ◌&&◌, ◌↔◌}
 use Rattle.noise_names.specs.declared.token.Role.TheVariants.{Initiator, Responder}
 use Rattle.noise_names.specs.Plan.{is_one_way}
 use Rattle.noise_names.specs.Tokens.{other, same_role}
 use Rattle.noise_state.specs.Cipher.{rekeyed_times}
 use Rattle.noise_state.specs.History.{state_of_history}
 use Rattle.noise_handshake.specs.Matching.{party_of}
-use Rattle.noise_session.specs.Transport.{last_nonce, rekeys, split_key, transport_key}
+use Rattle.noise_session.specs.Transport.{last_nonce, rekeys, split_key}
 use Rattle.noise_session.specs.TransportValue.{TransportState, transport_of}
 use Rattle.noise_channel.specs.declared.next.StreamState.TheVariants as reading
 use Rattle.noise_channel.specs.Finished.{FinishedIsOne, ForgedOrTwice, HaveFinished}
@@ -33,9 +32,9 @@ use Rattle.noise_channel.specs.Runs.StreamReceiverRun.{stops as run_stops}
 use Rattle.noise_duel.specs.Histories.{ExchangedHasHistory}
 use Rattle.noise_duel.specs.Messages.{Exchanged, HandshakeMessage, Start, begun_as}
 use Rattle.noise_duel.specs.Messages.Exchanged.{none as nothing, wrote, took}
-use Rattle.noise_c.proofs.Common.{Bool, DhResults, IsPatternOf, IsUsable, KeepsParty, NoiseHandshake, Party, Plan, Role, after_message, after_own, and_parts, false≢true, handshake_from_c, if◌then◌else◌, nat_tests, pairs_in, text_from_c, with_dh_results, with_later, ◌==◌, ◌||◌}
+use Rattle.noise_c.proofs.Common.{Bool, DhResults, IsPatternOf, KeepsParty, NoiseHandshake, Party, Plan, Role, after_message, after_own, and_parts, false≢true, handshake_from_c, if◌then◌else◌, nat_tests, pairs_in, text_from_c, with_dh_results, with_later, ◌==◌, ◌||◌}
 use Rattle.noise_c.proofs.FinishedPrograms.{not-same}
-use Rattle.noise_c.proofs.Network.{Alike, MakesStream, Prefix, all-alike, bytes-more, front-or-forged, more-comes, one-more, payloads-more}
+use Rattle.noise_c.proofs.Network.{MakesStream, Prefix, all-alike, bytes-more, front-or-forged, more-comes, one-more, payloads-more}
 use Rattle.noise_c.specs.declared.structs.NoiseHalf.{NoiseHalf}
 use Rattle.noise_c.specs.declared.structs.NoiseStreamReceiver.{NoiseStreamReceiver}
 use Rattle.noise_c.specs.declared.structs.NoiseStreamSender.{NoiseStreamSender}
@@ -43,13 +42,13 @@ use Rattle.noise_c.specs.declared.two_streams.Stream.{Stream}
 use Rattle.noise_c.specs.declared.two_streams.Streams.{Streams}
 use Rattle.noise_c.specs.declared.two_streams.StreamTurn.{StreamTurn}
 use Rattle.noise_c.specs.declared.two_streams.StreamTurn.TheVariants as turn
-use Rattle.noise_c.specs.Finishing.{AreStreamHalvesOf, UsesUp, used_up}
+use Rattle.noise_c.specs.Finishing.{UsesUp}
 use Rattle.noise_c.specs.HalfStructs.{half_from_c, is_half, is_party, party_in}
-use Rattle.noise_c.specs.StreamSteps.{Begins, BothBegin, EndsStream, ReadsStream, StreamsAreMade, StreamsRun, TakesTurn, WritesStream}
+use Rattle.noise_c.specs.StreamSteps.{Begins, EndsStream, ReadsStream, StreamsAreMade, StreamsRun, TakesTurn, WritesStream}
 use Rattle.noise_c.specs.StreamSteps.StreamsRun.{none, initiator, responder}
 use Rattle.noise_c.specs.StreamStructs.{BeginsToRead, BeginsToWrite, is_state, is_stream_receiver, is_stream_sender, state_in, stream_receiver_from_c, stream_sender_from_c}
 use Rattle.noise_c.specs.declared.codes.numbers.TheConstants.{STREAM_RECEIVER, STREAM_SENDER}
-use Rattle.noise_c.specs.TwoStreams.{FaceInStreams, IsFaithful, IsForged, Opposite, StreamIsRight, StreamsRight}
+use Rattle.noise_c.specs.TwoStreams.{FaceInStreams, IsFaithful, IsForged, Opposite, StreamIsRight}
 
 -- ---- a writer and a reader, turn by turn
 

@@ -1,9 +1,7 @@
 -- A direction between two halves of one key: what is read of it is a front of what was written, or a frame was forged.
-use Rattle.std.proofs.Common.{◌≡◌, ◌≢◌, ◌⊎◌, inl, inr, ℕ, zero, suc, ◌+◌, ◌<◌, ◌≤◌, List, [], ◌∷◌, ◌++◌, length, take, drop, slice_get, Option, Some, refl, sym, ◌∙◌, ap, subst, arith}
+use Rattle.std.proofs.Common.{◌≡◌, ◌≢◌, ◌⊎◌, inl, inr, ℕ, zero, suc, ◌+◌, ◌<◌, ◌≤◌, List, [], ◌∷◌, ◌++◌, length, take, drop, slice_get, Some, refl, sym, ◌∙◌, ap, subst, arith}
 use Rattle.std.proofs.Common.{append-nil, append_assoc, length-append}
-use Rattle.std.specs.Prelude.{Bool, true, false, ◌↔◌}
-use Rattle.std.specs.List.{concat}
-use Rattle.std.proofs.lemmas.List.Folds.{concat-append}
+use Rattle.std.specs.Prelude.{Bool, true, false}
 use Rattle.byteorder.specs.Endian.{big_bytes}
 use Rattle.noise_aead.specs.Sealed.{length-sealed}
 use Rattle.noise_aead.specs.Sealing.{nonce_of}
@@ -21,7 +19,7 @@ use Rattle.noise_channel.specs.Writing.WritesAll.{stops, goes_on}
 use Rattle.noise_channel.specs.Reading.{StreamReceiverState}
 use Rattle.noise_channel.specs.Reading.StreamReceiverState.{Listens, AtEnd}
 use Rattle.noise_channel.specs.Reading.ChannelReads.{wants, gives, ends as ends_here, refuses, closed_at_end, closed_broken}
-use Rattle.noise_channel.specs.Runs.{StreamReceiverRun, AreParts, ArrivesWhole, ForgedAt, IsWritten, PrefixOrForged, Rests, closing, has_met_end, payloads, sealed_on, uses}
+use Rattle.noise_channel.specs.Runs.{StreamReceiverRun, AreParts, ForgedAt, IsWritten, PrefixOrForged, has_met_end, payloads, sealed_on, uses}
 use Rattle.noise_channel.specs.Runs.StreamReceiverRun.{stops as run_stops, arrives, calls as run_calls}
 use Rattle.noise_c.specs.TwoStreams.{IsForged, frame_under, frames_under}
 

@@ -1,7 +1,7 @@
 -- Two programs on the C calls that write and read streams, over a network that brings any bytes: what comes of it, as
 -- whoever has only their bytes and numbers sees it (Noise 5.1, 5.2, 11.3 and 13).
 use Rattle.std.specs.declared.alloc.AllocError.{AllocError}
-use Rattle.std.specs.Prelude.{◌≡◌, ◌≢◌, ◌⊎◌, ◌↔◌, ℕ, ◌+◌, ◌==◌, List, [], ◌∷◌, ◌++◌, length, true, Option, Result, IfOk, IfSome}
+use Rattle.std.specs.Prelude.{◌≡◌, ◌≢◌, ◌⊎◌, ℕ, ◌+◌, ◌==◌, List, [], ◌∷◌, ◌++◌, length, true, Option, Result, IfOk, IfSome}
 use Rattle.noise_aead.specs.Sealing.{sealed, nonce_of}
 use Rattle.noise_state.specs.Cipher.{rekeyed_times}
 use Rattle.noise_session.specs.Frames.{frame}

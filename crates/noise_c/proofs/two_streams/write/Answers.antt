@@ -1,4 +1,4 @@
-use Rattle.std.proofs.Common.{◌≡◌, ◌≤◌, ◌<◌, ◌+◌, ◌++◌, ◌∙◌, Bool, true, false, ℕ, List, length, take, refl, ap, sym, subst, min, arith, rules}
+use Rattle.std.proofs.Common.{◌≤◌, ◌+◌, ◌++◌, ◌∙◌, Bool, true, false, ℕ, List, length, take, refl, ap, sym, subst, min, arith}
 use Rattle.std.specs.Prelude.{if◌then◌else◌, ◌==◌}
 use Rattle.noise_c.proofs.Sides.{whole}
 use Rattle.noise_c.specs.StreamSteps.{WritesStream}
