@@ -32,3 +32,5 @@ pub mod OneTurn
 pub mod Both
 pub mod Turning
 pub mod Lengths
+pub mod Network
+pub mod Directions
