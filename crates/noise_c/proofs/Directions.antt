@@ -426,10 +426,10 @@ module _ (laws : Laws) (v w : TransportState) (x : NoiseStreamSender) (y : Noise
   pub stream-right : StreamIsRight v.interval s
   stream-right = record {
     faithful = elim (front-or-forged (incoming w) h.writer.calls h.writer.state s.came.items s.left.items h.reader.payloads h.reader.state written-into
-    h.reader.run laws.prefix laws.makes) [
-      | inl f ↦ inl (faithful f.0 f.1 f.2)
-      | inr f ↦ inr (forged-here f)
-    ];
+        h.reader.run laws.prefix laws.makes) [
+          | inl f ↦ inl (faithful f.0 f.1 f.2)
+          | inr f ↦ inr (forged-here f)
+        ];
     all = λ e.
         let came : s.came.items ≡ bytes_put h.writer.calls = e ∙ h.writer.put in
         let a = laws.arrives (incoming w) 0 h.writer.calls h.writer.state (omega arith) written-into s.left.items h.reader.payloads h.reader.state

@@ -77,7 +77,11 @@ pub record ReadsStream (bytes : List ℕ) (old new : Stream) : Type 0 where
   pub whole_is : (new.whole ≡ true) ↔ (((stream_receiver_from_c new.receiver).state ≡ Ended) × (length new.left.items ≡ 0))
   pub known : is_stream_receiver new.receiver ≡ true
   pub others : new ≡ record old {
-    receiver = new.receiver; came = new.came; left = new.left; handed_out = new.handed_out; whole = new.whole;
+    receiver = new.receiver;
+    came = new.came;
+    left = new.left;
+    handed_out = new.handed_out;
+    whole = new.whole;
   }
 
 -- What a turn does to the direction in which its program writes, and to that in which it reads.

@@ -68,11 +68,7 @@ const NO_STREAM_RESULT: NoiseStreamResult = NoiseStreamResult {
 };
 
 // A direction between two halves, in which nothing is written or read yet.
-fn new_stream(
-    alloc: Global,
-    sender: &NoiseStreamSender,
-    receiver: &NoiseStreamReceiver,
-) -> Stream
+fn new_stream(alloc: Global, sender: &NoiseStreamSender, receiver: &NoiseStreamReceiver) -> Stream
     ensures { Begins sender.now receiver.now result }
 {
     Stream {
