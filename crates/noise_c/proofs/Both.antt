@@ -269,21 +269,21 @@ module _ (text prologue : List ℕ) (p : Plan) (g h : NoiseSetup) (a0 b0 : Noise
   went-left : (a a2 b : NoiseHandshake) (ss ts : List Step) (t : Turn) (more : List (Bool × Turn)) → At a b ss ((false, t) ∷ more)
       → Gone text p (secrets_of d psks) a0 a2 false t ss ts (psks_of_turns (turns_of false more)) → Taken a2 b false t ss ts more
   went-left a a2 b ss ts t more w gone = record {
-        both = record {
-          left = gone.stands;
-          right = subst (λ (z : List Passed). Side text p (secrets_of d_too psks) b0 b z (passed_by true true ts) (psks_of_turns (turns_of true more))) (sym gone.other_wrote)
-              (subst (λ (z : List Passed). Side text p (secrets_of d_too psks) b0 b (passed_by true false ss) z (psks_of_turns (turns_of true more))) (sym gone.other_read) w.right);
-          there = subst (λ (z : List Passed). IsFront z (passed_by false false ts)) (sym gone.other_read)
-              (front-longer (passed_by true true ss) (passed_by false false ss) (passed_by false false ts) w.there gone.wrote_more);
-          back = subst (λ (z : List Passed). IsFront (passed_by false true ts) z) (sym gone.other_wrote) gone.read_front;
-          answers = tail-of (Answers d) t (turns_of false more) w.answers;
-          answers_too = w.answers_too;
-          clean = gone.clean;
-        };
-        steps = gone.more;
-        adds = gone.adds;
-        steps_are = gone.steps;
-      }
+    both = record {
+      left = gone.stands;
+      right = subst (λ (z : List Passed). Side text p (secrets_of d_too psks) b0 b z (passed_by true true ts) (psks_of_turns (turns_of true more))) (sym gone.other_wrote)
+          (subst (λ (z : List Passed). Side text p (secrets_of d_too psks) b0 b (passed_by true false ss) z (psks_of_turns (turns_of true more))) (sym gone.other_read) w.right);
+      there = subst (λ (z : List Passed). IsFront z (passed_by false false ts)) (sym gone.other_read)
+          (front-longer (passed_by true true ss) (passed_by false false ss) (passed_by false false ts) w.there gone.wrote_more);
+      back = subst (λ (z : List Passed). IsFront (passed_by false true ts) z) (sym gone.other_wrote) gone.read_front;
+      answers = tail-of (Answers d) t (turns_of false more) w.answers;
+      answers_too = w.answers_too;
+      clean = gone.clean;
+    };
+    steps = gone.more;
+    adds = gone.adds;
+    steps_are = gone.steps;
+  }
 
   pub next-left : (a a2 b : NoiseHandshake) (ss ts : List Step) (t : Turn) (more : List (Bool × Turn)) → At a b ss ((false, t) ∷ more)
       → Turned false t a a2 ss ts → Taken a2 b false t ss ts more ⊎ Strays p false t ss ts
@@ -299,21 +299,21 @@ module _ (text prologue : List ℕ) (p : Plan) (g h : NoiseSetup) (a0 b0 : Noise
   went-right : (a b b2 : NoiseHandshake) (ss ts : List Step) (t : Turn) (more : List (Bool × Turn)) → At a b ss ((true, t) ∷ more)
       → Gone text p (secrets_of d_too psks) b0 b2 true t ss ts (psks_of_turns (turns_of true more)) → Taken a b2 true t ss ts more
   went-right a b b2 ss ts t more w gone = record {
-        both = record {
-          left = subst (λ (z : List Passed). Side text p (secrets_of d psks) a0 a z (passed_by false true ts) (psks_of_turns (turns_of false more))) (sym gone.other_wrote)
-              (subst (λ (z : List Passed). Side text p (secrets_of d psks) a0 a (passed_by false false ss) z (psks_of_turns (turns_of false more))) (sym gone.other_read) w.left);
-          right = gone.stands;
-          there = subst (λ (z : List Passed). IsFront (passed_by true true ts) z) (sym gone.other_wrote) gone.read_front;
-          back = subst (λ (z : List Passed). IsFront z (passed_by true false ts)) (sym gone.other_read)
-              (front-longer (passed_by false true ss) (passed_by true false ss) (passed_by true false ts) w.back gone.wrote_more);
-          answers = w.answers;
-          answers_too = tail-of (Answers d_too) t (turns_of true more) w.answers_too;
-          clean = gone.clean;
-        };
-        steps = gone.more;
-        adds = gone.adds;
-        steps_are = gone.steps;
-      }
+    both = record {
+      left = subst (λ (z : List Passed). Side text p (secrets_of d psks) a0 a z (passed_by false true ts) (psks_of_turns (turns_of false more))) (sym gone.other_wrote)
+          (subst (λ (z : List Passed). Side text p (secrets_of d psks) a0 a (passed_by false false ss) z (psks_of_turns (turns_of false more))) (sym gone.other_read) w.left);
+      right = gone.stands;
+      there = subst (λ (z : List Passed). IsFront (passed_by true true ts) z) (sym gone.other_wrote) gone.read_front;
+      back = subst (λ (z : List Passed). IsFront z (passed_by true false ts)) (sym gone.other_read)
+          (front-longer (passed_by false true ss) (passed_by true false ss) (passed_by true false ts) w.back gone.wrote_more);
+      answers = w.answers;
+      answers_too = tail-of (Answers d_too) t (turns_of true more) w.answers_too;
+      clean = gone.clean;
+    };
+    steps = gone.more;
+    adds = gone.adds;
+    steps_are = gone.steps;
+  }
 
   pub next-right : (a b b2 : NoiseHandshake) (ss ts : List Step) (t : Turn) (more : List (Bool × Turn)) → At a b ss ((true, t) ∷ more)
       → Turned true t b b2 ss ts → Taken a b2 true t ss ts more ⊎ Strays p true t ss ts

@@ -418,7 +418,7 @@ module _ (text : List ℕ) (p : Plan) (short : AreShort p) (s : Secrets) (begun 
                   side-same text p s begun old new wrote_before read_before rest st named (back.2 after) (lacks.text ∙ gives.text)
                   (taken-back old w.given new psk gives count lacks)
               | inr other ↦
-                  let high : 0 < w.code = elim other [ | inl e ↦ omega (arith, e) | inr e ↦ omega (arith, e) ] in
+                  let high : 0 < w.code = elim other [ inl e ↦ omega (arith, e) | inr e ↦ omega (arith, e) ] in
                   let all : new ≡ old = w.kept (λ ok. absurd (omega (arith, ok, high))) ∙ same ∙ w.sets.unchanged high in
                   subst (λ (k : NoiseHandshake). Side text p s begun k wrote_before read_before rest) (sym all) st
             ]

@@ -315,8 +315,12 @@ fn take_turn(
             Ok(())
         }
         Turn::Deliver(message) => read_strange(alloc, handshake, responder, true, message, steps),
-        Turn::TryDeliver(message) => read_strange(alloc, handshake, responder, false, message, steps),
-        Turn::TryPsk(psk, message) => read_with_psk(alloc, handshake, responder, psk, message, steps),
+        Turn::TryDeliver(message) => read_strange(
+            alloc, handshake, responder, false, message, steps,
+        ),
+        Turn::TryPsk(psk, message) => read_with_psk(
+            alloc, handshake, responder, psk, message, steps,
+        ),
     }
 }
 
