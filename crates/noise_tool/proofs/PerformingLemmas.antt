@@ -2,10 +2,10 @@
 use Rattle.std.proofs.Common.{rules, ◌≡◌, ◌∙◌, refl, sym, ap, subst, ◌⊎◌, inl, inr, ◌<◌, ◌≤◌, ℕ, List, [], ◌∷◌, Vec, Option, Some, None, Result, Ok, Err, OnOk, length}
 use Rattle.std.specs.Prelude.{IfOk}
 use Rattle.noise_tool.proofs.Common.{Global, IfErr, Appends, IsMet, of_vector, status_of, AreMet, Converts, DifferAt, HasPrinted, IsFault, IsNotMet, IsOfLines, IsPlain, IsReadVector, IsRunFault, IsTooLongConverted, IsUnlike, IsUnmet, Printing, lines_text, IsRunOf, expected_in, Fault, AppendsPrefix, LeavesOther, ReportsRule, selection_of, IsTraceOf, bytes_of, IsAllowedFile, IsReadFault, IsVectorFile, file_text, AllowedEvents, VersionOne, VectorFile}
-use Rattle.noise_tool.specs.Conversion.{MeetsItself}
+use Rattle.noise_run.specs.Conversion.{MeetsItself}
 use Rattle.noise_words.specs.declared.orders.Chosen.{Chosen}
 use Rattle.noise_lines.specs.Converted.{converted_text}
-use Rattle.noise_tool.specs.declared.run.Outcome.{Outcome}
+use Rattle.noise_run.specs.declared.run.Outcome.{Outcome}
 use Rattle.noise_tool.specs.Performing.{HasRun}
 use Rattle.noise_tool.specs.Prefixes.{PrintsRun, PrintsRunPrefix}
 use Rattle.noise_tool.proofs.MetLemmas.{met-or-unmet}

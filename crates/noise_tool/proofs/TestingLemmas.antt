@@ -8,7 +8,7 @@ use Rattle.noise_names.specs.Text.{line}
 use Rattle.noise_lines.specs.declared.verdict.Difference.{Difference}
 use Rattle.noise_tool.specs.Testing.{Judged}
 use Rattle.noise_tool.specs.declared.testing.TestedRun.{TestedRun}
-use Rattle.noise_tool.specs.declared.tracing.Traced.{Traced}
+use Rattle.noise_run.specs.declared.tracing.Traced.{Traced}
 use Rattle.noise_lines.specs.declared.verdict.Verdict.{Verdict}
 use Rattle.noise_lines.specs.declared.verdict.Verdict.TheVariants.{Differs, CannotRun, NamedTwice}
 use Rattle.noise_lines.specs.declared.faults.Fault.TheVariants as fault

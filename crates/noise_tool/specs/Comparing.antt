@@ -20,10 +20,10 @@ use Rattle.noise_vectors.specs.VectorText.{file_text}
 use Rattle.noise_vectors.specs.declared.vector.AllowedEvents.TheVariants.{Any}
 use Rattle.noise_vectors.specs.declared.vector.VectorFile.{VectorFile}
 use Rattle.noise_words.specs.declared.orders.Compared.{Compared}
-use Rattle.noise_tool.specs.Selection.{all_lines}
+use Rattle.noise_run.specs.Selection.{all_lines}
 use Rattle.noise_tool.specs.Performing.{IsRunFault}
 use Rattle.noise_tool.specs.Testing.{EndsTest, is_input}
-use Rattle.noise_tool.specs.Tracing.{HasTraces}
+use Rattle.noise_run.specs.Tracing.{HasTraces}
 use Rattle.noise_tool.specs.declared.comparison.Comparison.{Comparison}
 use Rattle.noise_tool.specs.declared.comparison.Comparison.TheVariants.{Made, Unread, Wrong}
 use Rattle.noise_tool.specs.declared.comparison.ComparedFile.{ComparedFile}

@@ -10,10 +10,10 @@ use Rattle.noise_lines.specs.Prefixes.{AppendsPrefix}
 use Rattle.noise_lines.specs.Reported.{error_text}
 use Rattle.noise_lines.specs.declared.faults.Fault.{Fault}
 use Rattle.noise_lines.specs.declared.faults.Fault.TheVariants.{Line, Unreadable}
-use Rattle.noise_tool.specs.Ends.{IsStartFault}
+use Rattle.noise_run.specs.Ends.{IsStartFault}
 use Rattle.noise_tool.specs.PatternNames.{NamesText}
 use Rattle.noise_tool.specs.Performing.{IsUnread}
-use Rattle.noise_tool.specs.Running.{IsRunOf}
+use Rattle.noise_run.specs.Running.{IsRunOf}
 use Rattle.noise_tool.specs.Testing.{EndsTest}
 use Rattle.noise_vectors.specs.VectorFile.{IsVectorFile}
 use Rattle.noise_vectors.specs.VectorText.{file_text}

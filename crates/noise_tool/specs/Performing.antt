@@ -5,18 +5,18 @@ use Rattle.noise_names.specs.Plan.{Plan}
 use Rattle.noise_names.specs.Text.{Spells}
 use Rattle.noise_names.specs.Validity.{IsValid}
 use Rattle.noise_lines.specs.Verdicts.{IsMet, ReportsUnmet}
-use Rattle.noise_tool.specs.Conversion.{MeetsItself}
-use Rattle.noise_tool.specs.Ends.{IsStartFault}
+use Rattle.noise_run.specs.Conversion.{MeetsItself}
+use Rattle.noise_run.specs.Ends.{IsStartFault}
 use Rattle.noise_lines.specs.Faults.{of_vector, status_of}
 use Rattle.noise_lines.specs.Output.{IsCheckFault, check_text, list_text}
 use Rattle.noise_lines.specs.Lines.{lines_text}
 use Rattle.noise_lines.specs.Prefixes.{AppendsPrefix}
 use Rattle.noise_lines.specs.Reported.{LeavesOther, ReportsRule, error_text}
 use Rattle.noise_tool.specs.PatternNames.{HasShown, IsShownFault, NamesText}
-use Rattle.noise_tool.specs.Running.{IsRunOf, expected_in}
+use Rattle.noise_run.specs.Running.{IsRunOf, expected_in}
 use Rattle.noise_tool.specs.Templating.{HasTemplated, IsTemplateFault, ReadsShortPattern}
-use Rattle.noise_tool.specs.Selection.{selection_of}
-use Rattle.noise_tool.specs.Tracing.{IsTraceOf}
+use Rattle.noise_run.specs.Selection.{selection_of}
+use Rattle.noise_run.specs.Tracing.{IsTraceOf}
 use Rattle.noise_lines.specs.Converted.{converted_text}
 use Rattle.noise_names.specs.Lists.{bytes_of}
 use Rattle.noise_vectors.specs.Expectations.{IsFirstUnmet}
@@ -26,7 +26,7 @@ use Rattle.noise_vectors.specs.VectorText.{file_text}
 use Rattle.noise_explain.specs.Template.{names_protocol}
 use Rattle.noise_lines.specs.declared.faults.Fault.{Fault}
 use Rattle.noise_lines.specs.declared.faults.Fault.TheVariants.{TooLong, Unmet}
-use Rattle.noise_tool.specs.declared.run.Outcome.{Outcome}
+use Rattle.noise_run.specs.declared.run.Outcome.{Outcome}
 use Rattle.noise_words.specs.declared.orders.Chosen.{Chosen}
 use Rattle.noise_words.specs.declared.orders.Chosen.TheVariants.{List as Listing, Show, Check, Template, Talk, Replay, Convert, Trace}
 use Rattle.noise_words.specs.declared.orders.Order.{Order}

@@ -19,14 +19,14 @@ use Rattle.noise_vectors.specs.VectorText.{file_text}
 use Rattle.noise_vectors.specs.declared.vector.AllowedEvents.TheVariants.{Any}
 use Rattle.noise_vectors.specs.declared.vector.VectorFile.{VectorFile}
 use Rattle.noise_lines.specs.TracedLines.{traces_of}
-use Rattle.noise_tool.specs.Ends.{IsFilePattern}
-use Rattle.noise_tool.specs.Selection.{all_lines}
+use Rattle.noise_run.specs.Ends.{IsFilePattern}
+use Rattle.noise_run.specs.Selection.{all_lines}
 use Rattle.noise_tool.specs.Performing.{IsRunFault}
-use Rattle.noise_tool.specs.Running.{IsRunOf, expected_in}
+use Rattle.noise_run.specs.Running.{IsRunOf, expected_in}
 use Rattle.noise_tool.specs.TracedText.{front_if}
-use Rattle.noise_tool.specs.Tracing.{HasTraces, IsTraceTo}
+use Rattle.noise_run.specs.Tracing.{HasTraces, IsTraceTo}
 use Rattle.noise_tool.specs.declared.testing.TestedRun.{TestedRun}
-use Rattle.noise_tool.specs.declared.tracing.Traced.{Traced}
+use Rattle.noise_run.specs.declared.tracing.Traced.{Traced}
 use Rattle.noise_words.specs.declared.orders.Tested.{Tested}
 use Rattle.noise_lines.specs.declared.verdict.Difference.{Difference}
 use Rattle.noise_lines.specs.declared.verdict.Verdict.{Verdict}

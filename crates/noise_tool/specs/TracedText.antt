@@ -2,7 +2,7 @@
 use Rattle.std.specs.Prelude.{ℕ, Bool, true, false, List, [], ◌++◌}
 use Rattle.noise_names.specs.Lists.{bytes_of}
 use Rattle.noise_lines.specs.TracedLines.{traces_of, with_traces, with_traces_to}
-use Rattle.noise_tool.specs.declared.tracing.Traced.{Traced}
+use Rattle.noise_run.specs.declared.tracing.Traced.{Traced}
 
 -- all of its lines
 abbrev pub trace_lines : Traced → List (List ℕ)

@@ -17,12 +17,12 @@ ghost use Rattle.noise_tool.specs.declared.comparison.Comparison.TheVariants.{Wr
 ghost use Rattle.noise_tool.specs.declared.comparison.Uncompared.TheVariants.{NamedTwice, WrongFile};
 
 use crate::testing::{FilesByName, is_input, trace_named};
-use crate::tracing::Traced;
 use noise_compare::{
     Facts, Finding, Line, LogFault, LogReport, compare_lines, plain_text, push_schedule,
     push_skipped, read_log, written_lines,
 };
 use noise_lines::{Fault, Verdict, flush, named_fault, report_fault, verdict_lines, write};
+use noise_run::Traced;
 use noise_words::Compared;
 use std::alloc::{AllocError, Global};
 use std::io::Write;

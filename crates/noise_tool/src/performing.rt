@@ -22,13 +22,12 @@ ghost use Rattle.noise_tool.specs.PatternNames.{HasShown, IsShownFault, NamesTex
 use crate::comparison::compare_log;
 use crate::explanation::explain_files;
 use crate::filling::fill_template;
-use crate::laws::conversions_meet_themselves;
 use crate::pattern_names::{pattern_text, show_word};
-use crate::run::{Outcome, replay};
 use crate::testing::{FilesByName, test};
 use crate::trace_file::trace_chosen;
 use noise_explain::{named_template, names_protocol, spelled_template};
 use noise_lines::{Fault, check, compare, convert, flush, list, report_fault, write, write_lines};
+use noise_run::{Outcome, conversions_meet_themselves, replay};
 use noise_vectors::{AllowedEvents, VectorFile, read_vector};
 use noise_words::{Chosen, Order};
 use std::alloc::Global;

@@ -9,9 +9,9 @@ ghost use Rattle.noise_lines.specs.declared.faults.Fault.{Fault};
 ghost use Rattle.noise_lines.specs.declared.faults.Fault.TheVariants.{TooLong, Unreadable};
 ghost use Rattle.noise_names.specs.Lists.{bytes_of};
 ghost use Rattle.noise_vectors.specs.declared.vector.AllowedEvents.TheVariants.{Any};
-ghost use Rattle.noise_tool.specs.Ends.{IsFilePattern, IsStartFault};
+ghost use Rattle.noise_run.specs.Ends.{IsFilePattern, IsStartFault};
 ghost use Rattle.noise_tool.specs.Performing.{IsRunFault};
-ghost use Rattle.noise_tool.specs.Running.{IsRunOf, expected_in};
+ghost use Rattle.noise_run.specs.Running.{IsRunOf, expected_in};
 ghost use Rattle.noise_tool.specs.Testing.{ComesOf, EndsTest, HasBegunTest, HasTested, HaveTested, IsPatternOfText, IsPieceOf, IsTested, RunsTo, SayPiece, TestsPrefix, tested_names, below_of, is_input, listed, tally_line, tested_text, unexpected_lines};
 ghost use Rattle.noise_tool.specs.TracedText.{front_if};
 ghost use Rattle.noise_lines.specs.Lines.{lines_text};
@@ -20,18 +20,15 @@ ghost use Rattle.noise_lines.specs.declared.verdict.Verdict.TheVariants.{CannotR
 ghost use Rattle.noise_vectors.specs.VectorFile.{IsVectorFile};
 ghost use Rattle.noise_vectors.specs.VectorText.{file_text};
 
-use crate::ends::valid_pattern;
 use crate::file_facts::facts_of;
-use crate::key_use_lines::ALL_LINES;
-use crate::run::replay;
-use crate::trace_file::write_front;
-use crate::tracing::{Traced, trace_text};
+use crate::trace_file::{trace_text, write_front};
 use noise_compare::Facts;
 use noise_explain::difference_line;
 use noise_lines::{
     Difference, Fault, Verdict, flush, judge, report_fault, verdict_lines, write, write_lines,
 };
 use noise_names::{Pattern, ValidPattern};
+use noise_run::{ALL_LINES, Traced, replay, valid_pattern};
 use noise_vectors::{AllowedEvents, VectorFile, read_vector};
 use std::alloc::{AllocError, Global};
 use std::io::Write;

@@ -1,25 +1,28 @@
 //! Printing the trace of a vector file.
 
-ghost use Rattle.std.specs.Prelude.{◌≡◌, ◌⊎◌, Some, IfErr, OnOk};
+ghost use Rattle.std.specs.Prelude.{◌≡◌, ◌⊎◌, Some, IfErr, IfOk, OnOk};
 ghost use Rattle.std.specs.Io.KnownBytes.{Appends};
 ghost use Rattle.noise_lines.specs.Faults.{status_of};
 ghost use Rattle.noise_lines.specs.Lines.{lines_text};
 ghost use Rattle.noise_lines.specs.Prefixes.{AppendsPrefix};
 ghost use Rattle.noise_lines.specs.Verdicts.{IsMet};
-ghost use Rattle.noise_lines.specs.declared.faults.Fault.TheVariants.{Unwritable};
+ghost use Rattle.noise_lines.specs.TracedLines.{traces_of};
+ghost use Rattle.noise_lines.specs.declared.faults.Fault.TheVariants.{Unreadable, Unwritable};
 ghost use Rattle.noise_names.specs.Lists.{bytes_of};
+ghost use Rattle.noise_vectors.specs.VectorFile.{IsVectorFile};
+ghost use Rattle.noise_vectors.specs.VectorText.{file_text};
 ghost use Rattle.noise_vectors.specs.declared.vector.AllowedEvents.TheVariants.{Any};
-ghost use Rattle.noise_tool.specs.Performing.{HasRun, IsNotMet, IsOfLines, IsUnlike};
+ghost use Rattle.noise_tool.specs.Performing.{HasRun, IsNotMet, IsOfLines, IsRunFault, IsUnlike};
 ghost use Rattle.noise_tool.specs.Prefixes.{PrintsRunPrefix};
-ghost use Rattle.noise_tool.specs.Selection.{selection_of};
+ghost use Rattle.noise_run.specs.Selection.{selection_of};
 ghost use Rattle.noise_tool.specs.TracedText.{front_lines, trace_lines};
-ghost use Rattle.noise_tool.specs.Tracing.{IsTraceOf};
+ghost use Rattle.noise_run.specs.Running.{expected_in};
+ghost use Rattle.noise_run.specs.Tracing.{HasTraces, IsTraceOf};
 
-use crate::key_use_lines::Selection;
 use crate::performing::vector_of;
-use crate::tracing::{Traced, trace_text};
 use noise_lines::{Fault, compare, flush, write_traced, write_traced_to};
-use noise_vectors::AllowedEvents;
+use noise_run::{Selection, Traced, trace};
+use noise_vectors::{AllowedEvents, VectorFile, read_vector, vector_texts_are_unique};
 use noise_words::{Traced as ChosenTrace, TracedPart, TracedRole};
 use std::alloc::Global;
 use std::io::Write;
@@ -43,6 +46,26 @@ pub(crate) fn trace_chosen<O: Write>(
     let vector = vector_of(alloc, AllowedEvents::Any, text)?;
     let traced = trace_text(alloc, selection(chosen), text, vector)?;
     print_traced(&traced, out)
+}
+
+/// Runs a file that was read of this text as `trace` does; its keys are read again.
+pub(crate) fn trace_text(
+    alloc: Global,
+    selection: Selection,
+    text: &[u8],
+    file: VectorFile,
+) -> Result<Traced, Fault>
+    requires right { IsVectorFile file }
+    requires text { text.now ≡ file_text file }
+    ensures lines { IfOk result (λ traced. HasTraces selection file (bytes_of traced.outcome.lines.items)
+        (bytes_of traced.start.items) (traces_of traced.traces.items)) }
+    ensures expected { IfOk result (λ traced. bytes_of traced.outcome.expected.items ≡ expected_in file.version) }
+    ensures read { IfErr result (λ fault. ¬ (fault ≡ Unreadable)) }
+    ensures fault { IfErr result (λ fault. (status_of fault ≡ 3) ⊎ IsRunFault Any text.now fault) }
+{
+    let again = read_vector(alloc, text, AllowedEvents::Any)?;
+    vector_texts_are_unique();
+    trace(alloc, selection, file, again)
 }
 
 // The lines that are asked for.

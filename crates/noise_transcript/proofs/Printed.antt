@@ -8,7 +8,7 @@ use Rattle.noise_lines.specs.Faults.{status_of}
 use Rattle.noise_lines.specs.Prefixes.{AppendsPrefix}
 use Rattle.noise_lines.specs.declared.faults.Fault.{Fault}
 use Rattle.noise_lines.specs.Verdicts.{IsMet}
-use Rattle.noise_tool.specs.OneRun.{OneRun}
+use Rattle.noise_run.specs.OneRun.{OneRun}
 use Rattle.noise_tool.specs.Performing.{HasRun, HasUnmet, IsPlain, IsRunFault, IsUnmet}
 use Rattle.noise_tool.specs.Prefixes.{PrintsFault, PrintsPrefix, PrintsWhole}
 use Rattle.noise_words.specs.declared.orders.Chosen.TheVariants.{Talk}

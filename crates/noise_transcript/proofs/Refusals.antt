@@ -14,7 +14,7 @@ use Rattle.noise_tool.specs.Performing.{HasUnmet, IsPlain, IsRunFault, IsUnmet}
 use Rattle.noise_transcript.proofs.Names.{no-name-without, no-place-beyond, no-rule-broken}
 use Rattle.noise_transcript.proofs.Same.{datagrams-are}
 use Rattle.noise_names.specs.Lists.{heads, tails}
-use Rattle.noise_tool.specs.OnePattern.{pattern-once}
+use Rattle.noise_run.specs.OnePattern.{pattern-once}
 use Rattle.noise_events.specs.declared.event.Event.TheVariants as given
 use Rattle.noise_vectors.specs.declared.faults.VectorFault.TheVariants as vector
 use Rattle.noise_lines.specs.declared.faults.Fault.TheVariants as fault

@@ -1,7 +1,7 @@
 use Rattle.std.proofs.Common.{inr, refl}
 use Rattle.noise_tool.proofs.Common.{err_from_is_err_and, bytes_of, Any, VectorFile, traces_of, selection_of, HasTraces, IsTraceOf, Selection}
 use Rattle.noise_tool.specs.TracedText.{trace_lines}
-use Rattle.noise_tool.specs.declared.tracing.Traced.{Traced}
+use Rattle.noise_run.specs.declared.tracing.Traced.{Traced}
 use Rattle.noise_tool.proofs.PerformingLemmas.{has-run, no-run, or-other, run-prefix}
 use Rattle.noise_tool.proofs.trace_file.trace_chosen.Goals as goal
 
