@@ -46,6 +46,7 @@ fn push_by_kind(
         }
         TextFaultKind::Arrow => push_out(alloc, number, line, found),
         TextFaultKind::Token => {
+            push_placed(alloc, text, number, tidy_line(alloc, line, false)?, found)?;
             push_placed(alloc, text, number, without_piece(alloc, line, column)?, found)
         }
         TextFaultKind::PreMessage => {
@@ -325,8 +326,8 @@ fn without_piece(alloc: Global, line: &[u8], column: usize) -> Result<Vec<u8>, A
     let (_, after) = rest.split_at(len.min(rest.len()));
     let mut left = copy(alloc, front)?;
     match after.split_first() {
-        Some((_, next)) => left.extend_from_slice(next)?,
-        None => {
+        Some((_, next)) if !next.is_empty() => left.extend_from_slice(next)?,
+        _ => {
             let kept = left.len().saturating_sub(2);
             left.truncate(kept);
         }
