@@ -286,9 +286,10 @@ fn push_placed(
 fn psk_last(alloc: Global, line: &[u8]) -> Result<Vec<u8>, AllocError> {
     let (arrow, list) = line.split_at(line.len().min(5));
     let mut made = copy(alloc, arrow)?;
-    for word in list.split(|b| *b == b' ') {
-        if !word.starts_with(b"psk".as_slice()) {
-            made.extend_from_slice(word.strip_suffix(b",").unwrap_or(word))?;
+    for word in list.split(|b| *b == b',') {
+        let name = word.strip_prefix(b" ").unwrap_or(word);
+        if name != b"psk".as_slice() {
+            made.extend_from_slice(name)?;
             made.extend_from_slice(b", ".as_slice())?;
         }
     }
