@@ -1,8 +1,9 @@
 """The corrections that `noise explain` prints of broken patterns: corrected.py PROGRAM COUNT SEED.
 
 Valid patterns (explained.py) are broken at random, in their tokens or in their form. What is printed is done to the
-text, line by line as it says. Then `noise check` has to take the text, or its first fault has to come later: less of the
-text is left from it on. A text that is read goes on being read.
+text, line by line as it says. Then `noise check` has to take the text, or its first fault has to come later: what is
+left of the text from it on is the end of what was left before, and not all of it. A text that is read goes on being
+read.
 """
 
 import random
@@ -48,6 +49,8 @@ def corrected(text, rows):
 def of_tokens(draw, lines):
     """Changes the tokens of a message."""
     first = lines.index("  ...") + 1 if "  ..." in lines else 1
+    if first == len(lines):
+        return
     at = draw.randrange(first, len(lines))
     arrow, tokens = lines[at][:5], lines[at][5:].split(", ")
     place = draw.randrange(len(tokens))
@@ -124,7 +127,13 @@ def explained(program, texts):
 
 def left(text, place):
     lines = text.split("\n")
-    return len("\n".join(lines[place[0] - 1 :])) - (place[1] - 1)
+    return "\n".join(lines[place[0] - 1 :])[place[1] - 1 :]
+
+
+def is_later(text, place, other, other_place):
+    had, has = left(text, place), left(other, other_place)
+    is_read = place[2] == "line" or other_place[2] == "rule"
+    return is_read and len(has) < len(had) and had.endswith(has)
 
 
 def main():
@@ -145,7 +154,7 @@ def main():
             counts["none"] += 1
         elif other_place is None:
             counts["valid"] += 1
-        elif left(other, other_place) < left(text, place) and not (place[2] == "rule" and other_place[2] == "line"):
+        elif is_later(text, place, other, other_place):
             counts["later"] += 1
         else:
             sys.exit("patterns: a correction that doesn't hold:\n" + text + "\n".join(rows) + "\nwhich gives\n" + other)

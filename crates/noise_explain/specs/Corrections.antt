@@ -1,5 +1,5 @@
 -- Corrections of a pattern text: changes of its lines, after which it is valid, or its first fault comes later.
-use Rattle.std.specs.Prelude.{◌≡◌, ◌≤◌, ◌<◌, ◌⊎◌, ℕ, ◌-◌, List, [], ◌∷◌, ◌++◌, Option, None, Some, codes, decimal, flat_map, length, nat_eq, take, if◌then◌else◌}
+use Rattle.std.specs.Prelude.{◌≡◌, ◌≤◌, ◌<◌, ◌⊎◌, ℕ, ◌-◌, List, [], ◌∷◌, ◌++◌, Option, None, Some, codes, decimal, drop, flat_map, length, nat_eq, take, if◌then◌else◌}
 use Rattle.noise_names.specs.Plan.{Plan}
 use Rattle.noise_names.specs.Text.{Spells}
 use Rattle.noise_names.specs.Validity.{IsValid}
@@ -48,11 +48,12 @@ pub record IsFirst (text : List ℕ) (fault : Fault) (position : Position) : Typ
   pub wrong : IsCheckFault text fault
   pub at : IsAt text fault position
 
--- how much of a text is left from a position on
-abbrev pub left_from : Position → List ℕ → ℕ
-left_from position text = length (from_line position.line text) - (position.column - 1)
+-- what is left of a text from a position on
+abbrev pub left_from : Position → List ℕ → List ℕ
+left_from position text = drop (position.column - 1) (from_line position.line text)
 
--- less of the other text is left from its first fault on than of this one, and a text that is read goes on being read
+-- The first fault of the other text comes later than that of this one: what is left of it from there on is the end of
+-- what is left of this one from its first fault on, and not all of that. A text that is read goes on being read.
 pub record IsLater (text other : List ℕ) : Type 0 where
   pub fault : Fault
   pub position : Position
@@ -61,7 +62,9 @@ pub record IsLater (text other : List ℕ) : Type 0 where
   pub other_position : Position
   pub other_first : IsFirst other other_fault other_position
   pub status : status_of other_fault ≤ status_of fault
-  pub less : left_from other_position other < left_from position text
+  pub passed : List ℕ
+  pub some : 0 < length passed
+  pub left : left_from position text ≡ passed ++ left_from other_position other
 
 -- the changes correct a text: it is valid then, or its first fault comes later
 abbrev pub Holds : List ℕ → List Change → Type 0

@@ -68,13 +68,14 @@ fn first_rule(text: &[u8], pattern: Pattern) -> Result<Option<Found>, AllocError
     }
 }
 
-// How many bytes of a text are left from a position on.
-fn left_from(text: &[u8], position: Position) -> usize
-    ensures { result ≡ left_from position text.now }
+// What is left of a text from a position on.
+fn left_from(text: &[u8], position: Position) -> &[u8]
+    ensures { result.now ≡ left_from position text.now }
 {
-    from_line(text, position.line)
-        .len()
-        .saturating_sub(position.column.saturating_sub(1))
+    let rest = from_line(text, position.line);
+    let passed = position.column.saturating_sub(1);
+    let (_, left) = rest.split_at(passed.min(rest.len()));
+    left
 }
 
 // How much is left after these changes, 0 of a valid text, where they correct the text.
@@ -94,7 +95,7 @@ fn left_after(
     }
 }
 
-// How much of the other text is left from its first fault on, and one more, where that comes later.
+// How many bytes of the other text are left from its first fault on, and one more, where that comes later.
 fn left_if_later(text: &[u8], found: Found, other: &[u8], later: Found) -> Option<usize>
     requires first { IsFirst text.now found.fault found.position }
     requires other_first { IsFirst other.now later.fault later.position }
@@ -102,13 +103,16 @@ fn left_if_later(text: &[u8], found: Found, other: &[u8], later: Found) -> Optio
 {
     let had = left_from(text, found.position);
     let left = left_from(other, later.position);
-    if left >= had {
-        return None;
-    }
     if later.fault.status() > found.fault.status() {
         return None;
     }
-    Some(left.saturating_add(1))
+    if left.len() >= had.len() {
+        return None;
+    }
+    if !had.ends_with(left) {
+        return None;
+    }
+    Some(left.len().saturating_add(1))
 }
 
 // Of these corrections the first one after which the text is valid, or else the one whose first fault is latest; none
