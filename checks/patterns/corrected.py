@@ -1,9 +1,9 @@
 """The corrections that `noise explain` prints of broken patterns: corrected.py PROGRAM COUNT SEED.
 
 Valid patterns (explained.py) are broken at random, in their tokens or in their form. What is printed is done to the
-text, line by line as it says. Then `noise check` has to take the text, or its first fault has to come later: what is
-left of the text from it on is the end of what was left before, and not all of it. A text that is read goes on being
-read.
+text, line by line as it says. Then `noise check` has to take the text, or its first fault has to come later: less of the
+text is left from it on, and it stands at a later position, or what is left is the end of what was left before. A text
+that is read goes on being read.
 """
 
 import random
@@ -133,7 +133,7 @@ def left(text, place):
 def is_later(text, place, other, other_place):
     had, has = left(text, place), left(other, other_place)
     is_read = place[2] == "line" or other_place[2] == "rule"
-    return is_read and len(has) < len(had) and had.endswith(has)
+    return is_read and len(has) < len(had) and (other_place[:2] > place[:2] or had.endswith(has))
 
 
 def main():

@@ -52,8 +52,12 @@ pub record IsFirst (text : List ℕ) (fault : Fault) (position : Position) : Typ
 abbrev pub left_from : Position → List ℕ → List ℕ
 left_from position text = drop (position.column - 1) (from_line position.line text)
 
--- The first fault of the other text comes later than that of this one: what is left of it from there on is the end of
--- what is left of this one from its first fault on, and not all of that. A text that is read goes on being read.
+-- a position in a later line, or farther on in the line
+abbrev pub IsBehind : Position → Position → Type 0
+IsBehind later position = (position.line < later.line) ⊎ ((later.line ≡ position.line) × (position.column < later.column))
+
+-- The first fault of the other text comes later than that of this one: less is left from it on, and it stands at a later
+-- position, or what is left is the end of what was left before. A text that is read goes on being read.
 pub record IsLater (text other : List ℕ) : Type 0 where
   pub fault : Fault
   pub position : Position
@@ -62,9 +66,9 @@ pub record IsLater (text other : List ℕ) : Type 0 where
   pub other_position : Position
   pub other_first : IsFirst other other_fault other_position
   pub status : status_of other_fault ≤ status_of fault
-  pub passed : List ℕ
-  pub some : 0 < length passed
-  pub left : left_from position text ≡ passed ++ left_from other_position other
+  pub less : length (left_from other_position other) < length (left_from position text)
+  pub moved : IsBehind other_position position
+      ⊎ ((passed : List ℕ) × (left_from position text ≡ passed ++ left_from other_position other))
 
 -- the changes correct a text: it is valid then, or its first fault comes later
 abbrev pub Holds : List ℕ → List Change → Type 0

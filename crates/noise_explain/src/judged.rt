@@ -1,10 +1,10 @@
 //! Which of some corrections of a pattern text is told: they are tried by the judge that `check` has.
 
-ghost use Rattle.std.specs.Prelude.{◌≡◌, IfOk, IfSome, MatchOption};
+ghost use Rattle.std.specs.Prelude.{◌≡◌, IfOk, IfSome, IsTrue, MatchOption};
 ghost use Rattle.noise_lines.specs.Output.{IsCheckFault};
 ghost use Rattle.noise_lines.specs.declared.faults.Fault.TheVariants.{Text};
 ghost use Rattle.noise_names.specs.Text.{Spells};
-ghost use Rattle.noise_explain.specs.Corrections.{Holds, IsFirst, IsLater, IsRight, left_from};
+ghost use Rattle.noise_explain.specs.Corrections.{Holds, IsBehind, IsFirst, IsLater, IsRight, left_from};
 
 use crate::change::{Change, corrected};
 use crate::column::column_of;
@@ -95,6 +95,17 @@ fn left_after(
     }
 }
 
+// Whether the one position stands in a later line, or farther on in the line.
+fn is_behind(later: Position, position: Position) -> bool
+    ensures { IsTrue result → IsBehind later position }
+{
+    if later.line == position.line {
+        later.column > position.column
+    } else {
+        later.line > position.line
+    }
+}
+
 // How many bytes of the other text are left from its first fault on, and one more, where that comes later.
 fn left_if_later(text: &[u8], found: Found, other: &[u8], later: Found) -> Option<usize>
     requires first { IsFirst text.now found.fault found.position }
@@ -109,10 +120,10 @@ fn left_if_later(text: &[u8], found: Found, other: &[u8], later: Found) -> Optio
     if left.len() >= had.len() {
         return None;
     }
-    if !had.ends_with(left) {
-        return None;
+    if is_behind(later.position, found.position) || had.ends_with(left) {
+        return Some(left.len().saturating_add(1));
     }
-    Some(left.len().saturating_add(1))
+    None
 }
 
 // Of these corrections the first one after which the text is valid, or else the one whose first fault is latest; none

@@ -132,16 +132,17 @@ fn push_name(words: &[u8], line: &mut Vec<u8>) -> Result<(), AllocError> {
 
 // How many letters and digits stand at the front, before a psk modifier.
 fn name_len(words: &[u8]) -> usize {
-    let mut rest = words;
-    let mut len: usize = 0;
-    while let Some((first, after)) = rest.split_first() {
-        if !first.is_ascii_alphanumeric() || rest.starts_with(b"psk".as_slice()) {
+    for len in 0..words.len() {
+        let (_, rest) = words.split_at(len.min(words.len()));
+        let is_in_name = match rest.first() {
+            Some(byte) => byte.is_ascii_alphanumeric(),
+            None => false,
+        };
+        if !is_in_name || rest.starts_with(b"psk".as_slice()) {
             return len;
         }
-        len = len.saturating_add(1);
-        rest = after;
     }
-    len
+    words.len()
 }
 
 // Appends the psk modifiers that stand somewhere in a text, in rising order.
@@ -163,12 +164,11 @@ pub(crate) fn push_modifiers(text: &[u8], line: &mut Vec<u8>) -> Result<(), Allo
 
 // Whether psk with this digit stands somewhere in a text.
 fn has_modifier(text: &[u8], digit: u8) -> bool {
-    let mut rest = text;
-    while let Some((_, after)) = rest.split_first() {
+    for at in 0..text.len() {
+        let (_, rest) = text.split_at(at.min(text.len()));
         if rest.starts_with(b"psk".as_slice()) && rest.get(3).copied() == Some(digit) {
             return true;
         }
-        rest = after;
     }
     false
 }
