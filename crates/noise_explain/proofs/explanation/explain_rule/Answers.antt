@@ -5,8 +5,10 @@ use Rattle.noise_explain.proofs.ExplainedLemmas.{fault-said, rule-first}
 use Rattle.noise_explain.proofs.explanation.explain_rule.Goals as goal
 
 pub all_rule_lines-requires : goal.all_rule_lines-requires
-all_rule_lines-requires c =
-    rule-first c.args.text.now c.args.pattern.now c.args.fault c.rule_place-position.result c.requires.spells c.requires.fault c.rule_place-position.ensures
+all_rule_lines-requires c = record {
+  first = rule-first c.args.text.now c.args.pattern.now c.args.fault c.rule_place-position.result c.requires.spells c.requires.fault
+      c.rule_place-position.ensures;
+}
 
 pub returns-clause-said : goal.returns-clause-said
 returns-clause-said c =
