@@ -120,6 +120,9 @@ def value(text: str, at: Values) -> bytes:
         if text.startswith(front):
             data = value(text.removeprefix(front), at)
             return digest(digest(at["h"] + data) + (at[then] if then else data))
+    chosen = re.fullmatch(r"output (\d) of (HKDF\(.*\))", text)
+    if chosen:
+        return value(f"{chosen[2]}, output {chosen[1]}", at)
     words = parts_of(text, " + ")
     if len(words) > 1:
         # (a length stands in front of all that is behind it)

@@ -264,8 +264,11 @@ other_operations other = other_keys_operations
 abbrev pub formed_by : Source → Form → Input
 formed_by s f = record { form = f; source = s }
 
+abbrev pub plain_input : Source → Input
+plain_input s = formed_by s form.Plain
+
 abbrev pub plain_inputs : Value → List Input
-plain_inputs value = map (λ s. formed_by s form.Plain) (sources value)
+plain_inputs value = map plain_input (sources value)
 
 abbrev pub formed : Source → List Input
 formed s = map (formed_by s) forms

@@ -56,9 +56,10 @@ taken kind.Secret at = Some at.secret
 taken kind.Text at = Some at.text.now
 taken other at = None
 
-unfoldable pub is_name : Kind → Bool
-is_name kind.Name = true
-is_name other = false
+-- it comes after the name
+unfoldable pub is_after_name : Kind → Bool
+is_after_name kind.Name = false
+is_after_name other = true
 
 unfoldable pub is_of_text : Kind → Bool
 is_of_text kind.Text = true
@@ -70,10 +71,10 @@ source_bytes Nothing at logged = Some []
 source_bytes Zeros at logged = Some (replicate 32 0)
 source_bytes Hash at logged = if has_before at.kind then Some at.before.hash else None
 source_bytes ChainingKey at logged = if has_before at.kind then Some at.before.chaining_key else None
-source_bytes Key at logged = if is_name at.kind then None else at.before.key
+source_bytes Key at logged = if is_after_name at.kind then at.before.key else None
 source_bytes RightHash at logged = if has_after at.kind then Some at.right.hash else None
 source_bytes RightChainingKey at logged = if has_after at.kind then Some at.right.chaining_key else None
-source_bytes Name at logged = if is_name at.kind then None else Some at.name.now
+source_bytes Name at logged = if is_after_name at.kind then Some at.name.now else None
 source_bytes Taken at logged = taken at.kind at
 source_bytes RightBytes at logged = if is_of_text at.kind then Some at.bytes.now else None
 source_bytes LoggedBytes at logged = items_of logged.bytes

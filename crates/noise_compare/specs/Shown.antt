@@ -40,19 +40,19 @@ taken_word kind.Text = codes "text"
 taken_word other = codes "nothing"
 
 unfoldable pub source_word : Kind → Source → List ℕ
-source_word kind Nothing = codes "nothing"
-source_word kind Zeros = codes "32 zeros"
-source_word kind Hash = codes "h"
-source_word kind ChainingKey = codes "ck"
-source_word kind Key = codes "k"
-source_word kind RightHash = codes "right h"
-source_word kind RightChainingKey = codes "right ck"
-source_word kind Name = codes "name"
-source_word kind Taken = taken_word kind
-source_word kind RightBytes = codes "right bytes"
-source_word kind LoggedBytes = codes "your bytes"
-source_word kind LoggedHash = codes "your h"
-source_word kind LoggedChainingKey = codes "your ck"
+source_word k Nothing = codes "nothing"
+source_word k Zeros = codes "32 zeros"
+source_word k Hash = codes "h"
+source_word k ChainingKey = codes "ck"
+source_word k Key = codes "k"
+source_word k RightHash = codes "right h"
+source_word k RightChainingKey = codes "right ck"
+source_word k Name = codes "name"
+source_word k Taken = taken_word k
+source_word k RightBytes = codes "right bytes"
+source_word k LoggedBytes = codes "your bytes"
+source_word k LoggedHash = codes "your h"
+source_word k LoggedChainingKey = codes "your ck"
 
 -- what stands before and after it in a form
 unfoldable pub form_front : Form → List ℕ
@@ -107,7 +107,9 @@ operation_front (DigestAfter s) = codes "SHA256("
 operation_front (DigestBefore s) = codes "SHA256("
 operation_front MixedTwice = codes "MixHash, twice, of "
 operation_front MixedFirst = codes "MixHash of what is right, after MixHash of "
-operation_front (MixedOutput o) = codes "SHA256(h + HKDF(ck, "
+operation_front (MixedOutput First) = codes "SHA256(h + output 1 of HKDF(ck, "
+operation_front (MixedOutput Second) = codes "SHA256(h + output 2 of HKDF(ck, "
+operation_front (MixedOutput Third) = codes "SHA256(h + output 3 of HKDF(ck, "
 operation_front (Code s) = codes "HMAC("
 operation_front (CodeUnder s) = codes "HMAC("
 operation_front (Expanded s e o) = codes "HKDF("
@@ -121,10 +123,10 @@ operation_front RenewedWith = codes "the first 32 bytes of AEAD(k, 2^64 - 1, "
 operation_front other = []
 
 unfoldable pub first_word : Kind → Operation → List ℕ
-first_word kind (DigestAfter s) = source_word kind s
-first_word kind (Code s) = source_word kind s
-first_word kind (Expanded s e o) = source_word kind s
-first_word kind other = []
+first_word k (DigestAfter s) = source_word k s
+first_word k (Code s) = source_word k s
+first_word k (Expanded s e o) = source_word k s
+first_word k other = []
 
 unfoldable pub joint_word : Operation → List ℕ
 joint_word (DigestAfter s) = codes " + "
@@ -136,7 +138,7 @@ unfoldable pub behind_word : Operation → List ℕ
 behind_word Digest = codes ")"
 behind_word (DigestAfter s) = codes ")"
 behind_word (DigestBefore s) = codes " + "
-behind_word (MixedOutput o) = codes ")"
+behind_word (MixedOutput o) = codes "))"
 behind_word (Code s) = codes ")"
 behind_word (CodeUnder s) = codes ", "
 behind_word (Expanded s e o) = codes ")"
@@ -151,10 +153,10 @@ behind_word ButTag = codes " but for the last 16 bytes"
 behind_word other = []
 
 unfoldable pub last_word : Kind → Operation → List ℕ
-last_word kind (DigestBefore s) = source_word kind s
-last_word kind (CodeUnder s) = source_word kind s
-last_word kind (ExpandedBy s o) = source_word kind s
-last_word kind other = []
+last_word k (DigestBefore s) = source_word k s
+last_word k (CodeUnder s) = source_word k s
+last_word k (ExpandedBy s o) = source_word k s
+last_word k other = []
 
 unfoldable pub end_word : Operation → List ℕ
 end_word (DigestBefore s) = codes ")"
@@ -167,34 +169,29 @@ expansion_of (Expanded s e o) = expansion_word e
 expansion_of other = []
 
 unfoldable pub output_word_of : Operation → List ℕ
-output_word_of (MixedOutput o) = output_word o
 output_word_of (Expanded s e o) = output_word o
 output_word_of (ExpandedBy s o) = output_word o
 output_word_of other = []
-
-unfoldable pub close_word : Operation → List ℕ
-close_word (MixedOutput o) = codes ")"
-close_word other = []
 
 abbrev pub joined : List (List ℕ) → List ℕ
 joined words = flat_map (λ word. word) words
 
 unfoldable pub equation_text : Kind → Equation → List ℕ
-equation_text kind e = joined (value_word e.value ∷ codes " = "
-    ∷ operation_front e.operation ∷ first_word kind e.operation ∷ joint_word e.operation
-    ∷ form_front e.input.form ∷ source_word kind e.input.source ∷ form_back e.input.form
-    ∷ behind_word e.operation ∷ last_word kind e.operation ∷ end_word e.operation
-    ∷ expansion_of e.operation ∷ output_word_of e.operation ∷ close_word e.operation ∷ [])
+equation_text k e = joined (value_word e.value ∷ codes " = "
+    ∷ operation_front e.operation ∷ first_word k e.operation ∷ joint_word e.operation
+    ∷ form_front e.input.form ∷ source_word k e.input.source ∷ form_back e.input.form
+    ∷ behind_word e.operation ∷ last_word k e.operation ∷ end_word e.operation
+    ∷ expansion_of e.operation ∷ output_word_of e.operation ∷ [])
 
 -- ---- the line of a value
 
 -- the shorter of a text and that of an equation, and the first of them where they have the same length
 abbrev pub shorter : Kind → List ℕ → Equation → List ℕ
-shorter kind best e = if nat_lt (length (equation_text kind e)) (length best) then equation_text kind e else best
+shorter k best e = if nat_lt (length (equation_text k e)) (length best) then equation_text k e else best
 
 -- the first of the shortest texts of some equations
 abbrev pub shortest : Kind → Equation → List Equation → List ℕ
-shortest kind first more = fold (shorter kind) (equation_text kind first) more
+shortest k first more = fold (shorter k) (equation_text k first) more
 
 -- how many characters in front are printable
 abbrev pub is_printable : ℕ → Bool
@@ -214,14 +211,14 @@ unfound_text v bytes = if is_words bytes
 
 -- the shortest of these equations, and how many they are
 unfoldable pub found_text : Kind → Equation → List Equation → List ℕ
-found_text kind first more = if length more == 0
-    then joined (codes "    " ∷ shortest kind first more ∷ (10 ∷ []) ∷ [])
-    else joined (codes "    " ∷ shortest kind first more ∷ codes ", the shortest of " ∷ decimal (length more + 1)
+found_text k first more = if length more == 0
+    then joined (codes "    " ∷ shortest k first more ∷ (10 ∷ []) ∷ [])
+    else joined (codes "    " ∷ shortest k first more ∷ codes ", the shortest of " ∷ decimal (length more + 1)
     ∷ ended (codes " equations that hold") ∷ [])
 
 abbrev pub differing_text : Value → Kind → List ℕ → List Equation → List ℕ
-differing_text v kind bytes [] = unfound_text v bytes
-differing_text v kind bytes (first ∷ more) = found_text kind first more
+differing_text v k bytes [] = unfound_text v bytes
+differing_text v k bytes (first ∷ more) = found_text k first more
 
 unfoldable pub right_text : Value → List ℕ
 right_text v = joined (codes "    " ∷ value_word v ∷ ended (codes " is right") ∷ [])

@@ -1,12 +1,12 @@
 //! The equations that are tried.
 
 ghost use Rattle.std.specs.Prelude.{◌≡◌, ◌++◌, IfOk, OnOk, map};
-ghost use Rattle.noise_compare.specs.Equations.{equations, formed, formed_sources, forms, inputs, operations, other_operations, paired, pairs, plain_inputs, sources};
+ghost use Rattle.noise_compare.specs.Equations.{equations, formed, formed_sources, forms, inputs, operations, other_operations, paired, pairs, plain_input, plain_inputs, sources};
 
 use std::alloc::{AllocError, Global};
 
 /// A value of a logged line.
-#[derive(Clone, Copy, PartialEq, Eq)]
+#[derive(Clone, Copy)]
 pub enum Value {
     Bytes,
     Hash,
@@ -15,7 +15,7 @@ pub enum Value {
 }
 
 /// What an operation may take.
-#[derive(Clone, Copy, PartialEq, Eq)]
+#[derive(Clone, Copy)]
 pub enum Source {
     /// No bytes.
     Nothing,
@@ -46,7 +46,7 @@ pub enum Source {
 }
 
 /// A form of what an operation takes.
-#[derive(Clone, Copy, PartialEq, Eq)]
+#[derive(Clone, Copy)]
 pub enum Form {
     /// As it is.
     Plain,
@@ -85,14 +85,14 @@ pub enum Form {
 }
 
 /// What an operation takes, in a form.
-#[derive(Clone, Copy, PartialEq, Eq)]
+#[derive(Clone, Copy)]
 pub struct Input {
     pub form: Form,
     pub source: Source,
 }
 
 /// How HKDF makes its outputs of its temporary key.
-#[derive(Clone, Copy, PartialEq, Eq)]
+#[derive(Clone, Copy)]
 pub enum Expansion {
     /// As in 4.3.
     Standard,
@@ -115,7 +115,7 @@ pub enum Expansion {
 }
 
 /// An output of HKDF.
-#[derive(Clone, Copy, PartialEq, Eq)]
+#[derive(Clone, Copy)]
 pub enum Output {
     First,
     Second,
@@ -123,7 +123,7 @@ pub enum Output {
 }
 
 /// What is done with an input.
-#[derive(Clone, Copy, PartialEq, Eq)]
+#[derive(Clone, Copy)]
 pub enum Operation {
     /// Nothing.
     Same,
@@ -164,7 +164,7 @@ pub enum Operation {
 }
 
 /// That a value is what an operation gives of an input.
-#[derive(Clone, Copy, PartialEq, Eq)]
+#[derive(Clone, Copy)]
 pub struct Equation {
     pub value: Value,
     pub operation: Operation,
@@ -244,11 +244,17 @@ fn plain_inputs(alloc: Global, value: Value) -> Result<Vec<Input>, AllocError>
 {
     sources(value)
         .iter()
-        .map(|source| Input {
-            form: Form::Plain,
-            source: *source,
-        })
+        .map(|source| plain_input(*source))
         .collect(alloc)
+}
+
+fn plain_input(source: Source) -> Input
+    ensures { result ≡ plain_input source }
+{
+    Input {
+        form: Form::Plain,
+        source,
+    }
 }
 
 // ---- the tables
@@ -256,7 +262,7 @@ fn plain_inputs(alloc: Global, value: Value) -> Result<Vec<Input>, AllocError>
 fn forms() -> &'static [Form]
     ensures { result.now ≡ forms }
 {
-    &FORMS
+    &ALL_FORMS
 }
 
 #[tactic(auto, unfolding(crate::specs::Equations::sources))]
@@ -304,7 +310,7 @@ fn other_operations(value: Value) -> &'static [Operation]
     }
 }
 
-static FORMS: [Form; 18] = [
+static ALL_FORMS: [Form; 18] = [
     Form::Reversed,
     Form::Digested,
     Form::HexDigits,

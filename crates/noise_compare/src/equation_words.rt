@@ -1,7 +1,7 @@
 //! The words of an equation.
 
 ghost use Rattle.std.specs.Prelude.{◌≡◌, ◌++◌, IfOk, OnOk, flat_map};
-ghost use Rattle.noise_compare.specs.Shown.{behind_word, close_word, end_word, equation_text, expansion_of, expansion_word, first_word, form_back, form_front, joint_word, last_word, operation_front, output_word, output_word_of, source_word, taken_word, value_word};
+ghost use Rattle.noise_compare.specs.Shown.{behind_word, end_word, equation_text, expansion_of, expansion_word, first_word, form_back, form_front, joint_word, last_word, operation_front, output_word, output_word_of, source_word, taken_word, value_word};
 
 use crate::equation::{Equation, Expansion, Form, Operation, Output, Source, Value};
 use crate::state::Kind;
@@ -37,7 +37,6 @@ pub(crate) fn equation_text(
             end_word(operation),
             expansion_of(operation),
             output_word_of(operation),
-            close_word(operation),
         ],
         &mut text,
     )?;
@@ -59,7 +58,7 @@ pub(crate) fn push_parts(parts: &[&[u8]], text: &mut Vec<u8>) -> Result<(), Allo
     ensures { OnOk result (text.new.items ≡ text.old.items ++ flat_map (λ part. part.now) parts.now) }
 {
     for part in parts {
-        text.extend_from_slice(part)?;
+        text.extend_from_slice(*part)?;
     }
     Ok(())
 }
@@ -72,7 +71,9 @@ fn operation_front(operation: Operation) -> &'static str
         Operation::Digest | Operation::DigestAfter(_) | Operation::DigestBefore(_) => "SHA256(",
         Operation::MixedTwice => "MixHash, twice, of ",
         Operation::MixedFirst => "MixHash of what is right, after MixHash of ",
-        Operation::MixedOutput(_) => "SHA256(h + HKDF(ck, ",
+        Operation::MixedOutput(Output::First) => "SHA256(h + output 1 of HKDF(ck, ",
+        Operation::MixedOutput(Output::Second) => "SHA256(h + output 2 of HKDF(ck, ",
+        Operation::MixedOutput(Output::Third) => "SHA256(h + output 3 of HKDF(ck, ",
         Operation::Code(_) | Operation::CodeUnder(_) => "HMAC(",
         Operation::Expanded(_, _, _) | Operation::ExpandedBy(_, _) => "HKDF(",
         Operation::Sealed => "AEAD(k, n, h, ",
@@ -115,7 +116,6 @@ fn behind_word(operation: Operation) -> &'static str
     match operation {
         Operation::Digest
         | Operation::DigestAfter(_)
-        | Operation::MixedOutput(_)
         | Operation::Code(_)
         | Operation::Expanded(_, _, _)
         | Operation::Sealed
@@ -127,6 +127,7 @@ fn behind_word(operation: Operation) -> &'static str
         Operation::SealedUnder => ", n, h, text)",
         Operation::RenewedWith => ", 32 zeros)",
         Operation::ButTag => " but for the last 16 bytes",
+        Operation::MixedOutput(_) => "))",
         _ => "",
     }
 }
@@ -168,19 +169,8 @@ fn output_word_of(operation: Operation) -> &'static str
     ensures { result.now ≡ output_word_of operation }
 {
     match operation {
-        Operation::MixedOutput(output) => output_word(output),
         Operation::Expanded(_, _, output) => output_word(output),
         Operation::ExpandedBy(_, output) => output_word(output),
-        _ => "",
-    }
-}
-
-#[tactic(auto, unfolding(crate::specs::Shown::close_word))]
-fn close_word(operation: Operation) -> &'static str
-    ensures { result.now ≡ close_word operation }
-{
-    match operation {
-        Operation::MixedOutput(_) => ")",
         _ => "",
     }
 }

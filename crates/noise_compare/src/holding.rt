@@ -122,7 +122,10 @@ fn digest_after(other: Option<&[u8]>, input: &[u8], value: &[u8]) -> bool
 {
     match other {
         None => false,
-        Some(other) => value == mixed(other, input).as_slice(),
+        Some(other) => {
+            let made = mixed(other, input);
+            value == made.as_slice()
+        }
     }
 }
 
@@ -131,7 +134,10 @@ fn digest_before(other: Option<&[u8]>, input: &[u8], value: &[u8]) -> bool
 {
     match other {
         None => false,
-        Some(other) => value == mixed(input, other).as_slice(),
+        Some(other) => {
+            let made = mixed(input, other);
+            value == made.as_slice()
+        }
     }
 }
 
@@ -143,7 +149,8 @@ fn mixed_twice(hash: Option<&[u8]>, input: &[u8], then: &[u8], value: &[u8]) -> 
         None => false,
         Some(hash) => {
             let first = mixed(hash, input);
-            value == mixed(&first, then).as_slice()
+            let made = mixed(&first, then);
+            value == made.as_slice()
         }
     }
 }
@@ -170,7 +177,10 @@ fn code_gives(other: Option<&[u8]>, input: &[u8], value: &[u8]) -> bool
 {
     match other {
         None => false,
-        Some(other) => value == code_of(other, input).as_slice(),
+        Some(other) => {
+            let made = code_of(other, input);
+            value == made.as_slice()
+        }
     }
 }
 
@@ -179,7 +189,10 @@ fn code_under_gives(other: Option<&[u8]>, input: &[u8], value: &[u8]) -> bool
 {
     match other {
         None => false,
-        Some(other) => value == code_of(input, other).as_slice(),
+        Some(other) => {
+            let made = code_of(input, other);
+            value == made.as_slice()
+        }
     }
 }
 

@@ -141,16 +141,16 @@ fn push_found(
 ) -> Result<(), AllocError>
     ensures { OnOk result (text.new.items ≡ text.old.items ++ found_text kind first more.now) }
 {
-    let shortest = shortest(alloc, kind, first, more)?;
+    let best = shortest(alloc, kind, first, more)?;
     if more.is_empty() {
-        return push_parts(&[b"    ", &shortest, b"\n"], text);
+        return push_parts(&[b"    ", best.as_slice(), b"\n"], text);
     }
     let count = more.len() + 1;
     let count = format!(in alloc; "{count}")?;
     push_parts(
         &[
             b"    ",
-            &shortest,
+            best.as_slice(),
             b", the shortest of ",
             count.as_bytes(),
             b" equations that hold\n",

@@ -4,7 +4,7 @@ ghost use Rattle.std.specs.Prelude.{◌≡◌, ◌++◌, None, Some, IfOk, drop,
 ghost use Rattle.hex.specs.Hex.{encode_lower};
 ghost use Rattle.sha2.specs.Sha256.{sha256};
 ghost use Rattle.noise_compare.specs.Values.{items_of};
-ghost use Rattle.noise_compare.specs.Holding.{has_after, has_before, in_form, is_name, is_of_text, logged_value, source_bytes, taken};
+ghost use Rattle.noise_compare.specs.Holding.{has_after, has_before, in_form, is_after_name, is_of_text, logged_value, source_bytes, taken};
 
 use crate::equation::{Form, Source, Value};
 use crate::state::{Kind, Logged, Situation};
@@ -24,14 +24,14 @@ pub(crate) fn source_bytes<'a>(
     ensures { option_copied result ≡ source_bytes source at.now logged.now }
 {
     match source {
-        Source::Nothing => Some(&[]),
-        Source::Zeros => Some(&ZEROS),
+        Source::Nothing => when(true, &[]),
+        Source::Zeros => when(true, &ZEROS),
         Source::Hash => when(has_before(at.kind), &at.before.hash),
         Source::ChainingKey => when(has_before(at.kind), &at.before.chaining_key),
         Source::Key => key_before(at),
         Source::RightHash => when(has_after(at.kind), &at.right.hash),
         Source::RightChainingKey => when(has_after(at.kind), &at.right.chaining_key),
-        Source::Name => when(!is_name(at.kind), at.name),
+        Source::Name => when(is_after_name(at.kind), at.name),
         Source::Taken => taken(at.kind, at),
         Source::RightBytes => when(is_of_text(at.kind), at.bytes),
         Source::LoggedBytes => bytes_of(&logged.bytes),
@@ -56,13 +56,13 @@ fn bytes_of<'a>(value: &'a Option<Vec<u8>>) -> Option<&'a [u8]>
 }
 
 fn key_before<'a>(at: &'a Situation<'_>) -> Option<&'a [u8]>
-    ensures { option_copied result ≡ (if is_name at.now.kind then None else at.now.before.key) }
+    ensures { option_copied result ≡ (if is_after_name at.now.kind then at.now.before.key else None) }
 {
-    if is_name(at.kind) {
+    if !is_after_name(at.kind) {
         return None;
     }
     match &at.before.key {
-        Some(key) => Some(key),
+        Some(key) => when(true, key),
         None => None,
     }
 }
@@ -74,7 +74,7 @@ fn taken<'a>(kind: Kind, at: &'a Situation<'_>) -> Option<&'a [u8]>
     match kind {
         Kind::Name => Some(at.name),
         Kind::Prologue | Kind::Data | Kind::Ephemeral => Some(at.data),
-        Kind::Agreement | Kind::Secret => Some(&at.secret),
+        Kind::Agreement | Kind::Secret => when(true, &at.secret),
         Kind::Text => Some(at.text),
         Kind::Opening | Kind::Rekeyed | Kind::Transport => None,
     }
@@ -100,13 +100,13 @@ fn has_after(kind: Kind) -> bool
     }
 }
 
-#[tactic(auto, unfolding(crate::specs::Holding::is_name))]
-fn is_name(kind: Kind) -> bool
-    ensures { result ≡ is_name kind }
+#[tactic(auto, unfolding(crate::specs::Holding::is_after_name))]
+fn is_after_name(kind: Kind) -> bool
+    ensures { result ≡ is_after_name kind }
 {
     match kind {
-        Kind::Name => true,
-        _ => false,
+        Kind::Name => false,
+        _ => true,
     }
 }
 
