@@ -220,12 +220,12 @@ abbrev pub differing_text : Value → Kind → List ℕ → List Equation → Li
 differing_text v k bytes [] = unfound_text v bytes
 differing_text v k bytes (first ∷ more) = found_text k first more
 
-unfoldable pub right_text : Value → List ℕ
-right_text v = joined (codes "    " ∷ value_word v ∷ ended (codes " is right") ∷ [])
+unfoldable pub right_line : Value → List ℕ
+right_line v = joined (codes "    " ∷ value_word v ∷ ended (codes " is right") ∷ [])
 
 abbrev pub logged_text : Value → Situation → Logged → Option (List ℕ) → List ℕ
 logged_text v at logged None = []
-logged_text v at logged (Some bytes) = if is_value_right v at logged then right_text v
+logged_text v at logged (Some bytes) = if is_value_right v at logged then right_line v
     else differing_text v at.kind bytes (found_equations v at logged)
 
 -- that the value is right, or the shortest equation of those that hold, and how many do

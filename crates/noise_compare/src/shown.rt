@@ -1,7 +1,7 @@
 //! What the logged values of a step show.
 
 ghost use Rattle.std.specs.Prelude.{◌≡◌, ◌≤◌, ◌++◌, IfOk, OnOk, length};
-ghost use Rattle.noise_compare.specs.Shown.{differing_text, found_text, is_printable, is_words, printable, right_text, shortest, shown_head, shown_text, unfound_text, value_line};
+ghost use Rattle.noise_compare.specs.Shown.{differing_text, found_text, is_printable, is_words, printable, right_line, shortest, shown_head, shown_text, unfound_text, value_line};
 
 use crate::equation::{Equation, Value};
 use crate::equation_words::{equation_text, push_parts, value_word};
@@ -58,9 +58,9 @@ fn push_value_line(
     }
 }
 
-#[tactic(auto, unfolding(crate::specs::Shown::right_text))]
+#[tactic(auto, unfolding(crate::specs::Shown::right_line))]
 fn push_right(value: Value, text: &mut Vec<u8>) -> Result<(), AllocError>
-    ensures { OnOk result (text.new.items ≡ text.old.items ++ right_text value) }
+    ensures { OnOk result (text.new.items ≡ text.old.items ++ right_line value) }
 {
     push_parts(
         &[b"    ", value_word(value).as_bytes(), b" is right\n"],
