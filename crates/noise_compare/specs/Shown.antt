@@ -204,9 +204,12 @@ printable bytes = length (take_while is_printable bytes)
 abbrev pub is_words : List ℕ → Bool
 is_words bytes = nat_le 8 (printable bytes) && (count_by (λ b. not (b == 0)) (drop (printable bytes) bytes) == 0)
 
+unfoldable pub printable_text : Value → List ℕ → List ℕ
+printable_text v characters =
+    joined (codes "    " ∷ value_word v ∷ codes " is the text " ∷ characters ∷ (10 ∷ []) ∷ [])
+
 unfoldable pub unfound_text : Value → List ℕ → List ℕ
-unfound_text v bytes = if is_words bytes
-    then joined (codes "    " ∷ value_word v ∷ codes " is the text " ∷ take (printable bytes) bytes ∷ (10 ∷ []) ∷ [])
+unfound_text v bytes = if is_words bytes then printable_text v (take (printable bytes) bytes)
     else joined (codes "    " ∷ value_word v ∷ ended (codes ": no equation that is tried holds") ∷ [])
 
 -- the shortest of these equations, and how many they are

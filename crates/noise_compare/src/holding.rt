@@ -118,7 +118,7 @@ fn is_digest(input: &[u8], value: &[u8]) -> bool
 }
 
 fn digest_after(other: Option<&[u8]>, input: &[u8], value: &[u8]) -> bool
-    ensures { result ≡ is_made (option_copied other) (λ y. sha256 (y ++ input.now)) value.now }
+    ensures { result ≡ is_made (option_copied other.entry) (λ y. sha256 (y ++ input.now)) value.now }
 {
     match other {
         None => false,
@@ -130,7 +130,7 @@ fn digest_after(other: Option<&[u8]>, input: &[u8], value: &[u8]) -> bool
 }
 
 fn digest_before(other: Option<&[u8]>, input: &[u8], value: &[u8]) -> bool
-    ensures { result ≡ is_made (option_copied other) (λ y. sha256 (input.now ++ y)) value.now }
+    ensures { result ≡ is_made (option_copied other.entry) (λ y. sha256 (input.now ++ y)) value.now }
 {
     match other {
         None => false,
@@ -143,7 +143,7 @@ fn digest_before(other: Option<&[u8]>, input: &[u8], value: &[u8]) -> bool
 
 // Whether MixHash of this input and then of another gives a value.
 fn mixed_twice(hash: Option<&[u8]>, input: &[u8], then: &[u8], value: &[u8]) -> bool
-    ensures { result ≡ is_made (option_copied hash) (λ h. sha256 (sha256 (h ++ input.now) ++ then.now)) value.now }
+    ensures { result ≡ is_made (option_copied hash.entry) (λ h. sha256 (sha256 (h ++ input.now) ++ then.now)) value.now }
 {
     match hash {
         None => false,
@@ -173,7 +173,7 @@ fn output_mixed(
 }
 
 fn code_gives(other: Option<&[u8]>, input: &[u8], value: &[u8]) -> bool
-    ensures { result ≡ is_made (option_copied other) (λ y. code_of y input.now) value.now }
+    ensures { result ≡ is_made (option_copied other.entry) (λ y. code_of y input.now) value.now }
 {
     match other {
         None => false,
@@ -185,7 +185,7 @@ fn code_gives(other: Option<&[u8]>, input: &[u8], value: &[u8]) -> bool
 }
 
 fn code_under_gives(other: Option<&[u8]>, input: &[u8], value: &[u8]) -> bool
-    ensures { result ≡ is_made (option_copied other) (λ y. code_of input.now y) value.now }
+    ensures { result ≡ is_made (option_copied other.entry) (λ y. code_of input.now y) value.now }
 {
     match other {
         None => false,
@@ -205,7 +205,7 @@ fn expanded_gives(
     input: &[u8],
     value: &[u8],
 ) -> Result<bool, AllocError>
-    ensures { IfOk result (λ b. b ≡ is_made (option_copied other)
+    ensures { IfOk result (λ b. b ≡ is_made (option_copied other.entry)
         (λ y. output_of expansion (code_of y input.now) output) value.now) }
 {
     match other {
@@ -222,7 +222,7 @@ fn expanded_by_gives(
     input: &[u8],
     value: &[u8],
 ) -> Result<bool, AllocError>
-    ensures { IfOk result (λ b. b ≡ is_made (option_copied other)
+    ensures { IfOk result (λ b. b ≡ is_made (option_copied other.entry)
         (λ y. output_of Standard (code_of input.now y) output) value.now) }
 {
     match other {

@@ -1,7 +1,7 @@
 //! What the logged values of a step show.
 
 ghost use Rattle.std.specs.Prelude.{◌≡◌, ◌≤◌, ◌++◌, IfOk, OnOk, length};
-ghost use Rattle.noise_compare.specs.Shown.{differing_text, found_text, is_printable, is_words, printable, right_line, shortest, shown_head, shown_text, unfound_text, value_line};
+ghost use Rattle.noise_compare.specs.Shown.{differing_text, found_text, is_printable, is_words, printable, printable_text, right_line, shortest, shown_head, shown_text, unfound_text, value_line};
 
 use crate::equation::{Equation, Value};
 use crate::equation_words::{equation_text, push_parts, value_word};
@@ -89,21 +89,31 @@ fn push_differing(
 fn push_unfound(value: Value, bytes: &[u8], text: &mut Vec<u8>) -> Result<(), AllocError>
     ensures { OnOk result (text.new.items ≡ text.old.items ++ unfound_text value bytes.now) }
 {
-    let word = value_word(value).as_bytes();
     if is_words(bytes) {
-        return push_parts(
-            &[
-                b"    ",
-                word,
-                b" is the text ",
-                &bytes[..printable(bytes)],
-                b"\n",
-            ],
-            text,
-        );
+        return push_printable(value, &bytes[..printable(bytes)], text);
     }
     push_parts(
-        &[b"    ", word, b": no equation that is tried holds\n"],
+        &[
+            b"    ",
+            value_word(value).as_bytes(),
+            b": no equation that is tried holds\n",
+        ],
+        text,
+    )
+}
+
+#[tactic(auto, unfolding(crate::specs::Shown::printable_text))]
+fn push_printable(value: Value, characters: &[u8], text: &mut Vec<u8>) -> Result<(), AllocError>
+    ensures { OnOk result (text.new.items ≡ text.old.items ++ printable_text value characters.now) }
+{
+    push_parts(
+        &[
+            b"    ",
+            value_word(value).as_bytes(),
+            b" is the text ",
+            characters,
+            b"\n",
+        ],
         text,
     )
 }
