@@ -6,4 +6,4 @@ use Rattle.noise_compare.proofs.equation.inputs.Given as goal
 -- the plain ones, and the forms of the sources so far
 abbrev pub invariant-loop-source : goal.invariant-loop-source
 invariant-loop-source l = l.inputs.items
-    ≡ plain_inputs l.value ++ flat_map formed (take l.source-index l.source-items)
+    ≡ plain_inputs l.fn.value ++ flat_map formed (take l.source-index l.source-items)
