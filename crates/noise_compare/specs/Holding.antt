@@ -143,11 +143,15 @@ is_sealed None nonce ad text v = false
 is_sealed (Some key) nonce ad text v =
     nat_le (length ad) 65535 && nat_le (length text) 65535 && bytes_eq v (sealed key nonce ad text)
 
--- its first 32 bytes (4.2)
+-- the value is the first 32 bytes of that
+abbrev pub is_sealed_front : Option (List ℕ) → List ℕ → List ℕ → List ℕ → List ℕ → Bool
+is_sealed_front None nonce ad text v = false
+is_sealed_front (Some key) nonce ad text v =
+    nat_le (length ad) 65535 && nat_le (length text) 65535 && bytes_eq v (take 32 (sealed key nonce ad text))
+
+-- likewise with the nonce of Rekey (4.2)
 abbrev pub is_renewed : Option (List ℕ) → List ℕ → List ℕ → List ℕ → Bool
-is_renewed None ad text v = false
-is_renewed (Some key) ad text v = nat_le (length ad) 65535 && nat_le (length text) 65535
-    && bytes_eq v (take 32 (sealed key (nonce_of 0xffff_ffff_ffff_ffff) ad text))
+is_renewed key ad text v = is_sealed_front key (nonce_of 0xffff_ffff_ffff_ffff) ad text v
 
 abbrev pub key_of : List ℕ → Option (List ℕ)
 key_of x = if length x == 32 then Some x else None

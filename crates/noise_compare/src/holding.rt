@@ -5,7 +5,7 @@ ghost use Rattle.std.specs.List.{filter};
 ghost use Rattle.std.specs.Str.{bytes_eq};
 ghost use Rattle.sha2.specs.Sha256.{sha256};
 ghost use Rattle.noise_aead.specs.Sealing.{nonce_of, sealed};
-ghost use Rattle.noise_compare.specs.Holding.{code_of, found_equations, gives, holds, holds_of, is_but_tag, is_made, is_renewed, is_sealed, is_value_right, key_of, output_of, source_bytes};
+ghost use Rattle.noise_compare.specs.Holding.{code_of, found_equations, gives, holds, holds_of, is_but_tag, is_made, is_renewed, is_sealed, is_sealed_front, is_value_right, key_of, output_of, source_bytes};
 ghost use Rattle.noise_compare.specs.declared.equation.Expansion.TheVariants.{Standard};
 ghost use Rattle.noise_compare.specs.declared.equation.Source.TheVariants.{Hash};
 
@@ -303,27 +303,41 @@ fn is_renewed(
 ) -> Result<bool, AllocError>
     ensures { IfOk result (λ b. b ≡ is_renewed key.now ad.now text.now value.now) }
 {
+    let last = nonce(u64::MAX);
+    is_sealed_front(alloc, key, &last, ad, text, value)
+}
+
+fn is_sealed_front(
+    alloc: Global,
+    key: &Option<[u8; 32]>,
+    nonce: &[u8; 12],
+    ad: &[u8],
+    text: &[u8],
+    value: &[u8],
+) -> Result<bool, AllocError>
+    ensures { IfOk result (λ b. b ≡ is_sealed_front key.now nonce.now ad.now text.now value.now) }
+{
     match key {
         None => Ok(false),
-        Some(key) => is_renewed_by(alloc, key, ad, text, value),
+        Some(key) => is_sealed_front_by(alloc, key, nonce, ad, text, value),
     }
 }
 
-fn is_renewed_by(
+fn is_sealed_front_by(
     alloc: Global,
     key: &[u8; 32],
+    nonce: &[u8; 12],
     ad: &[u8],
     text: &[u8],
     value: &[u8],
 ) -> Result<bool, AllocError>
     ensures { IfOk result (λ b. b ≡ (nat_le (length ad.now) 65535 && nat_le (length text.now) 65535
-        && bytes_eq value.now (take 32 (sealed key.now (nonce_of 0xffff_ffff_ffff_ffff) ad.now text.now)))) }
+        && bytes_eq value.now (take 32 (sealed key.now nonce.now ad.now text.now)))) }
 {
     if !(ad.len() <= 65535 && text.len() <= 65535) {
         return Ok(false);
     }
-    let last = nonce(u64::MAX);
-    let mut sealed = sealed_under(alloc, &Some(*key), &last, ad, text)?;
+    let mut sealed = sealed_under(alloc, &Some(*key), nonce, ad, text)?;
     sealed.truncate(32);
     Ok(value == sealed.as_slice())
 }
