@@ -206,7 +206,7 @@ is_words bytes = nat_le 8 (printable bytes) && (count_by (λ b. not (b == 0)) (d
 
 unfoldable pub printable_text : Value → List ℕ → List ℕ
 printable_text v characters =
-    joined (codes "    " ∷ value_word v ∷ codes " is the text " ∷ characters ∷ (10 ∷ []) ∷ [])
+    joined (codes "    " ∷ value_word v ∷ codes " is the text " ∷ []) ++ (characters ++ 10 ∷ [])
 
 unfoldable pub unfound_text : Value → List ℕ → List ℕ
 unfound_text v bytes = if is_words bytes then printable_text v (take (printable bytes) bytes)

@@ -111,11 +111,11 @@ fn push_printable(value: Value, characters: &[u8], text: &mut Vec<u8>) -> Result
             b"    ",
             value_word(value).as_bytes(),
             b" is the text ",
-            characters,
-            b"\n",
         ],
         text,
-    )
+    )?;
+    text.extend_from_slice(characters)?;
+    text.extend_from_slice(b"\n".as_slice())
 }
 
 // Whether these are 8 printable characters and more, and zeros.

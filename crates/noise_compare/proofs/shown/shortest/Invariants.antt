@@ -5,4 +5,4 @@ use Rattle.noise_compare.proofs.shown.shortest.Given as goal
 -- the shortest so far
 abbrev pub invariant-loop-equation : goal.invariant-loop-equation
 invariant-loop-equation l = l.best.items
-    ≡ fold (shorter l.kind) (equation_text l.kind l.first) (take l.equation-index l.more)
+    ≡ fold (shorter l.kind) (equation_text l.kind l.fn.first) (take l.equation-index l.more)
