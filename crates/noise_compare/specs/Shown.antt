@@ -204,9 +204,11 @@ printable bytes = length (take_while is_printable bytes)
 abbrev pub is_words : List ℕ → Bool
 is_words bytes = nat_le 8 (printable bytes) && (count_by (λ b. not (b == 0)) (drop (printable bytes) bytes) == 0)
 
+unfoldable pub printable_head : Value → List ℕ
+printable_head v = joined (codes "    " ∷ value_word v ∷ codes " is the text " ∷ [])
+
 unfoldable pub printable_text : Value → List ℕ → List ℕ
-printable_text v characters =
-    joined (codes "    " ∷ value_word v ∷ codes " is the text " ∷ []) ++ (characters ++ 10 ∷ [])
+printable_text v characters = printable_head v ++ (characters ++ 10 ∷ [])
 
 unfoldable pub unfound_text : Value → List ℕ → List ℕ
 unfound_text v bytes = if is_words bytes then printable_text v (take (printable bytes) bytes)

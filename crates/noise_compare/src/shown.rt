@@ -1,7 +1,7 @@
 //! What the logged values of a step show.
 
-ghost use Rattle.std.specs.Prelude.{◌≡◌, ◌≤◌, ◌++◌, IfOk, OnOk, length};
-ghost use Rattle.noise_compare.specs.Shown.{differing_text, found_text, is_printable, is_words, printable, printable_text, right_line, shortest, shown_head, shown_text, unfound_text, value_line};
+ghost use Rattle.std.specs.Prelude.{◌≡◌, ◌≤◌, ◌++◌, ◌∷◌, [], IfOk, OnOk, length};
+ghost use Rattle.noise_compare.specs.Shown.{differing_text, found_text, is_printable, is_words, printable, printable_head, printable_text, right_line, shortest, shown_head, shown_text, unfound_text, value_line};
 
 use crate::equation::{Equation, Value};
 use crate::equation_words::{equation_text, push_parts, value_word};
@@ -106,6 +106,14 @@ fn push_unfound(value: Value, bytes: &[u8], text: &mut Vec<u8>) -> Result<(), Al
 fn push_printable(value: Value, characters: &[u8], text: &mut Vec<u8>) -> Result<(), AllocError>
     ensures { OnOk result (text.new.items ≡ text.old.items ++ printable_text value characters.now) }
 {
+    push_printable_head(value, text)?;
+    push_characters(characters, text)
+}
+
+#[tactic(auto, unfolding(crate::specs::Shown::printable_head))]
+fn push_printable_head(value: Value, text: &mut Vec<u8>) -> Result<(), AllocError>
+    ensures { OnOk result (text.new.items ≡ text.old.items ++ printable_head value) }
+{
     push_parts(
         &[
             b"    ",
@@ -113,9 +121,15 @@ fn push_printable(value: Value, characters: &[u8], text: &mut Vec<u8>) -> Result
             b" is the text ",
         ],
         text,
-    )?;
+    )
+}
+
+// Appends characters and a line feed.
+fn push_characters(characters: &[u8], text: &mut Vec<u8>) -> Result<(), AllocError>
+    ensures { OnOk result (text.new.items ≡ text.old.items ++ (characters.now ++ 10 ∷ [])) }
+{
     text.extend_from_slice(characters)?;
-    text.extend_from_slice(b"\n".as_slice())
+    text.push(b'\n')
 }
 
 // Whether these are 8 printable characters and more, and zeros.
