@@ -129,7 +129,8 @@ fn push_characters(characters: &[u8], text: &mut Vec<u8>) -> Result<(), AllocErr
     ensures { OnOk result (text.new.items ≡ text.old.items ++ (characters.now ++ 10 ∷ [])) }
 {
     text.extend_from_slice(characters)?;
-    text.push(b'\n')
+    text.push(b'\n')?;
+    Ok(())
 }
 
 // Whether these are 8 printable characters and more, and zeros.
