@@ -1,40 +1,39 @@
 -- Two programs that run turn by turn.
-use Rattle.std.proofs.Common.{◌≡◌, ◌⊎◌, ◌<◌, ◌≤◌, ◌-◌, inl, inr, ℕ, suc, List, [], ◌∷◌, ◌++◌, length, drop, true, false, refl, ap, sym, subst, ◌∙◌, arith}
-use Rattle.std.specs.Prelude.{◌==◌, ◌&&◌, ◌↔◌, All, Err, IfOk, IfSome, IsSome, MatchOption, Ok, Option, Result, Some, Vec, max, not}
+use Rattle.std.proofs.Common.{◌≡◌, ◌⊎◌, ◌≤◌, ◌-◌, inl, inr, ℕ, suc, List, [], ◌∷◌, ◌++◌, length, drop, true, false, refl, ap, sym, subst, ◌∙◌, arith}
+use Rattle.std.specs.Prelude.{◌==◌, ◌↔◌, All, Err, IfOk, IfSome, IsSome, MatchOption, Ok, Option, Result, Some, Vec, max, not}
 use Rattle.std.specs.Global.{Global}
 use Rattle.std.specs.declared.alloc.AllocError.{AllocError}
 use Rattle.std.proofs.lemmas.List.{append_assoc, append-nil, drop_all, map-append}
 use Rattle.std.specs.Bool.{beq}
 use Rattle.noise_names.specs.declared.token.Role.TheVariants.{Initiator, Responder}
 use Rattle.noise_names.specs.Tokens.{other}
+use Rattle.noise_names.specs.Validity.{TokensKeepRules}
 use Rattle.noise_session.specs.Halves.{HalfValue}
 use Rattle.noise_c.specs.declared.structs.NoiseHalf.{NoiseHalf}
-use Rattle.noise_c.specs.declared.structs.NoiseResult.{NoiseResult}
 use Rattle.noise_c.specs.declared.structs.NoiseSetup.{NoiseSetup}
 use Rattle.noise_c.specs.declared.two_runs.Halves.{Halves}
 use Rattle.noise_c.specs.declared.two_runs.Ran.{Ran}
 use Rattle.noise_c.specs.declared.two_runs.Step.{Step}
 use Rattle.noise_c.specs.declared.two_runs.Turn.{Turn}
 use Rattle.noise_c.specs.declared.two_runs.Turn.TheVariants as turn
-use Rattle.noise_c.specs.declared.codes.numbers.TheConstants.{OK, RECEIVER, SENDER}
+use Rattle.noise_c.specs.declared.codes.numbers.TheConstants.{RECEIVER, SENDER}
 use Rattle.noise_c.specs.Finishing.{AreHalvesOf, Finishes}
 use Rattle.noise_c.specs.HalfStructs.{half_from_c, is_half, is_party}
-use Rattle.noise_c.specs.HandshakeStructs.{ForParty, IsStarted, entry_in, held_psks, key_to_c, own_in, psks_in}
-use Rattle.noise_c.specs.Outcomes.{WriteOutcome}
-use Rattle.noise_c.specs.Outcomes.WriteOutcome.{written, wants_dh_result as write_wants, wants_psk as write_wants_psk, withheld, no_room, unusable as write_unusable}
-use Rattle.noise_c.specs.RunSteps.{EndsAs, IsFirst, IsPassedAt, ReadTurn, ReadsStep, Runs, Turned, WritesStep}
+use Rattle.noise_c.specs.HandshakeStructs.{ForParty, IsStarted, held_psks, key_to_c, psks_in}
+use Rattle.noise_c.specs.RunSteps.{EndsAs, IsFirst, IsPassedAt, Runs, Turned}
 use Rattle.noise_c.specs.RunSteps.Runs.{none as none_yet, initiator as by_initiator, responder as by_responder}
-use Rattle.noise_c.specs.TwoPrograms.{Agree, Calls, HaveTalked, IsFront, Passed, Program, Secrets, TakesNext, TwoProgramsAgree, messages_in}
+use Rattle.noise_c.specs.TwoPrograms.{Agree, Calls, HaveTalked, IsFront, Passed, Program, Secrets, TwoProgramsAgree, messages_in}
 use Rattle.noise_c.specs.TwoPrograms.Calls.{none}
-use Rattle.noise_c.specs.TwoRuns.{Adds, Answers, AreRight, Asks, BeginAlike, Dh, IsWritten, Meet, ReadsFirst, RunIsRight, passed_at, passed_by, psks_of_turns, turns_of, waiting}
-use Rattle.noise_c.specs.TwoRuns.AreRight.{none as no_steps, one_more}
-use Rattle.noise_c.proofs.Common.{Bool, None, if◌then◌else◌, Plan, IsValid, Party, Role, WasRead, WasWritten, and_parts, code_of, drop-append_seam, false≢true, fault_in, handshake_from_c, key_from_c, nat_lt, nat_tests, pairs_in, party_with, psks_of, public_in, remote_of, role_in, setup_fault, start_code, table_of, text_from_c, IsPatternOf, NoiseHandshake}
+use Rattle.noise_c.specs.TwoRuns.{Adds, Answers, AreRight, BeginAlike, Dh, EndIsRight, Meet, has_strayed, passed_by, psks_of_turns, turns_of, waiting}
+use Rattle.noise_c.specs.TwoRuns.AreRight.{none as no_steps, one_more, strayed}
+use Rattle.noise_c.proofs.Common.{Bool, None, if◌then◌else◌, Plan, IsValid, Party, Role, and_parts, code_of, drop-append_seam, false≢true, fault_in, handshake_from_c, key_from_c, nat_lt, nat_tests, pairs_in, party_with, psks_of, public_in, remote_of, role_in, setup_fault, start_code, table_of, text_from_c, IsPatternOf, NoiseHandshake}
 use Rattle.noise_c.proofs.Alike.{Setups, meets, results_of, shown}
 use Rattle.noise_c.proofs.Finished.{finish-done}
-use Rattle.noise_c.proofs.Programs.{read-of, written-of}
-use Rattle.noise_c.proofs.Sides.{Side, named-in, own-party, side-answered, side-set, side-start, side-took, side-wrote}
+use Rattle.noise_c.proofs.Lengths.{overhead-few}
+use Rattle.noise_c.proofs.OneTurn.{Answers-with, Gone, Strays, passed-append, passed-one, psks-more, strayed-before, turned, turned-more}
+use Rattle.noise_c.proofs.Sides.{Side, named-in, own-party, side-start}
 use Rattle.noise_c.proofs.Toying.{code-is, no-fault}
-use Rattle.noise_c.proofs.WriteCodes.{WriteIs, role-of, write-done, write-due, write-early, write-is}
+use Rattle.noise_c.proofs.Turning.{runs-text}
 
 -- a program that began and has come so far
 abbrev pub program_of : List ℕ → List ℕ → NoiseSetup → Secrets → NoiseHandshake → List Passed → List Passed → NoiseHandshake → Program
@@ -81,10 +80,10 @@ module _ (setups : Setups) (law : TwoProgramsAgree) (text prologue : List ℕ) (
   front-part xs ys all f = (ys ++ f.0, f.1 ∙ append_assoc xs ys f.0)
 
   first : role_in g.responder ≡ Initiator
-  first = role-first g.responder alike.initiator
+  first = role-first g.responder alike.roles.0
 
   second : role_in h.responder ≡ Responder
-  second = role-second h.responder alike.responder
+  second = role-second h.responder alike.roles.1
 
   fault : setup_fault p Initiator (public_in (table_of g)) (remote_of g) (max (length (psks_in g)) (psks_of p.messages)) ≡ None
   fault = subst (λ (r : Role). setup_fault p r (public_in (table_of g)) (remote_of g) (max (length (psks_in g)) (psks_of p.messages)) ≡ None) first none_wrong
@@ -116,8 +115,8 @@ module _ (setups : Setups) (law : TwoProgramsAgree) (text prologue : List ℕ) (
     };
     prologue = refl;
     psks = refl;
-    known = shown setups p Initiator g h alike.knows fault;
-    known_too = shown setups p Responder h g alike.knows_too fault_too;
+    known = shown setups p Initiator g h alike.knows.0 fault;
+    known_too = shown setups p Responder h g alike.knows.1 fault_too;
     dh_results = meets setups p (public_in (table_of g)) (public_in (table_of h)) (remote_of g) (remote_of h) _ _ d d_too valid fault fault_too alike.agree;
     there = front-messages xs ws there;
     back = front-messages rs us back;
@@ -129,273 +128,6 @@ module _ (setups : Setups) (law : TwoProgramsAgree) (text prologue : List ℕ) (
   agreed a b ws rs us xs due due_too st st_too there back =
       law p (left a ws rs) (right b us xs) (talked a b ws rs us xs due due_too st st_too there back)
 
--- ---- the steps of a run
-
--- a message that isn't written leaves the struct as it was
-pub write-unchanged : (k next : NoiseHandshake) (payload out after : List ℕ) (results new : NoiseResult) (code : ℕ)
-    → WriteOutcome k payload out results next after new code → 0 < code → next ≡ k
-write-unchanged k next payload out after results new _ (written u m r l d f) e = absurd (omega (arith, e))
-write-unchanged k next payload out after results new _ (write_wants a b c f) e = b
-write-unchanged k next payload out after results new _ (write_wants_psk a b c f) e = b
-write-unchanged k next payload out after results new _ (withheld code low high a b c f) e = b
-write-unchanged k next payload out after results new _ (no_room a b c d g) e = d
-write-unchanged k next payload out after results new _ (write_unusable a b c d) e = c
-
-passed-append : (side reads : Bool) (ss ts : List Step) → passed_by side reads (ss ++ ts) ≡ passed_by side reads ss ++ passed_by side reads ts
-passed-append side reads [] ts = refl
-passed-append side reads (s ∷ ss) ts =
-    ap (λ (z : List Passed). here ++ z) (passed-append side reads ss ts)
-    ∙ sym (append_assoc here (passed_by side reads ss) (passed_by side reads ts)) where
-      here : List Passed
-      here = if beq s.responder side && beq s.reads reads && (s.code == OK)
-          then record { message = s.message.items; payload = s.payload.items } ∷ [] else []
-
--- a step that is none of these messages
-passed-none : (side reads : Bool) (s : Step) → (beq s.responder side && beq s.reads reads && (s.code == OK)) ≡ false → passed_by side reads (s ∷ []) ≡ []
-passed-none side reads s e = rw e refl
-
-passed-one : (side reads : Bool) (s : Step) → s.responder ≡ side → s.reads ≡ reads → s.code ≡ 0
-    → passed_by side reads (s ∷ []) ≡ record { message = s.message.items; payload = s.payload.items } ∷ []
-passed-one side reads s e f g = rw (both e f g) refl where
-  same : (b c : Bool) → b ≡ c → beq b c ≡ true
-  same true true e = refl
-  same false false e = refl
-  same true false e = cc
-  same false true e = cc
-
-  both : s.responder ≡ side → s.reads ≡ reads → s.code ≡ 0 → (beq s.responder side && beq s.reads reads && (s.code == OK)) ≡ true
-  both e f g = rw (same s.responder side e, same s.reads reads f, g) refl
-
-beq-other : (b c : Bool) → b ≡ c → beq b (not c) ≡ false
-beq-other true true e = refl
-beq-other false false e = refl
-beq-other true false e = cc
-beq-other false true e = cc
-
--- it is another program's, or written and not read, or failed
-passed-other : (side reads : Bool) (s : Step) → s.responder ≡ side → passed_by (not side) reads (s ∷ []) ≡ []
-passed-other side reads s e = passed-none (not side) reads s (rw (beq-other s.responder side e) refl)
-
-passed-way : (side reads : Bool) (s : Step) → s.reads ≡ reads → passed_by side (not reads) (s ∷ []) ≡ []
-passed-way side reads s e = passed-none side (not reads) s (which (beq s.responder side)) where
-  which : (b : Bool) → (b && beq s.reads (not reads) && (s.code == OK)) ≡ false
-  which true = rw (beq-other s.reads reads e) refl
-  which false = refl
-
-passed-failed : (side reads : Bool) (s : Step) → 0 < s.code → passed_by side reads (s ∷ []) ≡ []
-passed-failed side reads s e = passed-none side reads s (which (beq s.responder side) (beq s.reads reads)) where
-  wrong : (s.code == OK) ≡ false
-  wrong = grind (arith, nat_tests, e)
-
-  which : (b c : Bool) → (b && c && (s.code == OK)) ≡ false
-  which true true = wrong
-  which true false = refl
-  which false c = refl
-
--- ---- a turn
-
--- the psk that a turn hands in
-abbrev pub psk_of : Turn → List (List ℕ)
-psk_of (turn.SetPsk psk) = psk ∷ []
-psk_of _ = []
-
-psks-more : (t : Turn) (more : List Turn) → psks_of_turns (t ∷ more) ≡ psk_of t ++ psks_of_turns more
-psks-more (turn.Write payload room) more = refl
-psks-more turn.Read more = refl
-psks-more turn.TryRead more = refl
-psks-more (turn.Answer a) more = refl
-psks-more (turn.SetPsk psk) more = refl
-
--- a DH result that this turn hands in is that of these keys
-abbrev pub Answers-with : Secrets → Turn → Type 0
-Answers-with s (turn.Answer a) = s.dh_results (own_in a.of_static) a.remote ≡ Some a.answer
-Answers-with s _ = Unit {0}
-
--- what a turn of one program leaves, by what both had written and read
-pub record Gone (text : List ℕ) (p : Plan) (s : Secrets) (begun new : NoiseHandshake) (side : Bool) (turn : Turn) (ss ts : List Step) (rest : List (List ℕ)) : Type 0 where
-  pub stands : Side text p s begun new (passed_by side false ts) (passed_by side true ts) rest
-  pub other_wrote : passed_by (not side) false ts ≡ passed_by (not side) false ss
-  pub other_read : passed_by (not side) true ts ≡ passed_by (not side) true ss
-  pub read_front : IsFront (passed_by side true ts) (passed_by (not side) false ss)
-  pub wrote_more : IsFront (passed_by side false ss) (passed_by side false ts)
-  pub more : List Step
-  pub adds : Adds (length p.messages) side turn ss more
-  pub steps : ts ≡ ss ++ more
-
-same-end : (xs ys : List Passed) → ys ≡ [] → xs ++ ys ≡ xs
-same-end xs ys e = ap (λ (z : List Passed). xs ++ z) e ∙ append-nil xs
-
--- the codes of what asks
-asked : (code : ℕ) → Asks code → (20 ≤ code) × (0 < code)
-asked code (inl e) = (omega (arith, e), omega (arith, e))
-asked code (inr e) = (omega (arith, e), omega (arith, e))
-
-module _ (text : List ℕ) (p : Plan) (s : Secrets) (begun old new : NoiseHandshake) (named : IsPatternOf text p) (one : (q : Plan) → IsPatternOf text q → q ≡ p)
-    (side : Bool) (role : role_in begun.responder ≡ role-of side) (ss ts : List Step) (read : IsFront (passed_by side true ss) (passed_by (not side) false ss)) where
-  abbrev wrote_before : List Passed
-  wrote_before = passed_by side false ss
-
-  abbrev read_before : List Passed
-  read_before = passed_by side true ss
-
-  -- no message passed, and there is no step
-  still : (turn : Turn) (rest : List (List ℕ)) → Side text p s begun new wrote_before read_before rest → Adds (length p.messages) side turn ss [] → ts ≡ ss
-      → Gone text p s begun new side turn ss ts rest
-  still turn rest st adds same = subst (λ (z : List Step). Gone text p s begun new side turn ss z rest) (sym same) (record {
-    stands = st;
-    other_wrote = refl;
-    other_read = refl;
-    read_front = read;
-    wrote_more = ([], sym (append-nil wrote_before));
-    more = [];
-    adds = adds;
-    steps = sym (append-nil ss);
-  })
-
-  -- a step of no message that passed
-  failed : (turn : Turn) (t : Step) (rest : List (List ℕ)) → Side text p s begun old wrote_before read_before rest → new ≡ old → 0 < t.code
-      → Adds (length p.messages) side turn ss (t ∷ []) → ts ≡ ss ++ t ∷ [] → Gone text p s begun new side turn ss ts rest
-  failed turn t rest st same low adds e =
-      let none = λ (b r : Bool). passed-append b r ss (t ∷ []) ∙ same-end (passed_by b r ss) (passed_by b r (t ∷ [])) (passed-failed b r t low) in
-      subst (λ (z : List Step). Gone text p s begun new side turn ss z rest) (sym e) (record {
-        stands = subst (λ (ws : List Passed). Side text p s begun new ws (passed_by side true (ss ++ t ∷ [])) rest) (sym (none side false))
-            (subst (λ (rs : List Passed). Side text p s begun new wrote_before rs rest) (sym (none side true))
-            (subst (λ (k : NoiseHandshake). Side text p s begun k wrote_before read_before rest) (sym same) st));
-        other_wrote = none (not side) false;
-        other_read = none (not side) true;
-        read_front = (read.0, read.1 ∙ ap (λ (z : List Passed). z ++ read.0) (sym (none side true)));
-        wrote_more = ([], none side false ∙ sym (append-nil wrote_before));
-        more = t ∷ [];
-        adds = adds;
-        steps = refl;
-      })
-
-  -- a message that the program wrote
-  wrote-one : (turn : Turn) (t : Step) (room : ℕ) (rest : List (List ℕ)) → Side text p s begun old wrote_before read_before rest
-      → (w : WritesStep side old new t.payload.items room t) → t.code ≡ 0
-      → Adds (length p.messages) side turn ss (t ∷ []) → ts ≡ ss ++ t ∷ [] → Gone text p s begun new side turn ss ts rest
-  wrote-one turn t room rest st w ok adds e =
-      let m : Passed = record { message = t.message.items; payload = t.payload.items } in
-      let none = λ (b r : Bool) (empty : passed_by b r (t ∷ []) ≡ []). passed-append b r ss (t ∷ []) ∙ same-end (passed_by b r ss) (passed_by b r (t ∷ [])) empty in
-      let more : passed_by side false (ss ++ t ∷ []) ≡ wrote_before ++ m ∷ [] =
-      passed-append side false ss (t ∷ []) ∙ ap (λ (z : List Passed). wrote_before ++ z) (passed-one side false t w.side_is w.writes ok) in
-      let reads : passed_by side true (ss ++ t ∷ []) ≡ read_before = none side true (passed-way side false t w.writes) in
-      let o = written-of old new t.payload.items w.out w.after w.results w.next t.code w.outcome ok in
-      let next = side-wrote text p s begun old new wrote_before read_before rest st named m o.0
-      (λ q v k. subst (λ (z : List ℕ). WasWritten q v t.payload.items z new) (sym (w.message_is ok)) (o.1 q v k)) (w.held ok) (w.rest ok) in
-      subst (λ (z : List Step). Gone text p s begun new side turn ss z rest) (sym e) (record {
-        stands = subst (λ (ws : List Passed). Side text p s begun new ws (passed_by side true (ss ++ t ∷ [])) rest) (sym more)
-            (subst (λ (rs : List Passed). Side text p s begun new (wrote_before ++ m ∷ []) rs rest) (sym reads) next);
-        other_wrote = none (not side) false (passed-other side false t w.side_is);
-        other_read = none (not side) true (passed-other side true t w.side_is);
-        read_front = (read.0, read.1 ∙ ap (λ (z : List Passed). z ++ read.0) (sym reads));
-        wrote_more = (m ∷ [], more);
-        more = t ∷ [];
-        adds = adds;
-        steps = refl;
-      })
-
-  -- a message that it read, the next one of the other program's
-  read-one : (turn : Turn) (t : Step) (ends : Bool) (rest : List (List ℕ)) → Side text p s begun old wrote_before read_before rest
-      → (r : ReadsStep side ends old new t.message.items t) → (later : List Passed) (payload : List ℕ)
-      → passed_by (not side) false ss ≡ read_before ++ record { message = t.message.items; payload = payload } ∷ later
-      → t.payload.items ≡ payload → t.code ≡ 0 → Adds (length p.messages) side turn ss (t ∷ []) → ts ≡ ss ++ t ∷ []
-      → Gone text p s begun new side turn ss ts rest
-  read-one turn t ends rest st r later payload are paid ok adds e =
-      let m : Passed = record { message = t.message.items; payload = t.payload.items } in
-      let none = λ (b d : Bool) (empty : passed_by b d (t ∷ []) ≡ []). passed-append b d ss (t ∷ []) ∙ same-end (passed_by b d ss) (passed_by b d (t ∷ [])) empty in
-      let more : passed_by side true (ss ++ t ∷ []) ≡ read_before ++ m ∷ [] =
-      passed-append side true ss (t ∷ []) ∙ ap (λ (z : List Passed). read_before ++ z) (passed-one side true t r.side_is r.reads ok) in
-      let writes : passed_by side false (ss ++ t ∷ []) ≡ wrote_before = none side false (passed-way side true t r.reads) in
-      let f = read-of ends old new t.message.items r.after r.results r.next t.code r.outcome ok in
-      let next = side-took text p s begun old new wrote_before read_before rest st named m f.0
-      (λ q v k. subst (λ (z : List ℕ). WasRead q v t.message.items z new) (sym (r.payload_is ok)) (f.1 q v k)) (r.held ok) (r.rest ok) in
-      let all : passed_by (not side) false ss ≡ (read_before ++ m ∷ []) ++ later =
-      are ∙ ap (λ (z : List ℕ). read_before ++ record { message = t.message.items; payload = z } ∷ later) (sym paid)
-      ∙ sym (append_assoc read_before (m ∷ []) later) in
-      subst (λ (z : List Step). Gone text p s begun new side turn ss z rest) (sym e) (record {
-        stands = subst (λ (ws : List Passed). Side text p s begun new ws (passed_by side true (ss ++ t ∷ [])) rest) (sym writes)
-            (subst (λ (rs : List Passed). Side text p s begun new wrote_before rs rest) (sym more) next);
-        other_wrote = none (not side) false (passed-other side false t r.side_is);
-        other_read = none (not side) true (passed-other side true t r.side_is);
-        read_front = (later, all ∙ ap (λ (z : List Passed). z ++ later) (sym more));
-        wrote_more = ([], writes ∙ sym (append-nil wrote_before));
-        more = t ∷ [];
-        adds = adds;
-        steps = refl;
-      })
-
-  -- the next message of the other program isn't refused
-  abbrev pub Next : Type 0
-  Next = TakesNext (passed_by (not side) false ss) read_before old
-
-  wrote-turn : (turn : Turn) (payload : List ℕ) (room : ℕ) (rest : List (List ℕ)) (t : Step)
-      → (IsWritten side payload room (length p.messages) (passed_at side ss) t → Adds (length p.messages) side turn ss (t ∷ []))
-      → WritesStep side old new payload room t → ts ≡ ss ++ t ∷ []
-      → Side text p s begun old wrote_before read_before rest → Gone text p s begun new side turn ss ts rest
-  wrote-turn turn payload room rest t adds w e st = at (nat_lt 0 t.code) refl where
-    w1 : WritesStep side old new t.payload.items room t
-    w1 = subst (λ (z : List ℕ). WritesStep side old new z room t) (sym w.payload_is) w
-
-    is : WriteIs p old room t.code
-    is = subst (λ (n : ℕ). WriteIs p old n t.code) w.room_is
-        (write-is p old (named-in text p s begun old wrote_before read_before rest st named) st.usable st.going new payload w.out w.after w.results w.next t.code w.outcome)
-
-    step : IsWritten side payload room (length p.messages) (passed_at side ss) t
-    step = let n : ℕ = passed_at side ss in let now : role_in old.responder ≡ role-of side = st.role ∙ role in record {
-      call = (w.side_is, w.writes);
-      payload_is = w.payload_is;
-      done = write-done p old room n side st.count now t.code is;
-      early = write-early p old room n side st.count now t.code is;
-      due = write-due p old room n side st.count now t.code is;
-    }
-
-    at : (b : Bool) → nat_lt 0 t.code ≡ b → Gone text p s begun new side turn ss ts rest
-    at true low =
-        let l : 0 < t.code = grind (arith, nat_tests, low) in
-        failed turn t rest st (write-unchanged old new payload w.out w.after w.results w.next t.code w.outcome l) l (adds step) e
-    at false least = wrote-one turn t room rest st w1 (grind (arith, nat_tests, least)) (adds step) e
-
-  read-turn : (turn : Turn) (ends : Bool) (rest : List (List ℕ))
-      → ((more : List Step) → ReadsFirst side (waiting side ss) more → Adds (length p.messages) side turn ss more)
-      → ReadTurn side ends old new ss ts → Next → Side text p s begun old wrote_before read_before rest → Gone text p s begun new side turn ss ts rest
-  read-turn turn ends rest adds (inl idle) next st =
-      still turn rest (subst (λ (k : NoiseHandshake). Side text p s begun k wrote_before read_before rest) (sym idle.1) st)
-      (adds [] (subst (λ (z : List Passed). ReadsFirst side z []) (sym idle.0) refl)) idle.2
-  read-turn turn ends rest adds (inr (message, t, first, r, e)) next st =
-      let r1 : ReadsStep side ends old new t.message.items t = subst (λ (z : List ℕ). ReadsStep side ends old new z t) (sym r.message_is) r in
-      let m : Passed = record { message = t.message.items; payload = first.payload } in
-      let waits : waiting side ss ≡ m ∷ first.later =
-      first.all_is ∙ ap (λ (z : List ℕ). record { message = z; payload = first.payload } ∷ first.later) (sym r.message_is) in
-      let are : passed_by (not side) false ss ≡ read_before ++ m ∷ first.later =
-      read.1 ∙ ap (λ (z : List Passed). read_before ++ z)
-      (sym (drop-append_seam read_before read.0) ∙ ap (drop (length read_before)) (sym read.1) ∙ waits) in
-      let taken = next m first.later are ends new r1.after r1.results r1.next t.code r1.outcome in
-      let step = λ (codes : (t.code ≡ 0) ⊎ Asks t.code) (paid : t.code ≡ 0 → t.payload.items ≡ first.payload).
-      adds (t ∷ []) (subst (λ (z : List Passed). ReadsFirst side z (t ∷ [])) (sym waits)
-      (t, record { call = (r.side_is, r.reads); message_is = refl; payload_is = paid; codes = codes }, refl)) in
-      let asks = λ (is : Asks t.code).
-      let low = asked t.code is in
-      failed turn t rest st (r1.left (inr low.0) low.1) low.1 (step (inr is) (λ ok. absurd (omega (arith, ok, low.1)))) e in
-      elim taken [
-        | inl ok ↦
-            let paid : t.payload.items ≡ first.payload = r1.payload_is ok.0 ∙ ok.1 in
-            read-one turn t ends rest st r1 first.later first.payload are paid ok.0 (step (inl ok.0) (λ _. paid)) e
-        | inr is ↦ asks is
-      ]
-
-  pub turned : (turn : Turn) (rest : List (List ℕ)) → Turned side turn old new ss ts → Answers-with s turn → Next
-      → Side text p s begun old wrote_before read_before (psk_of turn ++ rest) → Gone text p s begun new side turn ss ts rest
-  turned (turn.Write payload room) rest (t, w, e) is next st =
-      wrote-turn (turn.Write payload room) payload.items room rest t (λ step. (t, step, refl)) w e st
-  turned turn.Read rest moved is next st = read-turn turn.Read true rest (λ more a. a) moved next st
-  turned turn.TryRead rest moved is next st = read-turn turn.TryRead false rest (λ more a. a) moved next st
-  turned (turn.Answer a) rest (code, supplies, e) is next st =
-      still (turn.Answer a) rest (side-answered text p s begun old new wrote_before read_before rest st named (entry_in a) code supplies is) refl e
-  turned (turn.SetPsk psk) rest (code, sets, goes, stays, count, e) is next st =
-      still (turn.SetPsk psk) rest
-      (side-set text p s begun old new wrote_before read_before (psk ∷ rest) st named psk rest code refl one (count st.usable) sets goes stays) refl e
-
 -- ---- both programs
 
 answers-with : (d : Dh) (psks : List (List ℕ)) (t : Turn) → Answers d t → Answers-with (secrets_of d psks) t
@@ -404,6 +136,9 @@ answers-with d psks turn.Read a = tt
 answers-with d psks turn.TryRead a = tt
 answers-with d psks (turn.Answer x) a = ap Some (sym a)
 answers-with d psks (turn.SetPsk psk) a = tt
+answers-with d psks (turn.Deliver m) a = tt
+answers-with d psks (turn.TryDeliver m) a = tt
+answers-with d psks (turn.TryPsk psk m) a = tt
 
 -- where both stand after these steps, with these turns to come
 pub record Both (text : List ℕ) (p : Plan) (d d_too : Dh) (psks : List (List ℕ)) (a0 b0 a b : NoiseHandshake) (ss : List Step) (turns : List (Bool × Turn))
@@ -414,6 +149,7 @@ pub record Both (text : List ℕ) (p : Plan) (d d_too : Dh) (psks : List (List �
   pub back : IsFront (passed_by false true ss) (passed_by true false ss)
   pub answers : All (Answers d) (turns_of false turns)
   pub answers_too : All (Answers d_too) (turns_of true turns)
+  pub clean : has_strayed ss ≡ false
 
 front-longer : (xs ys zs : List Passed) → IsFront xs ys → IsFront ys zs → IsFront xs zs
 front-longer xs ys zs f g = (f.0 ++ g.0, g.1 ∙ ap (λ (z : List Passed). z ++ g.0) f.1 ∙ append_assoc xs f.0 g.0)
@@ -471,9 +207,11 @@ meets-half : (sender receiver : NoiseHalf) → is_half SENDER sender ≡ true �
     → half_from_c receiver ≡ record (half_from_c sender) { role = other (half_from_c sender).role } → Meet sender receiver
 meets-half sender receiver a b face = record {
   kinds = (mark-of SENDER sender a, mark-of RECEIVER receiver b);
-  key = some-same receiver.key sender.key (ap (λ (z : HalfValue). z.key) face);
-  nonce = ap (λ (z : HalfValue). z.nonce) face;
-  interval = ap (λ (z : HalfValue). z.interval) face;
+  same = (
+    some-same receiver.key sender.key (ap (λ (z : HalfValue). z.key) face),
+    ap (λ (z : HalfValue). z.nonce) face,
+    ap (λ (z : HalfValue). z.interval) face,
+  );
 }
 
 -- ---- what a run begins with
@@ -482,6 +220,7 @@ pub record Begins (text prologue : List ℕ) (p : Plan) (g h : NoiseSetup) (a0 b
     : Type 0 where
   pub setups : Setups
   pub law : TwoProgramsAgree
+  pub once : TokensKeepRules p
   pub valid : IsValid p
   pub named : IsPatternOf text p
   pub one : (q : Plan) → IsPatternOf text q → q ≡ p
@@ -508,10 +247,10 @@ module _ (text prologue : List ℕ) (p : Plan) (g h : NoiseSetup) (a0 b0 : Noise
   At a b ss more = Both text p d d_too psks a0 b0 a b ss more
 
   begun-role : role_in a0.responder ≡ Initiator
-  begun-role = ap (λ (z : Party). z.role) (o.started.begun_is p o.named []).matches ∙ role-first g.responder o.alike.initiator
+  begun-role = ap (λ (z : Party). z.role) (o.started.begun_is p o.named []).matches ∙ role-first g.responder o.alike.roles.0
 
   begun-role-too : role_in b0.responder ≡ Responder
-  begun-role-too = ap (λ (z : Party). z.role) (o.started_too.begun_is p o.named []).matches ∙ role-second h.responder o.alike.responder
+  begun-role-too = ap (λ (z : Party). z.role) (o.started_too.begun_is p o.named []).matches ∙ role-second h.responder o.alike.roles.1
 
   agreed-at : (a b : NoiseHandshake) (ss : List Step) (more : List (Bool × Turn)) → At a b ss more
       → Agree p (left o.setups o.law text prologue p o.valid o.named g h a0 b0 o.started o.started_too o.none_wrong o.none_wrong_too turns d d_too psks o.alike a (passed_by false false ss) (passed_by false true ss))
@@ -527,51 +266,65 @@ module _ (text prologue : List ℕ) (p : Plan) (g h : NoiseSetup) (a0 b0 : Noise
     pub adds : Adds (length p.messages) side t ss steps
     pub steps_are : ts ≡ ss ++ steps
 
+  went-left : (a a2 b : NoiseHandshake) (ss ts : List Step) (t : Turn) (more : List (Bool × Turn)) → At a b ss ((false, t) ∷ more)
+      → Gone text p (secrets_of d psks) a0 a2 false t ss ts (psks_of_turns (turns_of false more)) → Taken a2 b false t ss ts more
+  went-left a a2 b ss ts t more w gone = record {
+    both = record {
+      left = gone.stands;
+      right = subst (λ (z : List Passed). Side text p (secrets_of d_too psks) b0 b z (passed_by true true ts) (psks_of_turns (turns_of true more))) (sym gone.other_wrote)
+          (subst (λ (z : List Passed). Side text p (secrets_of d_too psks) b0 b (passed_by true false ss) z (psks_of_turns (turns_of true more))) (sym gone.other_read) w.right);
+      there = subst (λ (z : List Passed). IsFront z (passed_by false false ts)) (sym gone.other_read)
+          (front-longer (passed_by true true ss) (passed_by false false ss) (passed_by false false ts) w.there gone.wrote_more);
+      back = subst (λ (z : List Passed). IsFront (passed_by false true ts) z) (sym gone.other_wrote) gone.read_front;
+      answers = tail-of (Answers d) t (turns_of false more) w.answers;
+      answers_too = w.answers_too;
+      clean = gone.clean;
+    };
+    steps = gone.more;
+    adds = gone.adds;
+    steps_are = gone.steps;
+  }
+
   pub next-left : (a a2 b : NoiseHandshake) (ss ts : List Step) (t : Turn) (more : List (Bool × Turn)) → At a b ss ((false, t) ∷ more)
-      → Turned false t a a2 ss ts → Taken a2 b false t ss ts more
+      → Turned false t a a2 ss ts → Taken a2 b false t ss ts more ⊎ Strays p false t ss ts
   next-left a a2 b ss ts t more w moved =
       let agree = agreed-at a b ss ((false, t) ∷ more) w in
-      let gone = turned text p (secrets_of d psks) a0 a a2 o.named o.one false begun-role ss ts w.back t (psks_of_turns (turns_of false more)) moved
+      elim (turned text p (overhead-few p o.once) (secrets_of d psks) a0 a a2 o.named o.one false begun-role ss ts w.clean w.back t (psks_of_turns (turns_of false more)) moved
       (answers-with d psks t (head-of (Answers d) t (turns_of false more) w.answers)) agree.next_back
-      (subst (λ (z : List (List ℕ)). Side text p (secrets_of d psks) a0 a (passed_by false false ss) (passed_by false true ss) z) (psks-more t (turns_of false more)) w.left) in
-      record {
-        both = record {
-          left = gone.stands;
-          right = subst (λ (z : List Passed). Side text p (secrets_of d_too psks) b0 b z (passed_by true true ts) (psks_of_turns (turns_of true more))) (sym gone.other_wrote)
-              (subst (λ (z : List Passed). Side text p (secrets_of d_too psks) b0 b (passed_by true false ss) z (psks_of_turns (turns_of true more))) (sym gone.other_read) w.right);
-          there = subst (λ (z : List Passed). IsFront z (passed_by false false ts)) (sym gone.other_read)
-              (front-longer (passed_by true true ss) (passed_by false false ss) (passed_by false false ts) w.there gone.wrote_more);
-          back = subst (λ (z : List Passed). IsFront (passed_by false true ts) z) (sym gone.other_wrote) gone.read_front;
-          answers = tail-of (Answers d) t (turns_of false more) w.answers;
-          answers_too = w.answers_too;
-        };
-        steps = gone.more;
-        adds = gone.adds;
-        steps_are = gone.steps;
-      }
+      (subst (λ (z : List (List ℕ)). Side text p (secrets_of d psks) a0 a (passed_by false false ss) (passed_by false true ss) z) (psks-more t (turns_of false more)) w.left)) [
+        | inl gone ↦ inl (went-left a a2 b ss ts t more w gone)
+        | inr stray ↦ inr stray
+      ]
+
+  went-right : (a b b2 : NoiseHandshake) (ss ts : List Step) (t : Turn) (more : List (Bool × Turn)) → At a b ss ((true, t) ∷ more)
+      → Gone text p (secrets_of d_too psks) b0 b2 true t ss ts (psks_of_turns (turns_of true more)) → Taken a b2 true t ss ts more
+  went-right a b b2 ss ts t more w gone = record {
+    both = record {
+      left = subst (λ (z : List Passed). Side text p (secrets_of d psks) a0 a z (passed_by false true ts) (psks_of_turns (turns_of false more))) (sym gone.other_wrote)
+          (subst (λ (z : List Passed). Side text p (secrets_of d psks) a0 a (passed_by false false ss) z (psks_of_turns (turns_of false more))) (sym gone.other_read) w.left);
+      right = gone.stands;
+      there = subst (λ (z : List Passed). IsFront (passed_by true true ts) z) (sym gone.other_wrote) gone.read_front;
+      back = subst (λ (z : List Passed). IsFront z (passed_by true false ts)) (sym gone.other_read)
+          (front-longer (passed_by false true ss) (passed_by true false ss) (passed_by true false ts) w.back gone.wrote_more);
+      answers = w.answers;
+      answers_too = tail-of (Answers d_too) t (turns_of true more) w.answers_too;
+      clean = gone.clean;
+    };
+    steps = gone.more;
+    adds = gone.adds;
+    steps_are = gone.steps;
+  }
 
   pub next-right : (a b b2 : NoiseHandshake) (ss ts : List Step) (t : Turn) (more : List (Bool × Turn)) → At a b ss ((true, t) ∷ more)
-      → Turned true t b b2 ss ts → Taken a b2 true t ss ts more
+      → Turned true t b b2 ss ts → Taken a b2 true t ss ts more ⊎ Strays p true t ss ts
   next-right a b b2 ss ts t more w moved =
       let agree = agreed-at a b ss ((true, t) ∷ more) w in
-      let gone = turned text p (secrets_of d_too psks) b0 b b2 o.named o.one true begun-role-too ss ts w.there t (psks_of_turns (turns_of true more)) moved
+      elim (turned text p (overhead-few p o.once) (secrets_of d_too psks) b0 b b2 o.named o.one true begun-role-too ss ts w.clean w.there t (psks_of_turns (turns_of true more)) moved
       (answers-with d_too psks t (head-of (Answers d_too) t (turns_of true more) w.answers_too)) agree.next_there
-      (subst (λ (z : List (List ℕ)). Side text p (secrets_of d_too psks) b0 b (passed_by true false ss) (passed_by true true ss) z) (psks-more t (turns_of true more)) w.right) in
-      record {
-        both = record {
-          left = subst (λ (z : List Passed). Side text p (secrets_of d psks) a0 a z (passed_by false true ts) (psks_of_turns (turns_of false more))) (sym gone.other_wrote)
-              (subst (λ (z : List Passed). Side text p (secrets_of d psks) a0 a (passed_by false false ss) z (psks_of_turns (turns_of false more))) (sym gone.other_read) w.left);
-          right = gone.stands;
-          there = subst (λ (z : List Passed). IsFront (passed_by true true ts) z) (sym gone.other_wrote) gone.read_front;
-          back = subst (λ (z : List Passed). IsFront z (passed_by true false ts)) (sym gone.other_read)
-              (front-longer (passed_by false true ss) (passed_by true false ss) (passed_by true false ts) w.back gone.wrote_more);
-          answers = w.answers;
-          answers_too = tail-of (Answers d_too) t (turns_of true more) w.answers_too;
-        };
-        steps = gone.more;
-        adds = gone.adds;
-        steps_are = gone.steps;
-      }
+      (subst (λ (z : List (List ℕ)). Side text p (secrets_of d_too psks) b0 b (passed_by true false ss) (passed_by true true ss) z) (psks-more t (turns_of true more)) w.right)) [
+        | inl gone ↦ inl (went-right a b b2 ss ts t more w gone)
+        | inr stray ↦ inr stray
+      ]
 
   first-both : At a0 b0 [] turns
   first-both = record {
@@ -579,43 +332,60 @@ module _ (text prologue : List ℕ) (p : Plan) (g h : NoiseSetup) (a0 b0 : Noise
     right = side-start text prologue p (secrets_of d_too psks) h b0 (psks_of_turns (turns_of true turns)) o.named o.started_too o.held_too o.alike.psks_too;
     there = ([], refl);
     back = ([], refl);
-    answers = o.alike.answers;
-    answers_too = o.alike.answers_too;
+    answers = o.alike.answers.0;
+    answers_too = o.alike.answers.1;
+    clean = refl;
   }
 
-  -- after some of the turns
+  -- after some of the turns: no message of a stranger was accepted or ended a handshake, or one did
+  abbrev SoFar : List (Bool × Turn) → List (Bool × Turn) → NoiseHandshake → NoiseHandshake → List Step → Type 0
+  SoFar sofar rest a b ss = AreRight (length p.messages) sofar ss × (At a b ss rest ⊎ (has_strayed ss ≡ true))
+
+  went-on : (sofar rest : List (Bool × Turn)) (a b : NoiseHandshake) (ss ts : List Step) (side : Bool) (t : Turn) → AreRight (length p.messages) sofar ss
+      → has_strayed ss ≡ false → Taken a b side t ss ts rest ⊎ Strays p side t ss ts → SoFar (sofar ++ (side, t) ∷ []) rest a b ts
+  went-on sofar rest a b ss ts side t right clean (inl n) = (
+    subst (λ (z : List Step). AreRight (length p.messages) (sofar ++ (side, t) ∷ []) z) (sym n.steps_are) (one_more sofar ss n.steps side t right clean n.adds),
+    inl n.both,
+  )
+  went-on sofar rest a b ss ts side t right clean (inr n) = (
+    subst (λ (z : List Step). AreRight (length p.messages) (sofar ++ (side, t) ∷ []) z) (sym n.steps) (one_more sofar ss n.more side t right clean n.adds),
+    inr n.strayed,
+  )
+
+  went-astray : (sofar rest : List (Bool × Turn)) (a b k next : NoiseHandshake) (ss ts : List Step) (side : Bool) (t : Turn) → AreRight (length p.messages) sofar ss
+      → has_strayed ss ≡ true → Turned side t k next ss ts → SoFar (sofar ++ (side, t) ∷ []) rest a b ts
+  went-astray sofar rest a b k next ss ts side t right stray moved = let m = turned-more side t k next ss ts moved in (
+    subst (λ (z : List Step). AreRight (length p.messages) (sofar ++ (side, t) ∷ []) z) (sym m.1) (strayed sofar ss m.0 (side, t) right stray),
+    inr (ap has_strayed m.1 ∙ strayed-before ss m.0 stray),
+  )
+
   pub so-far : (sofar rest : List (Bool × Turn)) (a b : NoiseHandshake) (ss : List Step) → Runs a0 b0 sofar a b ss → turns ≡ sofar ++ rest
-      → At a b ss rest × AreRight (length p.messages) sofar ss
-  so-far _ rest _ _ _ none_yet e = (subst (λ (z : List (Bool × Turn)). At a0 b0 [] z) e first-both, no_steps)
+      → SoFar sofar rest a b ss
+  so-far _ rest _ _ _ none_yet e = (no_steps, inl (subst (λ (z : List (Bool × Turn)). At a0 b0 [] z) e first-both))
   so-far _ rest _ _ _ (by_initiator sofar a a2 b ss ts t before moved) e =
       let w = so-far sofar ((false, t) ∷ rest) a b ss before (e ∙ append_assoc sofar ((false, t) ∷ []) rest) in
-      let n = next-left a a2 b ss ts t rest w.0 moved in (
-        n.both,
-        subst (λ (z : List Step). AreRight (length p.messages) (sofar ++ (false, t) ∷ []) z) (sym n.steps_are)
-            (one_more sofar ss n.steps false t w.1 n.adds),
-      )
+      elim w.1 [
+        | inl at ↦ went-on sofar rest a2 b ss ts false t w.0 at.clean (next-left a a2 b ss ts t rest at moved)
+        | inr stray ↦ went-astray sofar rest a2 b a a2 ss ts false t w.0 stray moved
+      ]
   so-far _ rest _ _ _ (by_responder sofar a b b2 ss ts t before moved) e =
       let w = so-far sofar ((true, t) ∷ rest) a b ss before (e ∙ append_assoc sofar ((true, t) ∷ []) rest) in
-      let n = next-right a b b2 ss ts t rest w.0 moved in (
-        n.both,
-        subst (λ (z : List Step). AreRight (length p.messages) (sofar ++ (true, t) ∷ []) z) (sym n.steps_are)
-            (one_more sofar ss n.steps true t w.1 n.adds),
-      )
+      elim w.1 [
+        | inl at ↦ went-on sofar rest a b2 ss ts true t w.0 at.clean (next-right a b b2 ss ts t rest at moved)
+        | inr stray ↦ went-astray sofar rest a b2 b b2 ss ts true t w.0 stray moved
+      ]
 
-  pub right-at-end : (a b : NoiseHandshake) (interval : ℕ) (ran : Ran) → Runs a0 b0 turns a b ran.steps.items → EndsAs a b interval ran
-      → RunIsRight g h turns ran
-  right-at-end a b interval ran runs ends =
-      let w = so-far turns [] a b ran.steps.items runs (sym (append-nil turns)) in
-      let agree = agreed-at a b ran.steps.items [] w.0 in
+  end-at : (a b : NoiseHandshake) (interval : ℕ) (ran : Ran) → EndsAs a b interval ran → At a b ran.steps.items [] → EndIsRight g h ran
+  end-at a b interval ran ends at =
+      let agree = agreed-at a b ran.steps.items [] at in
       let i = ends.initiator in
       let r = ends.responder in
-      let st = w.0.left in
-      let st_too = w.0.right in
+      let st = at.left in
+      let st_too = at.right in
       let here : IsPatternOf (text_from_c a) p = named-in text p (secrets_of d psks) a0 a _ _ _ st o.named in
       let here_too : IsPatternOf (text_from_c b) p = named-in text p (secrets_of d_too psks) b0 b _ _ _ st_too o.named in
       let all : ran.initiator.messages ≡ length p.messages = i.messages p here in
       record {
-        steps = subst (λ (n : ℕ). AreRight n turns ran.steps.items) (sym all) w.1;
         passed = i.passed ∙ st.count;
         passed_too = r.passed ∙ st_too.count;
         hash = λ same. i.hash ∙ agree.hash (sym i.passed ∙ same ∙ r.passed) ∙ sym r.hash;
@@ -635,6 +405,19 @@ module _ (text prologue : List ℕ) (p : Plan) (g h : NoiseSetup) (a0 b0 : Noise
               meets-half x.their_sender x.receiver both.1.known.0 both.0.known.1 face.back,
             ));
       }
+
+  pub right-at-end : (a b : NoiseHandshake) (interval : ℕ) (ran : Ran) → Runs a0 b0 turns a b ran.steps.items → EndsAs a b interval ran
+      → AreRight ran.initiator.messages turns ran.steps.items × (has_strayed ran.steps.items ≡ false → EndIsRight g h ran)
+  right-at-end a b interval ran runs ends =
+      let w = so-far turns [] a b ran.steps.items runs (sym (append-nil turns)) in
+      let name : text_from_c a ≡ text = runs-text a0 b0 turns a b ran.steps.items runs o.started.usable o.started_too.usable ∙ o.started.text_is in
+      let here : IsPatternOf (text_from_c a) p = subst (λ (z : List ℕ). IsPatternOf z p) (sym name) o.named in (
+        subst (λ (n : ℕ). AreRight n turns ran.steps.items) (sym (ends.initiator.messages p here)) w.0,
+        λ clean. elim w.1 [
+          | inl at ↦ end-at a b interval ran ends at
+          | inr stray ↦ absurd (false≢true (sym clean ∙ stray))
+        ],
+      )
 
 -- ---- the message of a number
 

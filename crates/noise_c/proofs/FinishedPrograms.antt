@@ -40,7 +40,7 @@ silent-same : (r : Role) → same_role (other r) Initiator ≡ same_role r Respo
 silent-same Initiator = refl
 silent-same Responder = refl
 
-not-same : (a b : Bool) → not a ≡ not b → a ≡ b
+pub not-same : (a b : Bool) → not a ≡ not b → a ≡ b
 not-same true true e = refl
 not-same false false e = refl
 not-same true false e = cc

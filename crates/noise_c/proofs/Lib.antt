@@ -28,5 +28,9 @@ pub mod Toying
 pub mod Alike
 pub mod Sides
 pub mod WriteCodes
+pub mod OneTurn
 pub mod Both
 pub mod Turning
+pub mod Lengths
+pub mod Network
+pub mod Directions

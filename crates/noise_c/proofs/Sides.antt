@@ -3,11 +3,11 @@ use Rattle.std.proofs.Common.{◌≡◌, ◌⊎◌, ◌≤◌, ◌<◌, ◌+◌,
 use Rattle.std.specs.Option.{option_map, option_or}
 use Rattle.std.proofs.lemmas.List.{append_assoc, take-append-drop}
 use Rattle.std.proofs.lemmas.List.Folds.{find-append}
-use Rattle.noise_c.proofs.Common.{take-append_seam, Bool, Option, Some, None, count_by, find, nat_lt, nat_tests, Plan, Own, Token, Party, HandshakeValue, Table, TableEntry, DhResults, AreAmong, dh_result_in, is_for, psks_of, tokens_at, party_with, pairs_in, handshake_from_c, table_in, text_from_c, IsGiven, IsPatternOf, IsUsable, KeepsParty, WasRead, WasWritten, NoiseHandshake}
+use Rattle.noise_c.proofs.Common.{take-append_seam, Bool, Option, Some, None, count_by, find, nat_lt, nat_tests, Plan, Own, Token, Party, HandshakeValue, Table, TableEntry, DhResults, AreAmong, dh_result_in, is_for, psks_of, tokens_at, party_with, pairs_in, handshake_from_c, table_in, text_from_c, IsGiven, IsPatternOf, IsUsable, KeepsParty, WasRead, WasWritten, NoiseHandshake, IsParty, with_later}
 use Rattle.noise_names.specs.Tokens.{is_psk}
 use Rattle.noise_c.specs.HandshakeStructs.{role_in, ForParty, GoesOn, IsStarted, KeepsPsks, KeepsRest, SetsPsk, Supplies, held_psks, psks_due, psks_in}
 use Rattle.noise_c.specs.TwoPrograms.{Calls, IsFront, Passed, Secrets}
-use Rattle.noise_c.specs.TwoPrograms.Calls.{wrote, took, answered, set_psk}
+use Rattle.noise_c.specs.TwoPrograms.Calls.{wrote, took, answered, set_psk, kept}
 use Rattle.noise_c.specs.declared.structs.NoiseSetup.{NoiseSetup}
 use Rattle.noise_c.proofs.Runs.{alone, only-one}
 
@@ -158,6 +158,21 @@ psks-full p all k psk due w enough count = record {
   next = inl (omega (arith, enough, count));
 }
 
+-- where the psks and the count of messages are as they were
+pub psks-same : (p : Plan) (all : List (List ℕ)) (k next : NoiseHandshake) (due : List (List ℕ)) → held_psks next ≡ held_psks k → next.passed ≡ k.passed
+    → PsksOf p all k due → PsksOf p all next due
+psks-same p all k next due held passed w = record {
+  used = w.used;
+  count = w.count ∙ ap (λ (i : ℕ). psks_of (take i p.messages)) (sym passed);
+  tail = w.tail;
+  psks_are = w.psks_are ∙ ap (λ (z : List (List ℕ)). w.used ++ z ++ w.tail) (sym held);
+  next = elim w.next [
+    | inl full ↦ inl (subst (λ (i : ℕ). psks_of (drop i p.messages) ≤ length (held_psks next)) (sym passed)
+        (subst (λ (z : List (List ℕ)). psks_of (drop k.passed p.messages) ≤ length z) (sym held) full))
+    | inr front ↦ inr front
+  ];
+}
+
 -- ---- a program
 
 pub record Side (text : List ℕ) (p : Plan) (s : Secrets) (begun k : NoiseHandshake) (ws rs : List Passed) (due : List (List ℕ)) : Type 0 where
@@ -216,6 +231,26 @@ module _ (text : List ℕ) (p : Plan) (s : Secrets) (begun k next : NoiseHandsha
     role = ap (λ (z : Party). z.role) now ∙ st.role;
   }
 
+  -- a call that leaves the handshake as it was
+  pub side-same : IsUsable next → text_from_c next ≡ text_from_c k → ((q : Plan) → handshake_from_c q next ≡ handshake_from_c q k)
+      → Side text p s begun next ws rs due
+  side-same usable name same = let h = same p in record {
+    name = name ∙ st.name;
+    usable = usable;
+    leads = λ us xs last calls. st.leads us xs last (kept k next last us xs keeps (λ _. usable) calls);
+    entries = subst (λ (t : Table). AllRight s.dh_results t.entries) (sym (ap (λ (z : HandshakeValue Table). z.keys) h)) st.entries;
+    psks = psks-same p s.psks k next due (ap (λ (z : HandshakeValue Table). z.psks) h) (ap (λ (z : HandshakeValue Table). z.passed) h) st.psks;
+    count = ap (λ (z : HandshakeValue Table). z.passed) h ∙ st.count;
+    going = ap (λ (z : HandshakeValue Table). z.ended) h ∙ st.going;
+    role = ap (λ (z : HandshakeValue Table). z.role) h ∙ st.role;
+  } where
+    keeps : (q : Plan) (v : Party) → KeepsParty k q v → KeepsParty next q v
+    keeps q v c = record {
+      pattern = subst (λ (z : List ℕ). IsPatternOf z q) (sym name) c.pattern;
+      later = c.later;
+      matches = subst (λ (z : HandshakeValue Table). IsParty pairs_in (with_later z c.later) v) (sym (same q)) c.matches;
+    }
+
   -- what a DH result leaves as it was
   abbrev After : Type 0
   After = (text_from_c next ≡ text_from_c k) × AllRight s.dh_results (table_in next).entries × (held_psks next ≡ held_psks k) × (next.passed ≡ k.passed)
@@ -239,17 +274,7 @@ module _ (text : List ℕ) (p : Plan) (s : Secrets) (begun k next : NoiseHandsha
         leads = λ us xs last calls.
             st.leads us xs last (answered k next last e us xs now (λ _. among-all s.dh_results (table_in next).entries after.1) calls);
         entries = after.1;
-        psks = record {
-          used = st.psks.used;
-          count = st.psks.count ∙ ap (λ (i : ℕ). psks_of (take i p.messages)) (sym after.3);
-          tail = st.psks.tail;
-          psks_are = st.psks.psks_are ∙ ap (λ (z : List (List ℕ)). st.psks.used ++ z ++ st.psks.tail) (sym after.2);
-          next = elim st.psks.next [
-            | inl full ↦ inl (subst (λ (i : ℕ). psks_of (drop i p.messages) ≤ length (held_psks next)) (sym after.3)
-                (subst (λ (z : List (List ℕ)). psks_of (drop k.passed p.messages) ≤ length z) (sym after.2) full))
-            | inr front ↦ inr front
-          ];
-        };
+        psks = psks-same p s.psks k next due after.2 after.3 st.psks;
       } where
         which : Supplies k next e 0 → (b : Bool) → nat_lt k.answer_count 8 ≡ b → After
         which now true less =

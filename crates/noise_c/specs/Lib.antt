@@ -19,3 +19,5 @@ pub mod PatternInfo
 pub mod MessageLayouts
 pub mod TwoRuns
 pub mod RunSteps
+pub mod TwoStreams
+pub mod StreamSteps

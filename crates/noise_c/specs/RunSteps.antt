@@ -1,6 +1,6 @@
 -- What a run of two programs is made of: the calls of the exports, one after another.
 use Rattle.std.specs.declared.alloc.AllocError.{AllocError}
-use Rattle.std.specs.Prelude.{◌≡◌, ◌⊎◌, ◌<◌, ◌≤◌, ◌+◌, ℕ, List, [], ◌∷◌, ◌++◌, Bool, true, false, length, take, slice_range, Option, Result, IfOk, IfSome, MatchOption}
+use Rattle.std.specs.Prelude.{◌≡◌, ◌⊎◌, ◌<◌, ◌≤◌, ◌+◌, ℕ, List, [], ◌∷◌, ◌++◌, Bool, true, false, not, ◌&&◌, ◌||◌, ◌==◌, nat_lt, length, take, slice_range, Option, Result, IfOk, IfSome, MatchOption}
 use Rattle.noise_names.specs.Plan.{Plan}
 use Rattle.noise_names.specs.Validity.{IsValid}
 use Rattle.noise_c.specs.declared.structs.NoiseHandshake.{NoiseHandshake}
@@ -11,9 +11,9 @@ use Rattle.noise_c.specs.declared.two_runs.Turn.TheVariants as turn
 use Rattle.noise_c.specs.declared.two_runs.Step.{Step}
 use Rattle.noise_c.specs.declared.two_runs.Report.{Report}
 use Rattle.noise_c.specs.declared.two_runs.Ran.{Ran}
-use Rattle.noise_c.specs.declared.codes.numbers.TheConstants.{ENDED, OK, WANTED}
+use Rattle.noise_c.specs.declared.codes.numbers.TheConstants.{ENDED, OK, SHORT, TAG, WANTED}
 use Rattle.noise_c.specs.Finishing.{AreHalvesOf, Finishes}
-use Rattle.noise_c.specs.HandshakeStructs.{entry_in, key_from_c, key_to_c, start_code, ForPattern, GoesOn, IsPatternOf, IsStarted, IsUsable, held_psks, KeepsPsks, KeepsRest, SetsPsk, Supplies}
+use Rattle.noise_c.specs.HandshakeStructs.{entry_in, key_from_c, key_to_c, start_code, ForPattern, GoesOn, IsPatternOf, IsStarted, IsUsable, held_psks, KeepsPsks, KeepsRest, SetsPsk, Supplies, UnsetsPsk}
 use Rattle.noise_c.specs.Outcomes.{ReadOutcome, WriteOutcome}
 use Rattle.noise_c.specs.TwoPrograms.{Passed}
 use Rattle.noise_c.specs.TwoRuns.{waiting}
@@ -23,6 +23,7 @@ pub record WritesStep (side : Bool) (old new : NoiseHandshake) (payload : List �
   pub side_is : s.responder ≡ side
   pub writes : s.reads ≡ false
   pub payload_is : s.payload.items ≡ payload
+  pub stray : s.stray ≡ false
   pub results : NoiseResult
   pub next : NoiseResult
   pub out : List ℕ
@@ -33,11 +34,17 @@ pub record WritesStep (side : Bool) (old new : NoiseHandshake) (payload : List �
   pub held : s.code ≡ OK → KeepsPsks old new
   pub rest : s.code ≡ OK → KeepsRest old new
 
--- what `noise_read` returned and left, or `noise_try_read`, whose refusal doesn't end the handshake
-pub record ReadsStep (side ends : Bool) (old new : NoiseHandshake) (message : List ℕ) (s : Step) : Type 0 where
+-- whether a call accepted a message, or refused it and so ended the handshake
+abbrev pub accepts_or_ends : Bool → ℕ → Bool
+accepts_or_ends ends code = (code == OK) || (ends && not (nat_lt code SHORT) && not (nat_lt TAG code))
+
+-- What `noise_read` returned and left, or `noise_try_read`, whose refusal doesn't end the handshake, of a message of the
+-- other program's or of a stranger's.
+pub record ReadsStep (side ends strange : Bool) (old new : NoiseHandshake) (message : List ℕ) (s : Step) : Type 0 where
   pub side_is : s.responder ≡ side
   pub reads : s.reads ≡ true
   pub message_is : s.message.items ≡ message
+  pub stray : s.stray ≡ (strange && accepts_or_ends ends s.code)
   pub results : NoiseResult
   pub next : NoiseResult
   pub after : List ℕ
@@ -64,8 +71,29 @@ pub record IsFirst (message : List ℕ) (all : List Passed) : Type 0 where
 -- The first message that waits is read, and nothing is done where none does.
 abbrev pub ReadTurn : Bool → Bool → NoiseHandshake → NoiseHandshake → List Step → List Step → Type 0
 ReadTurn side ends old new ss ts = ((waiting side ss ≡ []) × (new ≡ old) × (ts ≡ ss))
-    ⊎ ((message : List ℕ) × (s : Step) × IsFirst message (waiting side ss) × ReadsStep side ends old new message s
+    ⊎ ((message : List ℕ) × (s : Step) × IsFirst message (waiting side ss) × ReadsStep side ends false old new message s
     × (ts ≡ ss ++ s ∷ []))
+
+-- A message of a stranger is read.
+abbrev pub StrangeTurn : Bool → Bool → NoiseHandshake → NoiseHandshake → List ℕ → List Step → List Step → Type 0
+StrangeTurn side ends old new message ss ts =
+    (s : Step) × ReadsStep side ends true old new message s × (ts ≡ ss ++ s ∷ [])
+
+-- A message of a stranger is read with this psk handed in, if a psk token lacks one. Unless the message is accepted, the
+-- psk is taken back.
+pub record PskTurn (side : Bool) (old new : NoiseHandshake) (psk message : List ℕ) (ss ts : List Step) : Type 0 where
+  pub given : NoiseHandshake
+  pub code : ℕ
+  pub sets : SetsPsk old given psk code
+  pub stays : IsUsable old → IsUsable given
+  pub after : NoiseHandshake
+  pub count : IsUsable after → length (held_psks after) ≡ after.psk_count
+  pub step : Step
+  pub reads : ReadsStep side false true given after message step
+  pub steps : ts ≡ ss ++ step ∷ []
+  pub kept : (code ≡ OK → step.code ≡ OK) → new ≡ after
+  pub taken : code ≡ OK → OK < step.code
+      → (back : ℕ) × UnsetsPsk after new back × (IsUsable after → IsUsable new)
 
 -- what a turn of a program does to its struct, and to the steps
 abbrev pub Turned : Bool → Turn → NoiseHandshake → NoiseHandshake → List Step → List Step → Type 0
@@ -76,6 +104,9 @@ Turned side turn.TryRead old new ss ts = ReadTurn side false old new ss ts
 Turned side (turn.Answer a) old new ss ts = (code : ℕ) × Supplies old new (entry_in a) code × (ts ≡ ss)
 Turned side (turn.SetPsk psk) old new ss ts = (code : ℕ) × SetsPsk old new psk code × (code ≡ OK → GoesOn old new psk)
     × (IsUsable old → IsUsable new) × (IsUsable old → length (held_psks old) ≡ old.psk_count) × (ts ≡ ss)
+Turned side (turn.Deliver message) old new ss ts = StrangeTurn side true old new message.items ss ts
+Turned side (turn.TryDeliver message) old new ss ts = StrangeTurn side false old new message.items ss ts
+Turned side (turn.TryPsk psk message) old new ss ts = PskTurn side old new psk message.items ss ts
 
 -- The turns, one after another, lead from the structs of both programs to these, with these steps.
 pub data Runs (a0 b0 : NoiseHandshake) : List (Bool × Turn) → NoiseHandshake → NoiseHandshake → List Step → Type 0 where

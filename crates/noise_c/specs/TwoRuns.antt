@@ -1,8 +1,9 @@
 -- Two programs on the C calls, turn by turn, as whoever has only their bytes and numbers sees them: what each handed in,
 -- and what each call returned.
 use Rattle.std.specs.declared.alloc.AllocError.{AllocError}
-use Rattle.std.specs.Prelude.{◌≡◌, ◌≢◌, ◌⊎◌, ◌↔◌, ◌<◌, ◌+◌, ℕ, zero, suc, ◌==◌, ◌&&◌, not, List, [], ◌∷◌, ◌++◌, drop, length, Bool, true, false, All, Option, Some, if◌then◌else◌, Result, IfOk, IfSome, IsSome}
+use Rattle.std.specs.Prelude.{◌≡◌, ◌≢◌, ◌⊎◌, ◌↔◌, ◌<◌, ◌≤◌, ◌+◌, ℕ, zero, suc, ◌==◌, ◌&&◌, not, List, [], ◌∷◌, ◌++◌, drop, length, map, Bool, true, false, All, Option, Some, Result, IfOk, IfSome, IsSome}
 use Rattle.std.specs.Bool.{beq}
+use Rattle.std.specs.List.{filter, list_any}
 use Rattle.noise_keys.specs.declared.keys.Own.{Own}
 use Rattle.noise_keys.specs.Keys.{key_of}
 use Rattle.noise_c.specs.declared.structs.NoiseHalf.{NoiseHalf}
@@ -11,7 +12,7 @@ use Rattle.noise_c.specs.declared.two_runs.Turn.{Turn}
 use Rattle.noise_c.specs.declared.two_runs.Turn.TheVariants as turn
 use Rattle.noise_c.specs.declared.two_runs.Step.{Step}
 use Rattle.noise_c.specs.declared.two_runs.Ran.{Ran}
-use Rattle.noise_c.specs.declared.codes.numbers.TheConstants.{DONE, NOT_YOUR_TURN, OK, RECEIVER, ROOM, SENDER, TOO_LONG, WANTED, WANTED_PSK}
+use Rattle.noise_c.specs.declared.codes.numbers.TheConstants.{DONE, NOT_YOUR_TURN, OK, RECEIVER, ROOM, SENDER, SHORT, TAG, TOO_LONG, WANTED, WANTED_PSK}
 use Rattle.noise_c.specs.HandshakeStructs.{key_from_c, own_in, psks_in}
 use Rattle.noise_c.specs.TwoPrograms.{IsFront, Passed}
 
@@ -37,10 +38,7 @@ Answers d _ = Unit {0}
 
 -- the turns of a program, of the responder where the flag is true
 abbrev pub turns_of : Bool → List (Bool × Turn) → List Turn
-turns_of side [] = []
-turns_of true ((true, t) ∷ more) = t ∷ turns_of true more
-turns_of false ((false, t) ∷ more) = t ∷ turns_of false more
-turns_of side (_ ∷ more) = turns_of side more
+turns_of side turns = map (λ (t : Bool × Turn). t.1) (filter (λ (t : Bool × Turn). beq t.0 side) turns)
 
 -- the psks that these turns hand in
 abbrev pub psks_of_turns : List Turn → List (List ℕ)
@@ -51,13 +49,10 @@ psks_of_turns (_ ∷ more) = psks_of_turns more
 -- The initiator and the responder hand in psks of one list, in order, each the other's public keys if any, and DH
 -- results that agree: what the private key x of the one makes of the public key y of the other is what y makes of x.
 pub record BeginAlike (g h : NoiseSetup) (turns : List (Bool × Turn)) (d d_too : Dh) (psks : List (List ℕ)) : Type 0 where
-  pub initiator : g.responder ≡ 0
-  pub responder : h.responder ≢ 0
-  pub knows : Knows g h
-  pub knows_too : Knows h g
+  pub roles : (g.responder ≡ 0) × (h.responder ≢ 0)
+  pub knows : Knows g h × Knows h g
   pub agree : (x y : Own) (k l : List ℕ) → own_keys g x ≡ Some k → own_keys h y ≡ Some l → d x l ≡ d_too y k
-  pub answers : All (Answers d) (turns_of false turns)
-  pub answers_too : All (Answers d_too) (turns_of true turns)
+  pub answers : All (Answers d) (turns_of false turns) × All (Answers d_too) (turns_of true turns)
   pub psks_are : IsFront (psks_in g ++ psks_of_turns (turns_of false turns)) psks
   pub psks_too : IsFront (psks_in h ++ psks_of_turns (turns_of true turns)) psks
 
@@ -65,11 +60,12 @@ pub record BeginAlike (g h : NoiseSetup) (turns : List (Bool × Turn)) (d d_too 
 
 -- the messages that a program wrote, or read, with their payloads
 abbrev pub passed_by : Bool → Bool → List Step → List Passed
-passed_by side reads [] = []
-passed_by side reads (s ∷ more) =
-    (if beq s.responder side && beq s.reads reads && (s.code == OK)
-    then record { message = s.message.items; payload = s.payload.items } ∷ [] else [])
-    ++ passed_by side reads more
+passed_by side reads steps = map (λ (s : Step). record { message = s.message.items; payload = s.payload.items })
+    (filter (λ (s : Step). beq s.responder side && beq s.reads reads && (s.code == OK)) steps)
+
+-- whether a program has accepted a message of a stranger, or one has ended its handshake
+abbrev pub has_strayed : List Step → Bool
+has_strayed steps = list_any (λ (s : Step). s.stray) steps
 
 -- how many messages have passed at a program
 abbrev pub passed_at : Bool → List Step → ℕ
@@ -91,19 +87,22 @@ Asks code = (code ≡ WANTED) ⊎ (code ≡ WANTED_PSK)
 -- A write of this payload where there is so much room, after so many of the pattern's messages: it's declined where it
 -- isn't the program's turn, and else the message is written, or is too long, or the call asks.
 pub record IsWritten (side : Bool) (payload : List ℕ) (room messages passed : ℕ) (s : Step) : Type 0 where
-  pub call : (s.responder ≡ side) × (s.reads ≡ false)
-  pub payload_is : s.payload.items ≡ payload
+  pub call : (s.responder ≡ side) × (s.reads ≡ false) × (s.payload.items ≡ payload) × (s.stray ≡ false)
   pub done : passed ≡ messages → s.code ≡ DONE
   pub early : passed ≢ messages → is_writer side passed ≡ false → s.code ≡ NOT_YOUR_TURN
   pub due : passed ≢ messages → is_writer side passed ≡ true
-      → (s.code ≡ OK) ⊎ Asks s.code ⊎ (s.code ≡ TOO_LONG) ⊎ ((s.code ≡ ROOM) × (room < 65535))
+      → (s.code ≡ OK) ⊎ Asks s.code ⊎ ((s.code ≡ TOO_LONG) × (65535 < length payload + 96)) ⊎ ((s.code ≡ ROOM) × (room < 65535))
 
 -- A read of this message: it's read, with its payload, or the call asks. It's neither refused nor declined.
 pub record IsRead (side : Bool) (m : Passed) (s : Step) : Type 0 where
-  pub call : (s.responder ≡ side) × (s.reads ≡ true)
-  pub message_is : s.message.items ≡ m.message
+  pub call : (s.responder ≡ side) × (s.reads ≡ true) × (s.message.items ≡ m.message) × (s.stray ≡ false)
   pub payload_is : s.code ≡ OK → s.payload.items ≡ m.payload
   pub codes : (s.code ≡ OK) ⊎ Asks s.code
+
+-- A read of a message of a stranger. By `noise_read` a refusal ends the handshake.
+pub record IsStrange (side ends : Bool) (message : List ℕ) (s : Step) : Type 0 where
+  pub call : (s.responder ≡ side) × (s.reads ≡ true) × (s.message.items ≡ message)
+  pub stray : s.stray ≡ true ↔ ((s.code ≡ OK) ⊎ ((ends ≡ true) × (SHORT ≤ s.code) × (s.code ≤ TAG)))
 
 -- the first message that waits is read, if one does
 abbrev pub ReadsFirst : Bool → List Passed → List Step → Type 0
@@ -116,25 +115,27 @@ Adds messages side (turn.Write payload room) steps more =
     (s : Step) × IsWritten side payload.items room messages (passed_at side steps) s × (more ≡ s ∷ [])
 Adds messages side turn.Read steps more = ReadsFirst side (waiting side steps) more
 Adds messages side turn.TryRead steps more = ReadsFirst side (waiting side steps) more
+Adds messages side (turn.Deliver m) steps more = (s : Step) × IsStrange side true m.items s × (more ≡ s ∷ [])
+Adds messages side (turn.TryDeliver m) steps more = (s : Step) × IsStrange side false m.items s × (more ≡ s ∷ [])
+Adds messages side (turn.TryPsk _ m) steps more = (s : Step) × IsStrange side false m.items s × (more ≡ s ∷ [])
 Adds messages side _ steps more = more ≡ []
 
--- the steps of these turns, one turn after another
+-- the steps of these turns, one turn after another, until a message of a stranger is accepted or ends a handshake
 pub data AreRight (messages : ℕ) : List (Bool × Turn) → List Step → Type 0 where
   none : AreRight messages [] []
   one_more : (turns : List (Bool × Turn)) (steps more : List Step) (side : Bool) (t : Turn) → AreRight messages turns steps
-      → Adds messages side t steps more → AreRight messages (turns ++ (side, t) ∷ []) (steps ++ more)
+      → has_strayed steps ≡ false → Adds messages side t steps more → AreRight messages (turns ++ (side, t) ∷ []) (steps ++ more)
+  strayed : (turns : List (Bool × Turn)) (steps more : List Step) (t : Bool × Turn) → AreRight messages turns steps
+      → has_strayed steps ≡ true → AreRight messages (turns ++ t ∷ []) (steps ++ more)
 
 -- a half that seals, and the other program's half that opens what it seals
 pub record Meet (sender receiver : NoiseHalf) : Type 0 where
   pub kinds : (sender.mark ≡ SENDER) × (receiver.mark ≡ RECEIVER)
-  pub key : receiver.key ≡ sender.key
-  pub nonce : receiver.nonce ≡ sender.nonce
-  pub interval : receiver.interval ≡ sender.interval
+  pub same : (receiver.key ≡ sender.key) × (receiver.nonce ≡ sender.nonce) × (receiver.interval ≡ sender.interval)
 
--- The steps are those of the turns. Where as many messages have passed at both, both have one hash. The static key that
--- one takes for the other's is the other's. Both finish once all messages have passed, and then their halves meet.
-pub record RunIsRight (g h : NoiseSetup) (turns : List (Bool × Turn)) (ran : Ran) : Type 0 where
-  pub steps : AreRight ran.initiator.messages turns ran.steps.items
+-- Where as many messages have passed at both, both have one hash. The static key that one takes for the other's is the
+-- other's. Both finish once all messages have passed, and then their halves meet.
+pub record EndIsRight (g h : NoiseSetup) (ran : Ran) : Type 0 where
   pub passed : ran.initiator.passed ≡ passed_at false ran.steps.items
   pub passed_too : ran.responder.passed ≡ passed_at true ran.steps.items
   pub hash : ran.initiator.passed ≡ ran.responder.passed → ran.initiator.hash ≡ ran.responder.hash
@@ -147,4 +148,5 @@ pub record RunIsRight (g h : NoiseSetup) (turns : List (Bool × Turn)) (ran : Ra
 -- Whatever both programs call, in whatever order: where both starts return OK.
 abbrev pub RunsRight : NoiseSetup → NoiseSetup → List (Bool × Turn) → Result (Option Ran) AllocError → Type 0
 RunsRight g h turns result = (d d_too : Dh) (psks : List (List ℕ)) → BeginAlike g h turns d d_too psks
-    → IfOk result (λ one. IfSome one (RunIsRight g h turns))
+    → IfOk result (λ one. IfSome one (λ ran. AreRight ran.initiator.messages turns ran.steps.items
+    × (has_strayed ran.steps.items ≡ false → EndIsRight g h ran)))

@@ -27,4 +27,5 @@ pub mod toy_streams;
 pub mod toys;
 pub mod two_programs;
 pub mod two_runs;
+pub mod two_streams;
 mod version;

@@ -131,7 +131,7 @@ pub fn read_stream_to_end(
 }
 
 // Whether a reader has met the end, and nothing is left after it.
-fn is_whole(stream: &NoiseStreamReceiver, left: usize) -> bool
+pub(crate) fn is_whole(stream: &NoiseStreamReceiver, left: usize) -> bool
     requires known { is_stream_receiver stream.now ≡ true }
     ensures whole { (result ≡ true) ↔ (((stream_receiver_from_c stream.now).state ≡ states.Ended) × (left ≡ 0)) }
 {

@@ -36,8 +36,9 @@ fn is_done(handshake: &NoiseHandshake) -> bool
     stage.passed >= 1 && handshake.cipher.present >= 1
 }
 
-// Both programs of the pattern XX once all messages have passed, the initiator first.
-fn finish_both(
+/// Both programs of the pattern XX once all messages have passed, the initiator first; nothing where the buffer was too
+/// short, or a key is missing.
+pub fn finish_both(
     initiator: &XorKeys,
     responder: &XorKeys,
     buffer: &mut [u8],

@@ -1,16 +1,16 @@
 //! Two programs on the C calls, run turn by turn: whatever they call, and in whatever order. No export calls it, and the
 //! static library has none of it.
 
-ghost use Rattle.std.specs.Prelude.{◌≡◌, ◌⊎◌, ◌<◌, ◌≤◌, [], length, true, false, IfOk, IsSome, MatchOption};
+ghost use Rattle.std.specs.Prelude.{◌≡◌, ◌⊎◌, ◌<◌, ◌≤◌, ◌&&◌, [], length, true, false, IfOk, IsSome, MatchOption};
 ghost use Rattle.noise_c.specs.Finishing.{AreHalvesOf, Finishes};
-ghost use Rattle.noise_c.specs.HandshakeStructs.{IsUsable, KeepsPsks, KeepsRest};
+ghost use Rattle.noise_c.specs.HandshakeStructs.{IsUsable, KeepsPsks, KeepsRest, UnsetsPsk};
 ghost use Rattle.noise_c.specs.Outcomes.{ReadOutcome};
-ghost use Rattle.noise_c.specs.RunSteps.{BothStart, EndsAs, IsFirst, IsPassedAt, ReadTurn, ReadsStep, Reports, RunIsMade, Turned, WritesStep};
+ghost use Rattle.noise_c.specs.RunSteps.{BothStart, EndsAs, IsFirst, IsPassedAt, PskTurn, ReadTurn, ReadsStep, Reports, RunIsMade, StrangeTurn, Turned, WritesStep, accepts_or_ends};
 ghost use Rattle.noise_c.specs.TwoRuns.{RunsRight, passed_by, waiting};
 ghost use Rattle.noise_c.specs.declared.codes.numbers.TheConstants.{ENDED, OK, WANTED};
 
-use crate::codes::numbers::OK;
-use crate::late::{noise_answer, noise_set_psk};
+use crate::codes::numbers::{OK, SHORT, TAG};
+use crate::late::{noise_answer, noise_set_psk, noise_unset_psk};
 use crate::messages::{noise_read, noise_try_read, noise_write};
 use crate::patterns::pattern_of;
 use crate::progress::{noise_hash, noise_remote_static, noise_stage};
@@ -22,10 +22,13 @@ use crate::structs::{NoiseHandshake, NoiseResult, NoiseStageResult};
 use crate::toys::{NO_HANDSHAKE, NO_KEY, NO_RESULT};
 use crate::two_programs::two_programs_agree;
 use noise_handshake::laws::{setup_is_whole, tokens_match};
+use noise_names::laws::tokens_keep_rules;
 use std::alloc::{AllocError, Global};
 
 /// What a program does in its turn: it writes this payload where there is room for so many bytes, reads the next
-/// message by `noise_read` or `noise_try_read`, or hands in a DH result or a psk.
+/// message by `noise_read` or `noise_try_read`, or hands in a DH result or a psk; or it reads bytes that the other
+/// program didn't write, by either call, or by `noise_try_read` with a psk that `noise_unset_psk` takes back unless the
+/// message is accepted.
 #[derive(Drop)]
 pub enum Turn {
     Write(Vec<u8>, u16),
@@ -33,13 +36,18 @@ pub enum Turn {
     TryRead,
     Answer(NoiseAnswer),
     SetPsk([u8; 32]),
+    Deliver(Vec<u8>),
+    TryDeliver(Vec<u8>),
+    TryPsk([u8; 32], Vec<u8>),
 }
 
-/// A call that writes or reads, and what came of it.
+/// A call that writes or reads, and what came of it. It is stray if it accepted a message of a stranger, or ended the
+/// handshake by one.
 #[derive(Drop)]
 pub struct Step {
     pub responder: bool,
     pub reads: bool,
+    pub stray: bool,
     pub code: u32,
     pub message: Vec<u8>,
     pub payload: Vec<u8>,
@@ -95,6 +103,7 @@ fn write(
     Ok(Step {
         responder,
         reads: false,
+        stray: false,
         code,
         message,
         payload,
@@ -121,15 +130,23 @@ fn read_by(
     }
 }
 
-// Reads a message in memory of its own.
+// Whether a call accepted a message of a stranger, or refused it and so ended the handshake.
+fn is_stray(strange: bool, ends: bool, code: u32) -> bool
+    ensures { result ≡ (strange && accepts_or_ends ends code) }
+{
+    strange && (code == OK || (ends && code >= SHORT && code <= TAG))
+}
+
+// Reads a message in memory of its own, of the other program or of a stranger.
 fn read(
     alloc: Global,
     handshake: &mut NoiseHandshake,
     responder: bool,
     ends: bool,
+    strange: bool,
     message: Vec<u8>,
 ) -> Result<Step, AllocError>
-    ensures { IfOk result (ReadsStep responder ends handshake.old handshake.new message.items) }
+    ensures { IfOk result (ReadsStep responder ends strange handshake.old handshake.new message.items) }
 {
     let mut came = Vec::from_slice(alloc, &message)?;
     let mut results = NO_RESULT;
@@ -142,6 +159,7 @@ fn read(
     Ok(Step {
         responder,
         reads: true,
+        stray: is_stray(strange, ends, code),
         code,
         message,
         payload,
@@ -213,9 +231,61 @@ fn take_read(
     let Some(message) = first_waiting(alloc, steps, responder)? else {
         return Ok(());
     };
-    let step = read(alloc, handshake, responder, ends, message)?;
+    let step = read(alloc, handshake, responder, ends, false, message)?;
     steps.push(step)?;
     Ok(())
+}
+
+// Reads a message of a stranger.
+fn read_strange(
+    alloc: Global,
+    handshake: &mut NoiseHandshake,
+    responder: bool,
+    ends: bool,
+    message: &[u8],
+    steps: &mut Vec<Step>,
+) -> Result<(), AllocError>
+    ensures { IfOk result (λ _.
+        StrangeTurn responder ends handshake.old handshake.new message.now steps.old.items steps.new.items) }
+{
+    let message = Vec::from_slice(alloc, message)?;
+    let step = read(alloc, handshake, responder, ends, true, message)?;
+    steps.push(step)?;
+    Ok(())
+}
+
+// Reads a message of a stranger with this psk, which is taken back unless the message is accepted.
+fn read_with_psk(
+    alloc: Global,
+    handshake: &mut NoiseHandshake,
+    responder: bool,
+    psk: &[u8; 32],
+    message: &[u8],
+    steps: &mut Vec<Step>,
+) -> Result<(), AllocError>
+    ensures { IfOk result (λ _.
+        PskTurn responder handshake.old handshake.new psk.now message.now steps.old.items steps.new.items) }
+{
+    let message = Vec::from_slice(alloc, message)?;
+    let code = noise_set_psk(handshake, psk);
+    let step = read(alloc, handshake, responder, false, true, message)?;
+    take_back(handshake, code, step.code);
+    steps.push(step)?;
+    Ok(())
+}
+
+// Takes back the psk that was handed in, unless none was or the message was accepted.
+fn take_back(handshake: &mut NoiseHandshake, handed_in: u32, read: u32) -> u32
+    ensures kept { (handed_in ≡ OK → read ≡ OK) → handshake.new ≡ handshake.old }
+    ensures taken { handed_in ≡ OK → OK < read → UnsetsPsk handshake.old handshake.new result }
+    ensures stays { IsUsable handshake.old → IsUsable handshake.new }
+    ensures places { length handshake.old.psks ≡ 9 }
+{
+    if handed_in == OK && read != OK {
+        noise_unset_psk(handshake)
+    } else {
+        OK
+    }
 }
 
 // Takes a program's turn.
@@ -244,6 +314,13 @@ fn take_turn(
             noise_set_psk(handshake, psk);
             Ok(())
         }
+        Turn::Deliver(message) => read_strange(alloc, handshake, responder, true, message, steps),
+        Turn::TryDeliver(message) => read_strange(
+            alloc, handshake, responder, false, message, steps,
+        ),
+        Turn::TryPsk(psk, message) => read_with_psk(
+            alloc, handshake, responder, psk, message, steps,
+        ),
     }
 }
 
@@ -319,8 +396,9 @@ fn end(a: &mut NoiseHandshake, b: &mut NoiseHandshake, steps: Vec<Step>, interva
 /// Runs two programs on the C calls, of one pattern and prologue, turn by turn, and finishes both handshakes. None where
 /// a start doesn't return OK.
 ///
-/// If they begin alike, each payload that is read is the one that was written, no message is refused, and both end with
-/// one hash, with each other's static keys as far as they know them, and with halves that meet.
+/// If they begin alike, then until a message of a stranger is accepted or ends a handshake, each payload that is read is
+/// the one that was written, and no message of the other program is refused. If none does, both end with one hash, with
+/// each other's static keys as far as they know them, and with halves that meet.
 pub fn run_two(
     alloc: Global,
     text: &[u8],
@@ -340,6 +418,7 @@ pub fn run_two(
     two_programs_agree();
     setup_is_whole();
     tokens_match();
+    tokens_keep_rules();
     let mut a = NO_HANDSHAKE;
     let mut b = NO_HANDSHAKE;
     if noise_start(&mut a, text, prologue, initiator) != OK {

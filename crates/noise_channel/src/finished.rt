@@ -4,13 +4,14 @@ ghost use Rattle.std.specs.Prelude.{◌≡◌, ◌<◌, ◌+◌, ◌↔◌, ◌�
 ghost use Rattle.noise_names.specs.Plan.{Plan};
 ghost use Rattle.noise_handshake.specs.Matching.{Matches};
 ghost use Rattle.noise_handshake.specs.Party.{Party};
-ghost use Rattle.noise_session.specs.TransportValue.{transport_of};
+ghost use Rattle.noise_session.specs.TransportValue.{TransportState, transport_of};
 ghost use Rattle.noise_channel.specs.Halves.{StreamReceiverMatches, StreamSenderMatches};
 ghost use Rattle.noise_channel.specs.Reading.StreamReceiverState.{Listens};
 ghost use Rattle.noise_channel.specs.Writing.StreamSenderState.{Speaks};
 ghost use Rattle.noise_duel.specs.Messages.{HandshakeMessage, Start};
 ghost use Rattle.noise_channel.specs.Finished.{ForgedOrTwice, HaveFinished};
-ghost use Rattle.noise_channel.specs.Receiving.{HandsOut};
+ghost use Rattle.noise_channel.specs.Receiving.{HandsOut, HandsOutAll};
+ghost use Rattle.noise_channel.specs.Streams.{incoming, outgoing};
 
 use crate::laws::finished_agree;
 use crate::{StreamReceiver, StreamSender, read_to_end};
@@ -46,6 +47,7 @@ pub fn streams<K: Keys>(
 ///
 /// With the other party of the same handshake, `out` gets the first bytes that this one wrote, and all of
 /// them where it's the whole stream; or a message is forged, or a sealed text opens twice, or two hashed texts collide.
+/// Where all came that the other party put out, unaltered, `out` gets all that it wrote.
 pub fn read_after<K: Keys>(
     handshake: Handshake<K>,
     interval: u64,
@@ -64,6 +66,10 @@ pub fn read_after<K: Keys>(
         → HaveFinished p a b ps qs v w → Matches K.pairs handshake v → IfOk result
         (λ whole. HandsOut (transport_of w interval) came.old out.old.items out.new.items whole
         ⊎ ForgedOrTwice p a b ps qs) }
+    ensures all { (handshake.ended ≡ false) × (handshake.passed ≡ length handshake.pattern.messages)
+        → (u : Party) (v : TransportState) → Matches K.pairs handshake u
+        → outgoing v ≡ incoming (transport_of u interval)
+        → IfOk result (λ whole. HandsOutAll v came.old out.old.items out.new.items whole) }
 {
     finished_agree();
     match streams(handshake, interval) {

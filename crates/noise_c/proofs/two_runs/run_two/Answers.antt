@@ -96,6 +96,7 @@ returns c =
               keys = c.tokens_match.ensures.keys;
             };
             law = c.two_programs_agree.ensures;
+            once = c.tokens_keep_rules.ensures p c.in-Ok.ensures.valid;
             valid = c.in-Ok.ensures.valid;
             named = c.in-Ok.ensures.named;
             one = c.in-Ok.ensures.one;

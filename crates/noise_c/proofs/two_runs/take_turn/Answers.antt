@@ -1,5 +1,6 @@
 use Rattle.std.proofs.Common.{◌≡◌, ◌-◌, ℕ, List, length, length-drop, sym, subst, refl, arith, rules}
-use Rattle.noise_c.specs.RunSteps.{Turned, WritesStep}
+use Rattle.std.specs.Prelude.{IfOk, false, true}
+use Rattle.noise_c.specs.RunSteps.{StrangeTurn, Turned, WritesStep}
 use Rattle.noise_c.specs.declared.two_runs.Turn.{Turn}
 use Rattle.noise_c.proofs.two_runs.take_turn.Goals as goal
 
@@ -24,3 +25,17 @@ returns-in-SetPsk c =
       (λ u. omega (arith, length-drop (9 - k.psk_count) k.psks, nine, u.psks)),
       refl,
     )
+
+pub returns-in-Deliver : goal.returns-in-Deliver
+returns-in-Deliver c =
+    let call = c.read_strange in
+    subst (λ (t : Turn). IfOk call.result (λ _. Turned c.args.responder t c.args.handshake.now call.new.handshake c.args.steps.now.items call.new.steps.items)) (sym c.in-Deliver.is)
+    (subst (λ (z : List ℕ). IfOk call.result (λ _. StrangeTurn c.args.responder true c.args.handshake.now call.new.handshake z c.args.steps.now.items call.new.steps.items))
+    c.deref-in-Deliver.ensures.value call.ensures)
+
+pub returns-in-TryDeliver : goal.returns-in-TryDeliver
+returns-in-TryDeliver c =
+    let call = c.read_strange-in-TryDeliver in
+    subst (λ (t : Turn). IfOk call.result (λ _. Turned c.args.responder t c.args.handshake.now call.new.handshake c.args.steps.now.items call.new.steps.items)) (sym c.in-TryDeliver.is)
+    (subst (λ (z : List ℕ). IfOk call.result (λ _. StrangeTurn c.args.responder false c.args.handshake.now call.new.handshake z c.args.steps.now.items call.new.steps.items))
+    c.deref-in-TryDeliver.ensures.value call.ensures)

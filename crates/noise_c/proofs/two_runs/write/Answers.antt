@@ -24,6 +24,7 @@ returns c =
       side_is = refl;
       writes = refl;
       payload_is = c.in_ok-payload.ensures.items;
+      stray = refl;
       results = _;
       next = w.new.results;
       out = c.deref_mut.result.now;

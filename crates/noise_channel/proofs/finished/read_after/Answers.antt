@@ -20,3 +20,8 @@ returns-in-Some-clause-initiator g c p a b ps qs v w h matches =
       | inl whole ↦ inl (c.read_to_end.ensures.front (transport_of w i) (transport_of v i) whole.1 (let o = c.in-Some.ensures.matches v matches in o.1))
       | inr forged ↦ inr forged
     ])
+
+pub returns-in-Some-clause-all : goal.returns-in-Some-clause-all
+returns-in-Some-clause-all g c done u v matches same =
+    let o = c.in-Some.ensures.matches u matches in
+    c.read_to_end.ensures.all v (transport_of u c.args.interval) same o.1
