@@ -18,6 +18,5 @@ mod state;
 mod streams;
 mod support;
 mod taking;
-mod transcripts;
 mod transport;
 mod using;

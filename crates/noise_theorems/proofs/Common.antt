@@ -4,21 +4,21 @@ pub use Rattle.std.proofs.lemmas.List.{drop_more, length-map, map-append, revers
 pub use Rattle.std.proofs.lemmas.Option.{same_Some, slice_get-map, slice_get_cases, slice_get_read}
 pub use Rattle.std.proofs.lemmas.Result.{err_from_is_err_and}
 pub use Rattle.std.specs.Global.{Global}
-pub use Rattle.std.specs.Prelude.{Bool, IsOk, IsSome, IsTrue, MatchOption, Vec, false, if◌then◌else◌, is_some, nat_le, slice_range, true, ◌==◌, IfSome, MatchBool, decimal, nat_lt, not, slice_get, unwrap_or, ⊤, ◌↔◌}
+pub use Rattle.std.specs.Prelude.{Bool, IsOk, IsSome, IsTrue, MatchOption, Vec, false, if◌then◌else◌, is_some, nat_le, slice_range, true, ◌==◌}
 pub use Rattle.noise_duel.specs.Acts.{roles_and_payloads}
 pub use Rattle.noise_duel.specs.Clash.{ClashFound, FoundIsClash, first_clash}
-pub use Rattle.noise_duel.specs.Conversation.{HaveParts, InTurn, end_after, notes_of_messages, sides_at_start, KeyMaterial, MessagesComeThrough, MessagesLeave, MessagesRun, after_conversation, conversation, frames_by, state_after_lines, in_turn, messages_by, payloads_in, say_events, start_in, transcript, transport_messages_of}
+pub use Rattle.noise_duel.specs.Conversation.{HaveParts, InTurn, end_after, notes_of_messages, sides_at_start}
 pub use Rattle.noise_duel.specs.Forgery.{ForgedMessage, PrefixOrForgedMessage, contents, in_stream}
-pub use Rattle.noise_duel.specs.Messages.{HandshakeMessage, Start, begun_as, messages_of}
+pub use Rattle.noise_duel.specs.Messages.{HandshakeMessage, Start, begun_as}
 pub use Rattle.noise_duel.specs.Networks.{HaveOneHistory, HaveSamePsks, HaveClash, PayloadsAgree, PayloadsCome, PsksMakeOne}
 pub use Rattle.noise_duel.specs.Notes.{Held, Judged, Left, Note, WriteFault, Wrote, held_note, left_note, noted_by}
 pub use Rattle.noise_duel.specs.Sides.{Side, Sides, TransportMessage, accepted_handshake, accepted_transport, new_side, with_state, wrote_handshake, wrote_transport}
-pub use Rattle.noise_events.specs.Events.{Event, events_of, Say, event_of}
+pub use Rattle.noise_events.specs.Events.{Event, events_of}
 pub use Rattle.noise_handshake.specs.Party.{Accepts, Listens, Party, Refuses, dh_result_of, remote_at}
-pub use Rattle.noise_handshake.specs.Setup.{party_at_start, public_keys, setup_fault, token_of}
+pub use Rattle.noise_handshake.specs.Setup.{party_at_start, public_keys, setup_fault}
 pub use Rattle.noise_keys.specs.declared.keys.Own.{Own}
 pub use Rattle.noise_names.specs.Lists.{bytes_of, get-front, get-last}
-pub use Rattle.noise_names.specs.Plan.{Plan, is_one_way, places_of}
+pub use Rattle.noise_names.specs.Plan.{Plan, is_one_way}
 pub use Rattle.noise_names.specs.Tokens.{other, same_role, turn_from}
 pub use Rattle.noise_names.specs.declared.token.Role.{Role}
 pub use Rattle.noise_names.specs.declared.token.Role.TheVariants.{Initiator, Responder}
@@ -27,24 +27,7 @@ pub use Rattle.noise_session.specs.Progress.{idle_step, is_open, role_of}
 pub use Rattle.noise_session.specs.Steps.{StepValue, step_value}
 pub use Rattle.noise_session.specs.Taking.{Judges, Takes}
 pub use Rattle.noise_state.specs.declared.symmetric.SymmetricState.{SymmetricState}
-pub use Rattle.noise_state.specs.History.{Ciphertext, Entry, History, MixHash, MixKey, MixKeyAndHash, and_then, hash_of, state_of_history}
+pub use Rattle.noise_state.specs.History.{Ciphertext, Entry, History, MixHash, MixKey, MixKeyAndHash, hash_of, state_of_history}
 pub use Rattle.noise_theorems.specs.FittingMessages.{bytes_not_received, message_fits, messages_fit_from}
 pub use Rattle.noise_theorems.specs.Payloads.{PayloadsAreReported, done_of, notes_about, own_payloads, payload_given, payload_reported, reported_to, was_written, written_by}
 pub use Rattle.noise_theorems.specs.Setup.{IsReportedFault, XorKeysHaveDhResults, state_of_lines, or_next, start_by}
-pub use Rattle.noise_handshake.specs.Counterparts.{is_dh, shown_before}
-pub use Rattle.noise_lines.specs.Lines.{line_of, lines_text}
-pub use Rattle.noise_names.specs.Validity.{IsFirstFault, IsValid, is_among, occurs}
-pub use Rattle.noise_tool.specs.Ends.{HasSetupFault, IsFilePattern, IsFilePatternFault, IsStartFault, file_start, setup_of, sides_of_file}
-pub use Rattle.noise_tool.specs.Printed.{note_line, progress_words, state_line, state_lines}
-pub use Rattle.noise_tool.specs.Running.{AreLast, IsRunOf, datagrams_of_version, expected_in}
-pub use Rattle.noise_vectors.specs.FileKeys.{agreement_of, public_of}
-pub use Rattle.noise_vectors.specs.SameFile.{SaySame, VectorTextsAreUnique, expected_of, held_datagrams, version_datagrams}
-pub use Rattle.noise_vectors.specs.VectorFile.{AreKeys, IsAllowed, IsAllowedFile, IsAllowedVersion, IsVectorFile, say_of}
-pub use Rattle.noise_vectors.specs.VectorText.{file_text, role_word}
-pub use Rattle.noise_vectors.specs.declared.file_keys.FileKeys.{FileKeys}
-pub use Rattle.noise_vectors.specs.declared.vector.AllowedEvents.TheVariants.{SayOnly}
-pub use Rattle.noise_vectors.specs.declared.vector.VectorFile.{VectorFile}
-pub use Rattle.noise_vectors.specs.declared.vector.Version.{Version}
-pub use Rattle.noise_vectors.specs.declared.vector.Version.TheVariants.{One, Two}
-pub use Rattle.noise_theorems.specs.Fitting.{HasFittingMessages, IsXor}
-pub use Rattle.noise_theorems.specs.Talked.{FittingMessagesRun, exchange_lines, payload_line, reached_line, talked_lines, wrote_line}

@@ -15,12 +15,3 @@ pub mod HashReported
 pub mod Xor
 pub mod Mixed
 pub mod Agreed
-pub mod Exchange
-pub mod Names
-pub mod Printed
-pub mod Asked
-pub mod Reached
-pub mod Refusals
-pub mod Runs
-pub mod Same
-pub mod FileKeysAgree

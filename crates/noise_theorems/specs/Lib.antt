@@ -4,7 +4,6 @@ pub mod Conversed
 pub mod Datagrams
 pub mod Entries
 pub mod Exactly
-pub mod Fitting
 pub mod Joined
 pub mod Lacking
 pub mod FittingMessages
@@ -12,6 +11,5 @@ pub mod Mixed
 pub mod Payloads
 pub mod Setup
 pub mod Taking
-pub mod Talked
 pub mod Turns
 pub mod inner

@@ -1,4 +1,4 @@
-//! Laws of what two ends of one set-up accept and report, and of files whose lines fit.
+//! Laws of what two ends of one set-up accept and report.
 
 ghost use Rattle.noise_theorems.specs.Agreement.{HashIsReported};
 ghost use Rattle.noise_theorems.specs.Datagrams.{DatagramEntriesAgree, DatagramKeysCome, DatagramsAreReported};
@@ -9,13 +9,10 @@ ghost use Rattle.noise_theorems.specs.Lacking.{LacksAtDh};
 ghost use Rattle.noise_theorems.specs.Payloads.{PayloadsAreReported};
 ghost use Rattle.noise_theorems.specs.Setup.{XorKeysHaveDhResults};
 ghost use Rattle.noise_theorems.specs.Turns.{MessagesTakeTurns};
-ghost use Rattle.noise_theorems.specs.Talked.{FittingMessagesRun};
 
-use noise_duel::laws::{
-    alike_are_parts, datagrams_agree, ends_agree, ends_match, messages_come_through,
-};
+use noise_duel::laws::{datagrams_agree, ends_agree, ends_match};
 use noise_handshake::Keys;
-use noise_handshake::laws::{accepted_once, refused_once, setup_is_whole, tokens_match};
+use noise_handshake::laws::{accepted_once, refused_once};
 use noise_session::laws::{accepted_exactly, end_is_reported, judged_once, written_is_received};
 
 /// Two parties whose `XorKeys` have both key pairs have a DH result at each DH of every pattern.
@@ -107,17 +104,4 @@ pub fn datagram_entries_agree()
     ensures keys { DatagramKeysCome }
 {
     datagrams_agree();
-}
-
-/// The lines of a file's run, where the lines that it says fit: each message of the transcript as a frame, with its
-/// payload at the other party, and then how far each party has come. So all frames are accepted, none is refused or
-/// dropped, and no byte is left over.
-pub fn fitting_messages_run()
-    ensures { FittingMessagesRun }
-{
-    setup_is_whole();
-    tokens_match();
-    alike_are_parts();
-    messages_come_through();
-    fitting_messages_take_turns();
 }

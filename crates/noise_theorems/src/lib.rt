@@ -1,5 +1,5 @@
-//! Theorems about two parties, as calls that no program makes: a whole conversation of two parties of equal setup, and
-//! what `noise talk` prints of a file whose lines fit.
+//! Theorems about two parties, as calls that no program makes, such as a whole conversation of two parties of equal
+//! setup.
 #![tactic(auto)]
 
 mod arrival;
@@ -14,7 +14,6 @@ mod lengths;
 mod message;
 mod network;
 mod prologues;
-mod transcript;
 
 pub use arrival::run_chunks;
 pub use clash::{HashClash, find_clash, find_mix_hash_clash};
@@ -26,4 +25,3 @@ pub use lengths::messages_fit;
 pub use message::reads_as;
 pub use network::run_events;
 pub use prologues::run_apart;
-pub use transcript::talk;

@@ -1,9 +1,9 @@
 use Rattle.std.proofs.Common.{refl, inl, inr}
-use Rattle.noise_theorems.proofs.Printed.{Once, long-at, met-at, prefix-at, printed-at}
-use Rattle.noise_theorems.proofs.Asked.{of-talk, outcome-of}
+use Rattle.noise_transcript.proofs.Printed.{Once, long-at, met-at, prefix-at, printed-at}
+use Rattle.noise_transcript.proofs.Asked.{of-talk, outcome-of}
 use Rattle.noise_tool.specs.Prefixes.{PrintsPrefix}
 use Rattle.noise_words.specs.declared.orders.Chosen.TheVariants.{Talk}
-use Rattle.noise_theorems.proofs.transcript.talk.Goals as goal
+use Rattle.noise_transcript.proofs.transcript.talk.Goals as goal
 
 pub returns-clause-printed : goal.returns-clause-printed
 returns-clause-printed g c f p lines fits is =

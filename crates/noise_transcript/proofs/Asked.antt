@@ -1,11 +1,11 @@
 -- What `talk` is asked for: it is done on the bytes of the file that it names.
 use Rattle.std.proofs.Common.{◌≡◌, ◌∙◌, refl, subst, inl, inr, ℕ, List, Option, Some, String, string_bytes}
 use Rattle.std.specs.Global.{Global}
-use Rattle.noise_theorems.proofs.Common.{Bool, Role, Plan, VectorFile, file_text, HasFittingMessages}
+use Rattle.noise_transcript.proofs.Common.{Bool, Role, Plan, VectorFile, file_text, HasFittingMessages}
 use Rattle.noise_tool.specs.Outcomes.{CommandOutcome}
 use Rattle.noise_tool.specs.Performing.{IsDone, IsStopped, OfAsked}
 use Rattle.noise_words.specs.declared.orders.Chosen.TheVariants.{Talk}
-use Rattle.noise_theorems.proofs.Printed.{Once, Outcome, outcome}
+use Rattle.noise_transcript.proofs.Printed.{Once, Outcome, outcome}
 
 module _ (bytes_at : List ℕ → Option (List ℕ)) (unreadable : List ℕ → Bool) (name : String Global) (text : List ℕ) where
   pub of-talk : (P : Option (List ℕ) → Type 0) → bytes_at (string_bytes name) ≡ Some text → OfAsked bytes_at unreadable (Talk name) P → P (Some text)

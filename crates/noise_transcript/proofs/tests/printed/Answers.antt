@@ -1,7 +1,7 @@
 use Rattle.std.proofs.Common.{◌∙◌, ◌++◌, ◌≤◌, ap, arith, ℕ, List, Some}
 use Rattle.noise_lines.specs.Lines.{lines_text}
-use Rattle.noise_theorems.specs.Talked.{talked_lines}
-use Rattle.noise_tests.proofs.tests.transcripts.printed.Goals as goal
+use Rattle.noise_transcript.specs.Talked.{talked_lines}
+use Rattle.noise_transcript.proofs.tests.printed.Goals as goal
 
 pub returns : goal.returns
 returns g c =

@@ -3,7 +3,7 @@ use Rattle.std.proofs.Common.{◌≡◌, ◌∙◌, refl, ap, sym, subst, ℕ, z
 use Rattle.std.specs.Prelude.{Option, Some}
 use Rattle.std.proofs.lemmas.Bool.Decides.{nat_tests}
 use Rattle.std.proofs.lemmas.List.{length-map, length_push, take-append-drop}
-use Rattle.noise_theorems.proofs.Common.{⊤, Bool, true, false, nat_lt, MatchBool, slice_get, unwrap_or, Role, Initiator, Responder, Plan, KeyMaterial, InTurn, after_conversation, conversation, frames_by, in_turn, notes_of_messages, transport_messages_of, payloads_in, start_in, transcript, HandshakeMessage, messages_of, Sides, note_line, exchange_lines, payload_line, wrote_line}
+use Rattle.noise_transcript.proofs.Common.{⊤, Bool, true, false, nat_lt, MatchBool, slice_get, unwrap_or, Role, Initiator, Responder, Plan, KeyMaterial, InTurn, after_conversation, conversation, frames_by, in_turn, notes_of_messages, transport_messages_of, payloads_in, start_in, transcript, HandshakeMessage, messages_of, Sides, note_line, exchange_lines, payload_line, wrote_line}
 use Rattle.noise_state.specs.declared.symmetric.SymmetricState.{SymmetricState}
 use Rattle.noise_session.specs.Frames.{frame}
 

@@ -1,6 +1,6 @@
 -- Files that say the same run alike.
 use Rattle.std.proofs.Common.{◌≡◌, ◌∙◌, refl, sym}
-use Rattle.noise_theorems.proofs.Common.{SaySame, version_datagrams, expected_of, held_datagrams, VectorFile, Version, One, Two, datagrams_of_version, expected_in}
+use Rattle.noise_transcript.proofs.Common.{SaySame, version_datagrams, expected_of, held_datagrams, VectorFile, Version, One, Two, datagrams_of_version, expected_in}
 use Rattle.noise_tool.specs.OneRun.{RunAlike}
 
 pub datagrams-are : (v : Version) → version_datagrams v ≡ held_datagrams (datagrams_of_version v)

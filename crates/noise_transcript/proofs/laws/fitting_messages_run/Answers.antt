@@ -1,5 +1,5 @@
-use Rattle.noise_theorems.proofs.Runs.{fitting-messages-run}
-use Rattle.noise_theorems.proofs.laws.fitting_messages_run.Goals as goal
+use Rattle.noise_transcript.proofs.Runs.{fitting-messages-run}
+use Rattle.noise_transcript.proofs.laws.fitting_messages_run.Goals as goal
 
 pub returns : goal.returns
 returns c = fitting-messages-run (record {

@@ -1,7 +1,7 @@
 -- How far both ends have come after lines that come through.
 use Rattle.std.proofs.Common.{◌≡◌, ◌∙◌, refl, ap, ap₂, sym, ℕ, ◌==◌, min, List, [], ◌∷◌, codes, length, drop, arith}
 use Rattle.std.proofs.lemmas.Bool.Decides.{nat_tests}
-use Rattle.noise_theorems.proofs.Common.{Bool, true, false, not, nat_lt, decimal, if◌then◌else◌, Role, Initiator, Responder, Plan, is_one_way, other, end_after, messages_by, Start, Sides, role_word, line_of, progress_words, state_line, state_lines, reached_line}
+use Rattle.noise_transcript.proofs.Common.{Bool, true, false, not, nat_lt, decimal, if◌then◌else◌, Role, Initiator, Responder, Plan, is_one_way, other, end_after, messages_by, Start, Sides, role_word, line_of, progress_words, state_line, state_lines, reached_line}
 use Rattle.noise_state.specs.declared.symmetric.SymmetricState.{SymmetricState}
 use Rattle.noise_session.specs.Ends.{EndState}
 use Rattle.noise_session.specs.Progress.Progress.{Handshaking, Open, HasEnded}

@@ -2,7 +2,7 @@
 use Rattle.std.proofs.Common.{◌≡◌, ◌∙◌, refl, ap, ap₂, sym, subst, ◌⊎◌, inl, inr, ◌<◌, ℕ, List, [], ◌∷◌, length, Option, Some, None}
 use Rattle.std.specs.List.{All}
 use Rattle.std.proofs.lemmas.List.Elements.{All-cons, All-nil}
-use Rattle.noise_theorems.proofs.Common.{Role, Initiator, Responder, Plan, other, IsFirstFault, IsValid, setup_fault, Say, event_of, events_of, say_events, public_of, SaySame, VectorTextsAreUnique, held_datagrams, IsAllowed, IsAllowedFile, IsAllowedVersion, IsVectorFile, file_text, FileKeys, SayOnly, VectorFile, Version, One, Two, shown_before, HasSetupFault, IsFilePatternFault, IsFilePattern, IsStartFault, setup_of, datagrams_of_version, HasFittingMessages, IsXor}
+use Rattle.noise_transcript.proofs.Common.{Role, Initiator, Responder, Plan, other, IsFirstFault, IsValid, setup_fault, Say, event_of, events_of, say_events, public_of, SaySame, VectorTextsAreUnique, held_datagrams, IsAllowed, IsAllowedFile, IsAllowedVersion, IsVectorFile, file_text, FileKeys, SayOnly, VectorFile, Version, One, Two, shown_before, HasSetupFault, IsFilePatternFault, IsFilePattern, IsStartFault, setup_of, datagrams_of_version, HasFittingMessages, IsXor}
 use Rattle.noise_names.specs.Names.{Section}
 use Rattle.noise_keys.specs.declared.faults.SetupFault.{SetupFault}
 use Rattle.noise_events.specs.declared.event.Event.{Event as Given}
@@ -11,8 +11,8 @@ use Rattle.noise_events.specs.declared.window.Window.{Window}
 use Rattle.noise_vectors.specs.declared.vector.FileDatagrams.{FileDatagrams}
 use Rattle.noise_lines.specs.declared.faults.Fault.{Fault}
 use Rattle.noise_tool.specs.Performing.{HasUnmet, IsPlain, IsRunFault, IsUnmet}
-use Rattle.noise_theorems.proofs.Names.{no-name-without, no-place-beyond, no-rule-broken}
-use Rattle.noise_theorems.proofs.Same.{datagrams-are}
+use Rattle.noise_transcript.proofs.Names.{no-name-without, no-place-beyond, no-rule-broken}
+use Rattle.noise_transcript.proofs.Same.{datagrams-are}
 use Rattle.noise_names.specs.Lists.{heads, tails}
 use Rattle.noise_tool.specs.OnePattern.{pattern-once}
 use Rattle.noise_events.specs.declared.event.Event.TheVariants as given

@@ -10,8 +10,8 @@ ghost use Rattle.noise_lines.specs.Lines.{lines_text};
 ghost use Rattle.noise_lines.specs.Prefixes.{AppendsPrefix};
 ghost use Rattle.noise_lines.specs.Verdicts.{IsMet};
 ghost use Rattle.noise_tool.specs.Running.{expected_in};
-ghost use Rattle.noise_theorems.specs.Fitting.{HasFittingMessages};
-ghost use Rattle.noise_theorems.specs.Talked.{talked_lines};
+ghost use Rattle.noise_transcript.specs.Fitting.{HasFittingMessages};
+ghost use Rattle.noise_transcript.specs.Talked.{talked_lines};
 
 use crate::laws::fitting_messages_run;
 use noise_tool::{Chosen, FilesByName, Order, file_run_once, perform};

@@ -2,7 +2,7 @@
 use Rattle.std.proofs.Common.{◌≡◌, ◌∙◌, refl, ap, sym, subst, ◌⊎◌, inl, inr, ◌<◌, ◌≤◌, ℕ, zero, suc, List, [], length, Option, Some, String, arith}
 use Rattle.std.specs.Global.{Global}
 use Rattle.std.specs.Io.KnownBytes.{Appends}
-use Rattle.noise_theorems.proofs.Common.{◌↔◌, IfSome, slice_get, Role, Plan, VectorTextsAreUnique, IsVectorFile, file_text, SayOnly, VectorFile, lines_text, IsRunOf, expected_in, HasFittingMessages, FittingMessagesRun, talked_lines}
+use Rattle.noise_transcript.proofs.Common.{◌↔◌, IfSome, slice_get, Role, Plan, VectorTextsAreUnique, IsVectorFile, file_text, SayOnly, VectorFile, lines_text, IsRunOf, expected_in, HasFittingMessages, FittingMessagesRun, talked_lines}
 use Rattle.noise_vectors.specs.Expectations.{IsFirstUnmet}
 use Rattle.noise_lines.specs.Faults.{status_of}
 use Rattle.noise_lines.specs.Prefixes.{AppendsPrefix}
@@ -12,8 +12,8 @@ use Rattle.noise_tool.specs.OneRun.{OneRun}
 use Rattle.noise_tool.specs.Performing.{HasRun, HasUnmet, IsPlain, IsRunFault, IsUnmet}
 use Rattle.noise_tool.specs.Prefixes.{PrintsFault, PrintsPrefix, PrintsWhole}
 use Rattle.noise_words.specs.declared.orders.Chosen.TheVariants.{Talk}
-use Rattle.noise_theorems.proofs.Refusals.{IsLeft, left-why}
-use Rattle.noise_theorems.proofs.Same.{expected-are, run-alike}
+use Rattle.noise_transcript.proofs.Refusals.{IsLeft, left-why}
+use Rattle.noise_transcript.proofs.Same.{expected-are, run-alike}
 use Rattle.noise_lines.specs.declared.faults.Fault.TheVariants as fault
 
 -- a file has one text, and files of one text have one list of lines

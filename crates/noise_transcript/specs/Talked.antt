@@ -14,7 +14,7 @@ use Rattle.noise_vectors.specs.declared.vector.VectorFile.{VectorFile}
 use Rattle.noise_lines.specs.Lines.{line_of}
 use Rattle.noise_tool.specs.Ends.{file_start}
 use Rattle.noise_tool.specs.Running.{IsRunOf}
-use Rattle.noise_theorems.specs.Fitting.{HasFittingMessages}
+use Rattle.noise_transcript.specs.Fitting.{HasFittingMessages}
 
 -- a frame that a role wrote, with its number among the frames of the role
 abbrev pub wrote_line : Role → ℕ → List ℕ → List ℕ

@@ -1,6 +1,6 @@
 -- The run of a file whose lines fit.
 use Rattle.std.proofs.Common.{◌≡◌, ◌∙◌, refl, ap, sym, subst, ℕ, List, [], ◌++◌, length, map, Option, None}
-use Rattle.noise_theorems.proofs.Common.{true, is_some, Role, Initiator, Responder, Plan, places_of, IsValid, is_among, occurs, is_dh, public_keys, setup_fault, token_of, Event, HaveParts, KeyMaterial, MessagesComeThrough, MessagesLeave, MessagesRun, state_after_lines, transcript, Start, Sides, VectorFile, sides_of_file, file_start, note_line, state_lines, AreLast, HasFittingMessages, FittingMessagesRun, exchange_lines}
+use Rattle.noise_transcript.proofs.Common.{true, is_some, Role, Initiator, Responder, Plan, places_of, IsValid, is_among, occurs, is_dh, public_keys, setup_fault, token_of, Event, HaveParts, KeyMaterial, MessagesComeThrough, MessagesLeave, MessagesRun, state_after_lines, transcript, Start, Sides, VectorFile, sides_of_file, file_start, note_line, state_lines, AreLast, HasFittingMessages, FittingMessagesRun, exchange_lines}
 use Rattle.noise_names.specs.declared.token.Token.{Token}
 use Rattle.noise_keys.specs.declared.keys.Own.{Own}
 use Rattle.noise_handshake.specs.RemoteKeys.{remote-own}
@@ -12,9 +12,9 @@ use Rattle.noise_duel.specs.SetUpAlike.{AlikeAreParts, HaveOneMaterial, AreSetUp
 use Rattle.noise_theorems.specs.Turns.{MessagesTakeTurns}
 use Rattle.noise_vectors.specs.declared.vector.FileDatagrams.{FileDatagrams}
 use Rattle.noise_tool.specs.Running.AreLast.{without}
-use Rattle.noise_theorems.proofs.Exchange.{noted-lines, same-writers}
-use Rattle.noise_theorems.proofs.Reached.{both-there}
-use Rattle.noise_theorems.proofs.FileKeysAgree.{keys-agree, long-keys, xor-dh-results}
+use Rattle.noise_transcript.proofs.Exchange.{noted-lines, same-writers}
+use Rattle.noise_transcript.proofs.Reached.{both-there}
+use Rattle.noise_transcript.proofs.FileKeysAgree.{keys-agree, long-keys, xor-dh-results}
 
 -- what the laws of the crates below say
 pub record Laws : Type 0 where

@@ -1,6 +1,6 @@
 -- Keys whose DH is the xor of bytes: those of two parties agree, and have a DH result wherever a setup without a fault needs one.
 use Rattle.std.proofs.Common.{◌≡◌, ◌∙◌, refl, ap, sym, ℕ, List, length, Option, Some, None}
-use Rattle.noise_theorems.proofs.Common.{true, is_some, IfSome, agreement_of, public_of, AreKeys, FileKeys, IsXor}
+use Rattle.noise_transcript.proofs.Common.{true, is_some, IfSome, agreement_of, public_of, AreKeys, FileKeys, IsXor}
 use Rattle.noise_keys.specs.declared.keys.Own.{Own}
 use Rattle.noise_keys.specs.declared.keys.Own.TheVariants.{Ephemeral, Static}
 use Rattle.noise_keys.specs.Keys.{key_of, xor_dh_result, xor_dh_result-same}

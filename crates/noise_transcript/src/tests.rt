@@ -1,4 +1,4 @@
-//! That the premises of `talk` of `noise_theorems` can be met, and that it succeeds.
+//! That the premises of `talk` can be met, and that it succeeds.
 
 ghost use Rattle.std.specs.Prelude.{◌≡◌, ℕ, List, Some, true};
 ghost use Rattle.noise_names.specs.declared.token.Role.{Role};
@@ -13,13 +13,14 @@ ghost use Rattle.noise_vectors.specs.declared.file_keys.FileKeys.TheVariants.{Xo
 ghost use Rattle.noise_vectors.specs.declared.vector.VectorFile.{VectorFile};
 ghost use Rattle.noise_lines.specs.Lines.{lines_text};
 ghost use Rattle.noise_tool.specs.Ends.{IsFilePattern};
-ghost use Rattle.noise_theorems.specs.Fitting.{HasFittingMessages};
-ghost use Rattle.noise_theorems.specs.Talked.{talked_lines};
+ghost use Rattle.noise_transcript.specs.Fitting.{HasFittingMessages};
+ghost use Rattle.noise_transcript.specs.Talked.{talked_lines};
 
+use crate::talk;
 use noise_handshake::XorKeys;
 use noise_lines::named_pattern;
 use noise_names::{Pattern, ProtocolName, ValidPattern};
-use noise_theorems::{messages_fit, run_events, talk};
+use noise_theorems::{messages_fit, run_events};
 use noise_tool::{Fault, FilesByName, read_file};
 use noise_vectors::{AllowedEvents, FileKeys, VectorFile, read_vector, said_lines};
 use std::alloc::Global;

@@ -5,8 +5,8 @@ use Rattle.noise_vectors.specs.VectorFile.{say_of}
 use Rattle.noise_duel.specs.Acts.{roles_and_payloads}
 use Rattle.noise_theorems.specs.FittingMessages.{messages_fit_from}
 use Rattle.noise_theorems.specs.Setup.{fault_of}
-use Rattle.noise_tests.proofs.Fitting.{fit-file, xor_starts}
-use Rattle.noise_tests.proofs.tests.transcripts.fits.Goals as goal
+use Rattle.noise_transcript.proofs.Fitting.{fit-file, xor_starts}
+use Rattle.noise_transcript.proofs.tests.fits.Goals as goal
 
 pub returns : goal.returns
 returns g c =

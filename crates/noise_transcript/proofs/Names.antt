@@ -1,6 +1,6 @@
 -- The places of a name are those of its messages, and what is wrong with a pattern isn't wrong with a valid one.
 use Rattle.std.proofs.Common.{◌≡◌, ◌∙◌, ap, sym, ℕ, List, [], ◌∷◌, Option, Some, None}
-use Rattle.noise_theorems.proofs.Common.{Plan, IsFirstFault, IsValid}
+use Rattle.noise_transcript.proofs.Common.{Plan, IsFirstFault, IsValid}
 use Rattle.noise_names.specs.declared.faults.RuleFault.{RuleFault}
 use Rattle.noise_names.specs.Fundamental.{fundamental_of}
 use Rattle.noise_names.specs.Limits.{first_beyond}

@@ -1,0 +1,11 @@
+pub mod Common
+pub mod Exchange
+pub mod Names
+pub mod Printed
+pub mod Asked
+pub mod Reached
+pub mod Refusals
+pub mod Runs
+pub mod Same
+pub mod FileKeysAgree
+pub mod Fitting
