@@ -11,7 +11,7 @@ use Rattle.noise_handshake.specs.Counterparts.{DhResultsAgree, shown_before}
 use Rattle.noise_handshake.specs.Setup.{has_before, public_keys, token_of}
 use Rattle.noise_c.specs.declared.structs.NoiseSetup.{NoiseSetup}
 use Rattle.noise_c.specs.HandshakeStructs.{psks_in}
-use Rattle.noise_c.specs.TwoRuns.{Dh, Knows}
+use Rattle.noise_c.specs.TwoRuns.{Dh, IsKnown}
 use Rattle.noise_c.proofs.Starts.{remote-of}
 
 -- what the laws of a setup say
@@ -31,14 +31,14 @@ key-shown false None own e f = refl
 key-shown false (Some k) own e f = absurd (false≢true (sym e))
 
 -- each knows the keys of the other's pre-message, and no others
-pub shown : (setups : Setups) (p : Plan) (role : Role) (g h : NoiseSetup) → Knows g h
+pub shown : (setups : Setups) (p : Plan) (role : Role) (g h : NoiseSetup) → IsKnown g.remote_e h.e → IsKnown g.remote_s h.s
     → setup_fault p role (public_in (table_of g)) (remote_of g) (max (length (psks_in g)) (psks_of p.messages)) ≡ None
     → remote_of g ≡ shown_before p (other role) (public_in (table_of h))
-shown setups p role g h knows fault =
+shown setups p role g h known_e known_s fault =
     let there = setups.remote p role (public_in (table_of g)) (remote_of g) _ fault in
     remote-of _ _ _ _
-    (key-shown (has_before p (other role) E) (key_from_c g.remote_e) (key_from_c h.e) there.0 knows.e)
-    (key-shown (has_before p (other role) S) (key_from_c g.remote_s) (key_from_c h.s) there.1 knows.s)
+    (key-shown (has_before p (other role) E) (key_from_c g.remote_e) (key_from_c h.e) there.0 known_e)
+    (key-shown (has_before p (other role) S) (key_from_c g.remote_s) (key_from_c h.s) there.1 known_s)
 
 -- the other party's key at a DH token
 remote-left : (t : Token) (own : Own → Option (List ℕ)) → is_dh t ≡ true → remote_at Initiator (public_keys own) t ≡ own (own_at Responder t)

@@ -46,7 +46,7 @@ module _ (role : Role) (has_psks : Bool) (first all : DhResults) (among : AreAmo
   leads-all known psks r ts xs m rest l = record { fit = fit-all known psks ts xs l.fit; spelled = l.spelled }
 
   -- a token's text under the first DH results is that under all of them, and so is what is after it
-  token-apart : (known : Remote) (psks : List (List ℕ)) (r : SymmetricState) (t : Token) (x y p q : List ℕ)
+  pub token-apart : (known : Remote) (psks : List (List ℕ)) (r : SymmetricState) (t : Token) (x y p q : List ℕ)
       → Fits few known psks t x → Fits whole known psks t y → token_bytes r t x ++ p ≡ token_bytes r t y ++ q → (x ≡ y) × (p ≡ q)
   token-apart known psks r E x y p q f g e = split-apart x y p q (f ∙ sym g) e
   token-apart known psks r S x y p q f g e =

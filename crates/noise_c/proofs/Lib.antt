@@ -20,6 +20,7 @@ pub mod Describing
 pub mod Layouts
 pub mod Received
 mod Streaming
+pub mod ShownKeys
 pub mod Talking
 pub mod Transcribing
 pub mod Programs
@@ -28,6 +29,8 @@ pub mod Toying
 pub mod Alike
 pub mod Sides
 pub mod WriteCodes
+pub mod Held
+pub mod Asked
 pub mod OneTurn
 pub mod Both
 pub mod Turning

@@ -1,5 +1,5 @@
 -- A turn of one of two programs that run turn by turn: what it leaves of that program, and what it adds to the steps.
-use Rattle.std.proofs.Common.{◌≡◌, ◌⊎◌, ◌<◌, ◌≤◌, ◌-◌, inl, inr, ℕ, List, [], ◌∷◌, ◌++◌, length, length-append, drop, take, true, false, refl, ap, sym, subst, ◌∙◌, arith}
+use Rattle.std.proofs.Common.{◌≡◌, ◌⊎◌, ◌<◌, ◌≤◌, ◌+◌, ◌-◌, inl, inr, ℕ, List, [], ◌∷◌, ◌++◌, length, length-append, drop, take, true, false, refl, ap, sym, subst, ◌∙◌, arith}
 use Rattle.std.specs.Prelude.{◌==◌, ◌&&◌, ◌||◌, Some, map, not}
 use Rattle.std.proofs.lemmas.List.{append_assoc, append-nil, map-append}
 use Rattle.std.specs.Bool.{beq}
@@ -17,13 +17,13 @@ use Rattle.noise_c.specs.Outcomes.{ReadOutcome}
 use Rattle.noise_c.specs.Outcomes.ReadOutcome.{accepted, wants_dh_result as read_wants, wants_psk as read_wants_psk, declined, refused, too_long, unusable as read_unusable}
 use Rattle.noise_c.specs.RunSteps.{PskTurn, ReadTurn, ReadsStep, Turned, WritesStep, accepts_or_ends}
 use Rattle.noise_c.specs.TwoPrograms.{IsFront, Passed, Secrets, TakesNext}
-use Rattle.noise_c.specs.TwoRuns.{Adds, Asks, IsStrange, IsWritten, ReadsFirst, has_strayed, passed_at, passed_by, psks_of_turns, waiting}
+use Rattle.noise_c.specs.TwoRuns.{Adds, IsStrange, IsWritten, ReadsFirst, has_strayed, passed_at, passed_by, psk_of, waiting}
 use Rattle.noise_c.proofs.Common.{Bool, Plan, WasRead, WasWritten, drop-append_seam, false≢true, handshake_from_c, nat_lt, nat_tests, role_in, IsPatternOf, NoiseHandshake, HandshakeValue, Table, IsGiven, IsUsable, take-append_seam}
 use Rattle.noise_c.proofs.Programs.{read-of, written-of}
 use Rattle.noise_c.proofs.Sides.{Side, named-in, side-answered, side-same, side-set, side-took, side-wrote}
 use Rattle.noise_c.proofs.Toying.{code-is}
 use Rattle.noise_c.proofs.Turning.{Left, write-unchanged}
-use Rattle.noise_c.proofs.WriteCodes.{AreShort, WriteIs, role-of, write-done, write-due, write-early, write-is}
+use Rattle.noise_c.proofs.WriteCodes.{AreShort, DueCode, IsAsking, WriteIs, role-of, write-done, write-due, write-early, write-is}
 
 -- ---- the steps of a run
 
@@ -160,26 +160,11 @@ taken-back old given new psk g count lacks q =
 -- ---- a turn
 
 -- what a turn of a stranger's message that is accepted, or that ends the handshake, adds
-pub record Strays (p : Plan) (side : Bool) (turn : Turn) (ss ts : List Step) : Type 0 where
+pub record Strays (p : Plan) (side : Bool) (Asked : Step → Type 0) (turn : Turn) (ss ts : List Step) : Type 0 where
   pub more : List Step
-  pub adds : Adds (length p.messages) side turn ss more
+  pub adds : Adds (length p.messages) side Asked turn ss more
   pub steps : ts ≡ ss ++ more
   pub strayed : has_strayed ts ≡ true
-
--- the psk that a turn hands in
-abbrev pub psk_of : Turn → List (List ℕ)
-psk_of (turn.SetPsk psk) = psk ∷ []
-psk_of _ = []
-
-pub psks-more : (t : Turn) (more : List Turn) → psks_of_turns (t ∷ more) ≡ psk_of t ++ psks_of_turns more
-psks-more (turn.Write payload room) more = refl
-psks-more turn.Read more = refl
-psks-more turn.TryRead more = refl
-psks-more (turn.Answer a) more = refl
-psks-more (turn.SetPsk psk) more = refl
-psks-more (turn.Deliver m) more = refl
-psks-more (turn.TryDeliver m) more = refl
-psks-more (turn.TryPsk psk m) more = refl
 
 -- a DH result that this turn hands in is that of these keys
 abbrev pub Answers-with : Secrets → Turn → Type 0
@@ -187,14 +172,15 @@ Answers-with s (turn.Answer a) = s.dh_results (own_in a.of_static) a.remote ≡ 
 Answers-with s _ = Unit {0}
 
 -- what a turn of one program leaves, by what both had written and read
-pub record Gone (text : List ℕ) (p : Plan) (s : Secrets) (begun new : NoiseHandshake) (side : Bool) (turn : Turn) (ss ts : List Step) (rest : List (List ℕ)) : Type 0 where
-  pub stands : Side text p s begun new (passed_by side false ts) (passed_by side true ts) rest
+pub record Gone (n : ℕ) (text : List ℕ) (p : Plan) (s : Secrets) (begun new : NoiseHandshake) (side : Bool) (Asked : Step → Type 0) (turn : Turn) (ss ts : List Step)
+    (rest : List (List ℕ)) : Type 0 where
+  pub stands : Side n text p s begun new (passed_by side false ts) (passed_by side true ts) rest
   pub other_wrote : passed_by (not side) false ts ≡ passed_by (not side) false ss
   pub other_read : passed_by (not side) true ts ≡ passed_by (not side) true ss
   pub read_front : IsFront (passed_by side true ts) (passed_by (not side) false ss)
   pub wrote_more : IsFront (passed_by side false ss) (passed_by side false ts)
   pub more : List Step
-  pub adds : Adds (length p.messages) side turn ss more
+  pub adds : Adds (length p.messages) side Asked turn ss more
   pub steps : ts ≡ ss ++ more
   pub clean : has_strayed ts ≡ false
 
@@ -202,13 +188,16 @@ same-end : (xs ys : List Passed) → ys ≡ [] → xs ++ ys ≡ xs
 same-end xs ys e = ap (λ (z : List Passed). xs ++ z) e ∙ append-nil xs
 
 -- the codes of what asks
-asked : (code : ℕ) → Asks code → (20 ≤ code) × (0 < code)
+asked : (code : ℕ) → IsAsking code → (20 ≤ code) × (0 < code)
 asked code (inl e) = (omega (arith, e), omega (arith, e))
 asked code (inr e) = (omega (arith, e), omega (arith, e))
 
-module _ (text : List ℕ) (p : Plan) (short : AreShort p) (s : Secrets) (begun old new : NoiseHandshake) (named : IsPatternOf text p) (one : (q : Plan) → IsPatternOf text q → q ≡ p)
+module _ (n : ℕ) (text : List ℕ) (p : Plan) (short : AreShort p) (s : Secrets) (begun old new : NoiseHandshake) (named : IsPatternOf text p) (one : (q : Plan) → IsPatternOf text q → q ≡ p)
     (side : Bool) (role : role_in begun.responder ≡ role-of side) (ss ts : List Step) (clean : has_strayed ss ≡ false)
-    (read : IsFront (passed_by side true ss) (passed_by (not side) false ss)) where
+    (read : IsFront (passed_by side true ss) (passed_by (not side) false ss)) (Asked : Step → Type 0)
+    (written-asks : (payload : List ℕ) (room : ℕ) (t : Step) → WritesStep side old new payload room t → IsAsking t.code → Asked t)
+    (read-asks : (ends : Bool) (m : Passed) (more : List Passed) (t : Step) → passed_by (not side) false ss ≡ passed_by side true ss ++ m ∷ more
+    → ReadsStep side ends false old new m.message t → IsAsking t.code → Asked t) where
   abbrev wrote_before : List Passed
   wrote_before = passed_by side false ss
 
@@ -216,9 +205,9 @@ module _ (text : List ℕ) (p : Plan) (short : AreShort p) (s : Secrets) (begun 
   read_before = passed_by side true ss
 
   -- no message passed, and there is no step
-  still : (turn : Turn) (rest : List (List ℕ)) → Side text p s begun new wrote_before read_before rest → Adds (length p.messages) side turn ss [] → ts ≡ ss
-      → Gone text p s begun new side turn ss ts rest
-  still turn rest st adds same = subst (λ (z : List Step). Gone text p s begun new side turn ss z rest) (sym same) (record {
+  still : (turn : Turn) (rest : List (List ℕ)) → Side n text p s begun new wrote_before read_before rest → Adds (length p.messages) side Asked turn ss [] → ts ≡ ss
+      → Gone n text p s begun new side Asked turn ss ts rest
+  still turn rest st adds same = subst (λ (z : List Step). Gone n text p s begun new side Asked turn ss z rest) (sym same) (record {
     stands = st;
     other_wrote = refl;
     other_read = refl;
@@ -231,13 +220,13 @@ module _ (text : List ℕ) (p : Plan) (short : AreShort p) (s : Secrets) (begun 
   })
 
   -- a step of no message that passed
-  failed : (turn : Turn) (t : Step) (rest : List (List ℕ)) → Side text p s begun new wrote_before read_before rest → 0 < t.code → t.stray ≡ false
-      → Adds (length p.messages) side turn ss (t ∷ []) → ts ≡ ss ++ t ∷ [] → Gone text p s begun new side turn ss ts rest
+  failed : (turn : Turn) (t : Step) (rest : List (List ℕ)) → Side n text p s begun new wrote_before read_before rest → 0 < t.code → t.stray ≡ false
+      → Adds (length p.messages) side Asked turn ss (t ∷ []) → ts ≡ ss ++ t ∷ [] → Gone n text p s begun new side Asked turn ss ts rest
   failed turn t rest st low calm adds e =
       let none = λ (b r : Bool). passed-append b r ss (t ∷ []) ∙ same-end (passed_by b r ss) (passed_by b r (t ∷ [])) (passed-failed b r t low) in
-      subst (λ (z : List Step). Gone text p s begun new side turn ss z rest) (sym e) (record {
-        stands = subst (λ (ws : List Passed). Side text p s begun new ws (passed_by side true (ss ++ t ∷ [])) rest) (sym (none side false))
-            (subst (λ (rs : List Passed). Side text p s begun new wrote_before rs rest) (sym (none side true)) st);
+      subst (λ (z : List Step). Gone n text p s begun new side Asked turn ss z rest) (sym e) (record {
+        stands = subst (λ (ws : List Passed). Side n text p s begun new ws (passed_by side true (ss ++ t ∷ [])) rest) (sym (none side false))
+            (subst (λ (rs : List Passed). Side n text p s begun new wrote_before rs rest) (sym (none side true)) st);
         other_wrote = none (not side) false;
         other_read = none (not side) true;
         read_front = (read.0, read.1 ∙ ap (λ (z : List Passed). z ++ read.0) (sym (none side true)));
@@ -249,14 +238,14 @@ module _ (text : List ℕ) (p : Plan) (short : AreShort p) (s : Secrets) (begun 
       })
 
   -- the same of a struct that was left as it was
-  failed-same : (turn : Turn) (t : Step) (rest : List (List ℕ)) → Side text p s begun old wrote_before read_before rest → new ≡ old → 0 < t.code → t.stray ≡ false
-      → Adds (length p.messages) side turn ss (t ∷ []) → ts ≡ ss ++ t ∷ [] → Gone text p s begun new side turn ss ts rest
-  failed-same turn t rest st same = failed turn t rest (subst (λ (k : NoiseHandshake). Side text p s begun k wrote_before read_before rest) (sym same) st)
+  failed-same : (turn : Turn) (t : Step) (rest : List (List ℕ)) → Side n text p s begun old wrote_before read_before rest → new ≡ old → 0 < t.code → t.stray ≡ false
+      → Adds (length p.messages) side Asked turn ss (t ∷ []) → ts ≡ ss ++ t ∷ [] → Gone n text p s begun new side Asked turn ss ts rest
+  failed-same turn t rest st same = failed turn t rest (subst (λ (k : NoiseHandshake). Side n text p s begun k wrote_before read_before rest) (sym same) st)
 
   -- a message that the program wrote
-  wrote-one : (turn : Turn) (t : Step) (room : ℕ) (rest : List (List ℕ)) → Side text p s begun old wrote_before read_before rest
+  wrote-one : (turn : Turn) (t : Step) (room : ℕ) (rest : List (List ℕ)) → Side n text p s begun old wrote_before read_before rest
       → (w : WritesStep side old new t.payload.items room t) → t.code ≡ 0
-      → Adds (length p.messages) side turn ss (t ∷ []) → ts ≡ ss ++ t ∷ [] → Gone text p s begun new side turn ss ts rest
+      → Adds (length p.messages) side Asked turn ss (t ∷ []) → ts ≡ ss ++ t ∷ [] → Gone n text p s begun new side Asked turn ss ts rest
   wrote-one turn t room rest st w ok adds e =
       let m : Passed = record { message = t.message.items; payload = t.payload.items } in
       let none = λ (b r : Bool) (empty : passed_by b r (t ∷ []) ≡ []). passed-append b r ss (t ∷ []) ∙ same-end (passed_by b r ss) (passed_by b r (t ∷ [])) empty in
@@ -264,11 +253,11 @@ module _ (text : List ℕ) (p : Plan) (short : AreShort p) (s : Secrets) (begun 
       passed-append side false ss (t ∷ []) ∙ ap (λ (z : List Passed). wrote_before ++ z) (passed-one side false t w.side_is w.writes ok) in
       let reads : passed_by side true (ss ++ t ∷ []) ≡ read_before = none side true (passed-way side false t w.writes) in
       let o = written-of old new t.payload.items w.out w.after w.results w.next t.code w.outcome ok in
-      let next = side-wrote text p s begun old new wrote_before read_before rest st named m o.0
+      let next = side-wrote n text p s begun old new wrote_before read_before rest st named m o.0
       (λ q v k. subst (λ (z : List ℕ). WasWritten q v t.payload.items z new) (sym (w.message_is ok)) (o.1 q v k)) (w.held ok) (w.rest ok) in
-      subst (λ (z : List Step). Gone text p s begun new side turn ss z rest) (sym e) (record {
-        stands = subst (λ (ws : List Passed). Side text p s begun new ws (passed_by side true (ss ++ t ∷ [])) rest) (sym more)
-            (subst (λ (rs : List Passed). Side text p s begun new (wrote_before ++ m ∷ []) rs rest) (sym reads) next);
+      subst (λ (z : List Step). Gone n text p s begun new side Asked turn ss z rest) (sym e) (record {
+        stands = subst (λ (ws : List Passed). Side n text p s begun new ws (passed_by side true (ss ++ t ∷ [])) rest) (sym more)
+            (subst (λ (rs : List Passed). Side n text p s begun new (wrote_before ++ m ∷ []) rs rest) (sym reads) next);
         other_wrote = none (not side) false (passed-other side false t w.side_is);
         other_read = none (not side) true (passed-other side true t w.side_is);
         read_front = (read.0, read.1 ∙ ap (λ (z : List Passed). z ++ read.0) (sym reads));
@@ -280,11 +269,11 @@ module _ (text : List ℕ) (p : Plan) (short : AreShort p) (s : Secrets) (begun 
       })
 
   -- a message that it read, the next one of the other program's
-  read-one : (turn : Turn) (t : Step) (ends : Bool) (rest : List (List ℕ)) → Side text p s begun old wrote_before read_before rest
+  read-one : (turn : Turn) (t : Step) (ends : Bool) (rest : List (List ℕ)) → Side n text p s begun old wrote_before read_before rest
       → (r : ReadsStep side ends false old new t.message.items t) → (later : List Passed) (payload : List ℕ)
       → passed_by (not side) false ss ≡ read_before ++ record { message = t.message.items; payload = payload } ∷ later
-      → t.payload.items ≡ payload → t.code ≡ 0 → Adds (length p.messages) side turn ss (t ∷ []) → ts ≡ ss ++ t ∷ []
-      → Gone text p s begun new side turn ss ts rest
+      → t.payload.items ≡ payload → t.code ≡ 0 → Adds (length p.messages) side Asked turn ss (t ∷ []) → ts ≡ ss ++ t ∷ []
+      → Gone n text p s begun new side Asked turn ss ts rest
   read-one turn t ends rest st r later payload are paid ok adds e =
       let m : Passed = record { message = t.message.items; payload = t.payload.items } in
       let none = λ (b d : Bool) (empty : passed_by b d (t ∷ []) ≡ []). passed-append b d ss (t ∷ []) ∙ same-end (passed_by b d ss) (passed_by b d (t ∷ [])) empty in
@@ -292,14 +281,14 @@ module _ (text : List ℕ) (p : Plan) (short : AreShort p) (s : Secrets) (begun 
       passed-append side true ss (t ∷ []) ∙ ap (λ (z : List Passed). read_before ++ z) (passed-one side true t r.side_is r.reads ok) in
       let writes : passed_by side false (ss ++ t ∷ []) ≡ wrote_before = none side false (passed-way side true t r.reads) in
       let f = read-of ends old new t.message.items r.after r.results r.next t.code r.outcome ok in
-      let next = side-took text p s begun old new wrote_before read_before rest st named m f.0
+      let next = side-took n text p s begun old new wrote_before read_before rest st named m f.0
       (λ q v k. subst (λ (z : List ℕ). WasRead q v t.message.items z new) (sym (r.payload_is ok)) (f.1 q v k)) (r.held ok) (r.rest ok) in
       let all : passed_by (not side) false ss ≡ (read_before ++ m ∷ []) ++ later =
       are ∙ ap (λ (z : List ℕ). read_before ++ record { message = t.message.items; payload = z } ∷ later) (sym paid)
       ∙ sym (append_assoc read_before (m ∷ []) later) in
-      subst (λ (z : List Step). Gone text p s begun new side turn ss z rest) (sym e) (record {
-        stands = subst (λ (ws : List Passed). Side text p s begun new ws (passed_by side true (ss ++ t ∷ [])) rest) (sym writes)
-            (subst (λ (rs : List Passed). Side text p s begun new wrote_before rs rest) (sym more) next);
+      subst (λ (z : List Step). Gone n text p s begun new side Asked turn ss z rest) (sym e) (record {
+        stands = subst (λ (ws : List Passed). Side n text p s begun new ws (passed_by side true (ss ++ t ∷ [])) rest) (sym writes)
+            (subst (λ (rs : List Passed). Side n text p s begun new wrote_before rs rest) (sym more) next);
         other_wrote = none (not side) false (passed-other side false t r.side_is);
         other_read = none (not side) true (passed-other side true t r.side_is);
         read_front = (later, all ∙ ap (λ (z : List Passed). z ++ later) (sym more));
@@ -315,37 +304,45 @@ module _ (text : List ℕ) (p : Plan) (short : AreShort p) (s : Secrets) (begun 
   Next = TakesNext (passed_by (not side) false ss) read_before old
 
   wrote-turn : (turn : Turn) (payload : List ℕ) (room : ℕ) (rest : List (List ℕ)) (t : Step)
-      → (IsWritten side payload room (length p.messages) (passed_at side ss) t → Adds (length p.messages) side turn ss (t ∷ []))
+      → (IsWritten side payload room (length p.messages) (passed_at side ss) Asked t → Adds (length p.messages) side Asked turn ss (t ∷ []))
       → WritesStep side old new payload room t → ts ≡ ss ++ t ∷ []
-      → Side text p s begun old wrote_before read_before rest → Gone text p s begun new side turn ss ts rest
+      → Side n text p s begun old wrote_before read_before rest → Gone n text p s begun new side Asked turn ss ts rest
   wrote-turn turn payload room rest t adds w e st = at (nat_lt 0 t.code) refl where
     w1 : WritesStep side old new t.payload.items room t
     w1 = subst (λ (z : List ℕ). WritesStep side old new z room t) (sym w.payload_is) w
 
-    is : WriteIs p old (length payload) room t.code
-    is = subst (λ (n : ℕ). WriteIs p old (length payload) n t.code) w.room_is
-        (write-is p short old (named-in text p s begun old wrote_before read_before rest st named) st.usable st.going new payload w.out w.after w.results w.next t.code w.outcome)
+    due-of : DueCode (length payload) room t.code
+        → (t.code ≡ 0) ⊎ Asked t ⊎ ((t.code ≡ 11) × (65535 < length payload + 96)) ⊎ ((t.code ≡ 18) × (room < 65535))
+    due-of codes = elim codes [
+      | inl ok ↦ inl ok
+      | inr (inl asks) ↦ inr (inl (written-asks payload room t w asks))
+      | inr (inr other) ↦ inr (inr other)
+    ]
 
-    step : IsWritten side payload room (length p.messages) (passed_at side ss) t
-    step = let n : ℕ = passed_at side ss in let now : role_in old.responder ≡ role-of side = st.role ∙ role in record {
+    is : WriteIs p old (length payload) room t.code
+    is = subst (λ (i : ℕ). WriteIs p old (length payload) i t.code) w.room_is
+        (write-is p short old (named-in n text p s begun old wrote_before read_before rest st named) st.usable st.going new payload w.out w.after w.results w.next t.code w.outcome)
+
+    step : IsWritten side payload room (length p.messages) (passed_at side ss) Asked t
+    step = let m : ℕ = passed_at side ss in let now : role_in old.responder ≡ role-of side = st.role ∙ role in record {
       call = (w.side_is, w.writes, w.payload_is, w.stray);
-      done = write-done p old (length payload) room n side st.count now t.code is;
-      early = write-early p old (length payload) room n side st.count now t.code is;
-      due = write-due p old (length payload) room n side st.count now t.code is;
+      done = write-done p old (length payload) room m side st.count now t.code is;
+      early = write-early p old (length payload) room m side st.count now t.code is;
+      due = λ some mine. due-of (write-due p old (length payload) room m side st.count now t.code is some mine);
     }
 
-    at : (b : Bool) → nat_lt 0 t.code ≡ b → Gone text p s begun new side turn ss ts rest
+    at : (b : Bool) → nat_lt 0 t.code ≡ b → Gone n text p s begun new side Asked turn ss ts rest
     at true low =
         let l : 0 < t.code = grind (arith, nat_tests, low) in
         failed-same turn t rest st (write-unchanged old new payload w.out w.after w.results w.next t.code w.outcome l) l w.stray (adds step) e
     at false least = wrote-one turn t room rest st w1 (grind (arith, nat_tests, least)) (adds step) e
 
   read-turn : (turn : Turn) (ends : Bool) (rest : List (List ℕ))
-      → ((more : List Step) → ReadsFirst side (waiting side ss) more → Adds (length p.messages) side turn ss more)
-      → ReadTurn side ends old new ss ts → Next → Side text p s begun old wrote_before read_before rest → Gone text p s begun new side turn ss ts rest
+      → ((more : List Step) → ReadsFirst side (waiting side ss) Asked more → Adds (length p.messages) side Asked turn ss more)
+      → ReadTurn side ends old new ss ts → Next → Side n text p s begun old wrote_before read_before rest → Gone n text p s begun new side Asked turn ss ts rest
   read-turn turn ends rest adds (inl idle) next st =
-      still turn rest (subst (λ (k : NoiseHandshake). Side text p s begun k wrote_before read_before rest) (sym idle.1) st)
-      (adds [] (subst (λ (z : List Passed). ReadsFirst side z []) (sym idle.0) refl)) idle.2
+      still turn rest (subst (λ (k : NoiseHandshake). Side n text p s begun k wrote_before read_before rest) (sym idle.1) st)
+      (adds [] (subst (λ (z : List Passed). ReadsFirst side z Asked []) (sym idle.0) refl)) idle.2
   read-turn turn ends rest adds (inr (message, t, first, r, e)) next st =
       let r1 : ReadsStep side ends false old new t.message.items t = subst (λ (z : List ℕ). ReadsStep side ends false old new z t) (sym r.message_is) r in
       let m : Passed = record { message = t.message.items; payload = first.payload } in
@@ -355,12 +352,13 @@ module _ (text : List ℕ) (p : Plan) (short : AreShort p) (s : Secrets) (begun 
       read.1 ∙ ap (λ (z : List Passed). read_before ++ z)
       (sym (drop-append_seam read_before read.0) ∙ ap (drop (length read_before)) (sym read.1) ∙ waits) in
       let taken = next m first.later are ends new r1.after r1.results r1.next t.code r1.outcome in
-      let step = λ (codes : (t.code ≡ 0) ⊎ Asks t.code) (paid : t.code ≡ 0 → t.payload.items ≡ first.payload).
-      adds (t ∷ []) (subst (λ (z : List Passed). ReadsFirst side z (t ∷ [])) (sym waits)
+      let step = λ (codes : (t.code ≡ 0) ⊎ Asked t) (paid : t.code ≡ 0 → t.payload.items ≡ first.payload).
+      adds (t ∷ []) (subst (λ (z : List Passed). ReadsFirst side z Asked (t ∷ [])) (sym waits)
       (t, record { call = (r.side_is, r.reads, refl, r.stray); payload_is = paid; codes = codes }, refl)) in
-      let asks = λ (is : Asks t.code).
+      let asks = λ (is : IsAsking t.code).
       let low = asked t.code is in
-      failed-same turn t rest st (r1.left (inr low.0) low.1) low.1 r.stray (step (inr is) (λ ok. absurd (omega (arith, ok, low.1)))) e in
+      failed-same turn t rest st (r1.left (inr low.0) low.1) low.1 r.stray
+      (step (inr (read-asks ends m first.later t are r1 is)) (λ ok. absurd (omega (arith, ok, low.1)))) e in
       elim taken [
         | inl ok ↦
             let paid : t.payload.items ≡ first.payload = r1.payload_is ok.0 ∙ ok.1 in
@@ -369,11 +367,11 @@ module _ (text : List ℕ) (p : Plan) (short : AreShort p) (s : Secrets) (begun 
       ]
 
   -- a message of a stranger
-  strange-turn : (turn : Turn) (t : Step) (rest : List (List ℕ)) → Adds (length p.messages) side turn ss (t ∷ []) → ts ≡ ss ++ t ∷ []
-      → (t.stray ≡ false → Side text p s begun new wrote_before read_before rest × (0 < t.code))
-      → Gone text p s begun new side turn ss ts rest ⊎ Strays p side turn ss ts
+  strange-turn : (turn : Turn) (t : Step) (rest : List (List ℕ)) → Adds (length p.messages) side Asked turn ss (t ∷ []) → ts ≡ ss ++ t ∷ []
+      → (t.stray ≡ false → Side n text p s begun new wrote_before read_before rest × (0 < t.code))
+      → Gone n text p s begun new side Asked turn ss ts rest ⊎ Strays p side Asked turn ss ts
   strange-turn turn t rest adds e left = at t.stray refl where
-    at : (b : Bool) → t.stray ≡ b → Gone text p s begun new side turn ss ts rest ⊎ Strays p side turn ss ts
+    at : (b : Bool) → t.stray ≡ b → Gone n text p s begun new side Asked turn ss ts rest ⊎ Strays p side Asked turn ss ts
     at true stray = inr (record {
       more = t ∷ [];
       adds = adds;
@@ -382,21 +380,21 @@ module _ (text : List ℕ) (p : Plan) (short : AreShort p) (s : Secrets) (begun 
     })
     at false calm = let w = left calm in inl (failed turn t rest w.0 w.1 calm adds e)
 
-  deliver-turn : (turn : Turn) (ends : Bool) (message : List ℕ) (t : Step) (rest : List (List ℕ)) → Adds (length p.messages) side turn ss (t ∷ []) → ts ≡ ss ++ t ∷ []
-      → ReadsStep side ends true old new message t → Side text p s begun old wrote_before read_before rest
-      → Gone text p s begun new side turn ss ts rest ⊎ Strays p side turn ss ts
+  deliver-turn : (turn : Turn) (ends : Bool) (message : List ℕ) (t : Step) (rest : List (List ℕ)) → Adds (length p.messages) side Asked turn ss (t ∷ []) → ts ≡ ss ++ t ∷ []
+      → ReadsStep side ends true old new message t → Side n text p s begun old wrote_before read_before rest
+      → Gone n text p s begun new side Asked turn ss ts rest ⊎ Strays p side Asked turn ss ts
   deliver-turn turn ends message t rest adds e r st =
       strange-turn turn t rest adds e (λ calm.
       let same_code : accepts_or_ends ends t.code ≡ false = sym r.stray ∙ calm in
       let same = strange-unchanged ends old new message r.after r.results r.next t.code r.outcome r.left same_code in
-      (subst (λ (k : NoiseHandshake). Side text p s begun k wrote_before read_before rest) (sym same) st, not-ok ends t.code same_code))
+      (subst (λ (k : NoiseHandshake). Side n text p s begun k wrote_before read_before rest) (sym same) st, not-ok ends t.code same_code))
 
   psk-turn : (turn : Turn) (psk message : List ℕ) (rest : List (List ℕ)) (w : PskTurn side old new psk message ss ts)
-      → Adds (length p.messages) side turn ss (w.step ∷ []) → Side text p s begun old wrote_before read_before rest
-      → Gone text p s begun new side turn ss ts rest ⊎ Strays p side turn ss ts
+      → Adds (length p.messages) side Asked turn ss (w.step ∷ []) → Side n text p s begun old wrote_before read_before rest
+      → Gone n text p s begun new side Asked turn ss ts rest ⊎ Strays p side Asked turn ss ts
   psk-turn turn psk message rest w adds st =
       strange-turn turn w.step rest adds w.steps (λ calm. (left calm, not-ok false w.step.code (sym w.reads.stray ∙ calm))) where
-        left : w.step.stray ≡ false → Side text p s begun new wrote_before read_before rest
+        left : w.step.stray ≡ false → Side n text p s begun new wrote_before read_before rest
         left calm =
             let r = w.reads in
             let same_code : accepts_or_ends false w.step.code ≡ false = sym r.stray ∙ calm in
@@ -415,25 +413,25 @@ module _ (text : List ℕ) (p : Plan) (short : AreShort p) (s : Secrets) (begun 
                   let gives : IsGiven old w.given psk = w.sets.given ok in
                   let count : length (held_psks w.given) ≡ w.given.psk_count =
                   subst (λ (k : NoiseHandshake). length (held_psks k) ≡ k.psk_count) same (w.count after) in
-                  side-same text p s begun old new wrote_before read_before rest st named (back.2 after) (lacks.text ∙ gives.text)
+                  side-same n text p s begun old new wrote_before read_before rest st named (back.2 after) (lacks.text ∙ gives.text)
                   (taken-back old w.given new psk gives count lacks)
               | inr other ↦
                   let high : 0 < w.code = elim other [ inl e ↦ omega (arith, e) | inr e ↦ omega (arith, e) ] in
                   let all : new ≡ old = w.kept (λ ok. absurd (omega (arith, ok, high))) ∙ same ∙ w.sets.unchanged high in
-                  subst (λ (k : NoiseHandshake). Side text p s begun k wrote_before read_before rest) (sym all) st
+                  subst (λ (k : NoiseHandshake). Side n text p s begun k wrote_before read_before rest) (sym all) st
             ]
 
   pub turned : (turn : Turn) (rest : List (List ℕ)) → Turned side turn old new ss ts → Answers-with s turn → Next
-      → Side text p s begun old wrote_before read_before (psk_of turn ++ rest) → Gone text p s begun new side turn ss ts rest ⊎ Strays p side turn ss ts
+      → Side n text p s begun old wrote_before read_before (psk_of turn ++ rest) → Gone n text p s begun new side Asked turn ss ts rest ⊎ Strays p side Asked turn ss ts
   turned (turn.Write payload room) rest (t, w, e) is next st =
       inl (wrote-turn (turn.Write payload room) payload.items room rest t (λ step. (t, step, refl)) w e st)
   turned turn.Read rest moved is next st = inl (read-turn turn.Read true rest (λ more a. a) moved next st)
   turned turn.TryRead rest moved is next st = inl (read-turn turn.TryRead false rest (λ more a. a) moved next st)
   turned (turn.Answer a) rest (code, supplies, e) is next st =
-      inl (still (turn.Answer a) rest (side-answered text p s begun old new wrote_before read_before rest st named (entry_in a) code supplies is) refl e)
+      inl (still (turn.Answer a) rest (side-answered n text p s begun old new wrote_before read_before rest st named (entry_in a) code supplies is) refl e)
   turned (turn.SetPsk psk) rest (code, sets, goes, stays, count, e) is next st =
       inl (still (turn.SetPsk psk) rest
-      (side-set text p s begun old new wrote_before read_before (psk ∷ rest) st named psk rest code refl one (count st.usable) sets goes stays) refl e)
+      (side-set n text p s begun old new wrote_before read_before (psk ∷ rest) st named psk rest code refl one (count st.usable) sets goes stays) refl e)
   turned (turn.Deliver m) rest (t, r, e) is next st =
       deliver-turn (turn.Deliver m) true m.items t rest (t, strange-of side true old new m.items t r, refl) e r st
   turned (turn.TryDeliver m) rest (t, r, e) is next st =

@@ -17,14 +17,15 @@ use Rattle.noise_session.specs.Transport.{transport_key}
 use Rattle.noise_duel.specs.Messages.{Start, begun_as}
 use Rattle.noise_c.specs.declared.structs.NoiseSetup.{NoiseSetup}
 use Rattle.noise_c.specs.HandedIn.{dh_results_in}
-use Rattle.noise_c.specs.HandshakeStructs.{ForParty, Supplies}
+use Rattle.noise_c.specs.HandshakeStructs.{ForParty, Supplies, own_in}
 use Rattle.noise_c.specs.HalfStructs.{half_from_c}
 use Rattle.noise_c.specs.Outcomes.{WriteOutcome, ReadOutcome}
 use Rattle.noise_c.specs.Outcomes.WriteOutcome.{written, wants_dh_result as write_wants, wants_psk as write_wants_psk, withheld, no_room, unusable as write_unusable}
 use Rattle.noise_c.specs.Outcomes.ReadOutcome.{accepted, wants_dh_result as read_wants, wants_psk as read_wants_psk, declined, refused, too_long, unusable as read_unusable}
-use Rattle.noise_c.specs.TwoPrograms.{Secrets, Passed, Calls, Program, HasRun, HaveTalked, TwoProgramsAgree, program_start}
+use Rattle.noise_c.specs.TwoPrograms.{AsksForOther, IsKeyOf, Secrets, Passed, Calls, Program, HasRun, HaveTalked, TwoProgramsAgree, program_start}
 use Rattle.noise_c.specs.TwoPrograms.Calls.{none, wrote, took, answered, set_psk, kept}
 use Rattle.noise_c.proofs.Runs.{either, only-one, keeps-next, keeps-with}
+use Rattle.noise_c.proofs.ShownKeys.{AreTheirs, Shown, read-theirs, write-theirs}
 use Rattle.noise_duel.specs.SetUpAlike.{material_of}
 use Rattle.noise_c.proofs.Transcribing.{Showing, told, shares-left, shares-right}
 use Rattle.noise_c.proofs.Talking.{Talk, silent, speaks, hears, own-stays, Laws, Together, together}
@@ -271,6 +272,46 @@ module _ (laws : Reading) (p : Plan) (s : Secrets) (v : Party) (k : NoiseHandsha
   taken ends next after results new _ (too_long a b d e) = absurd (omega (arith, a, accepts.fits))
   taken ends next after results new _ (read_unusable a b d) = absurd (a st.usable)
 
+-- ---- what a call asks for
+
+module _ (p : Plan) (s : Secrets) (v : Party) (k : NoiseHandshake) (st : Stands p s v k) (other : NoiseSetup) (own : Own → Option (List ℕ))
+    (same : own ≡ public_in (table_of other)) (theirs : AreTheirs own v.remote) where
+  key-of : (key : List ℕ) → (y : Own) × (own y ≡ Some key) → IsKeyOf other key
+  key-of key (y, is) = (y, ap (λ (o : Own → Option (List ℕ)). o y) (sym same) ∙ is)
+
+  asked-to-write : (next : NoiseHandshake) (payload out after : List ℕ) (results new : NoiseResult) (code : ℕ)
+      → WriteOutcome k payload out results next after new code → code ≡ 20 → IsKeyOf other new.remote
+  asked-to-write next payload out after results new _ (written u m r l d f) e = absurd (omega (arith, e))
+  asked-to-write next payload out after results new _ (write_wants a b c f) e =
+      key-of new.remote (write-theirs v (dh_results_in k) own theirs (own_in new.of_static) new.remote (f p (with_dh_results v (dh_results_in k)) st.keeps))
+  asked-to-write next payload out after results new _ (write_wants_psk a b c f) e = absurd (omega (arith, e))
+  asked-to-write next payload out after results new _ (withheld code low high a b c f) e = absurd (omega (arith, e, high))
+  asked-to-write next payload out after results new _ (no_room a b c d g) e = absurd (omega (arith, e))
+  asked-to-write next payload out after results new _ (write_unusable a b c d) e = absurd (omega (arith, e))
+
+  asked-to-read : (m : Passed) (c : List (List ℕ)) → Accepts v m.message c m.payload → Shown own (tokens_now v) c
+      → (ends : Bool) (next : NoiseHandshake) (after : List ℕ) (results new : NoiseResult) (code : ℕ)
+      → ReadOutcome ends k m.message results next after new code → code ≡ 20 → IsKeyOf other new.remote
+  asked-to-read m c accepts shown ends next after results new _ (accepted u r l d f) e = absurd (omega (arith, e))
+  asked-to-read m c accepts shown ends next after results new _ (read_wants a b f) e =
+      key-of new.remote (read-theirs v (dh_results_in k) own theirs st.among m.message m.payload c accepts shown (own_in new.of_static) new.remote
+      (f p (with_dh_results v (dh_results_in k)) st.keeps))
+  asked-to-read m c accepts shown ends next after results new _ (read_wants_psk a b f) e = absurd (omega (arith, e))
+  asked-to-read m c accepts shown ends next after results new _ (declined code low a b d f) e = absurd (grind (arith, e, low))
+  asked-to-read m c accepts shown ends next after results new _ (refused code low high a b d g f) e = absurd (omega (arith, e, high))
+  asked-to-read m c accepts shown ends next after results new _ (too_long a b d g) e = absurd (omega (arith, e))
+  asked-to-read m c accepts shown ends next after results new _ (read_unusable a b d) e = absurd (omega (arith, e))
+
+  asks-for-other : (us rs : List Passed)
+      → ((m : Passed) (more : List Passed) → us ≡ rs ++ m ∷ more → (c : List (List ℕ)) × Accepts v m.message c m.payload × Shown own (tokens_now v) c)
+      → AsksForOther other k us rs
+  asks-for-other us rs takes = record {
+    to_write = asked-to-write;
+    to_read = λ m more e ends next after results new code o is.
+        let n = takes m more e in
+        asked-to-read m n.0 n.1 n.2 ends next after results new code o is;
+  }
+
 -- ---- the end
 
 half : Role → Bool → ℕ → Option (List ℕ) → ℕ → HalfValue
@@ -374,6 +415,10 @@ module _ (laws : Laws) (reading : Reading) (showing : Showing)
         next_back = λ m more e ends next after results new code o.
             let n = both.next_back m more e in
             taken reading p g.secrets left.party g.last left.stands m n.0 n.1 ends next after results new code o;
+        asks = asks-for-other p g.secrets left.party g.last left.stands h.setup right.party.own (own-stays w0 right.party h.written h.read right.talk)
+            both.theirs h.written g.read both.next_back;
+        asks_too = asks-for-other p h.secrets right.party h.last right.stands g.setup left.party.own (own-stays v0 left.party g.written g.read left.talk)
+            both.theirs_too g.written h.read both.next_there;
         hash = λ e. ap (λ (s : SymmetricState). s.hash) (ap (λ (z : Party). z.state) left.stands.keeps.matches)
             ∙ ap (λ (z : Party). z.state.hash) (sym (level e).there)
             ∙ sym (ap (λ (s : SymmetricState). s.hash) (ap (λ (z : Party). z.state) right.stands.keeps.matches));

@@ -6,12 +6,14 @@ use Rattle.noise_names.specs.Tokens.{other, turn_from}
 use Rattle.noise_names.specs.Validity.{IsValid}
 use Rattle.noise_c.proofs.Common.{Bool, None, Option, Some, if◌then◌else◌}
 use Rattle.std.specs.Prelude.{false, true}
-use Rattle.noise_keys.specs.declared.keys.Own.TheVariants.{Static}
-use Rattle.noise_handshake.specs.Party.{Party, Accepts, Speaks, Listens}
-use Rattle.noise_handshake.specs.Writing.{Writes}
+use Rattle.noise_names.specs.declared.token.Token.{Token}
+use Rattle.noise_keys.specs.declared.keys.Own.TheVariants.{Ephemeral, Static}
+use Rattle.noise_handshake.specs.Party.{Party, Accepts, Speaks, Listens, tokens_now}
+use Rattle.noise_handshake.specs.Writing.{Writes, writer}
 use Rattle.noise_handshake.specs.Matching.{after_message, after_own}
 use Rattle.noise_handshake.specs.Counterparts.{Counterparts}
 use Rattle.noise_c.specs.TwoPrograms.{Passed, IsFront, messages_in}
+use Rattle.noise_c.proofs.ShownKeys.{AreTheirs, Shown, given-shown}
 
 -- What a party writes and accepts, each list in order.
 pub data Talk : Party → List Passed → List Passed → Party → Type 0 where
@@ -48,8 +50,12 @@ pub record Together (v w : Party) (ws rs us xs : List Passed) : Type 0 where
   pub equal : v.passed ≡ w.passed → Counterparts v w
   pub known : Known v w
   pub known_too : Known w v
-  pub next_there : (m : Passed) (more : List Passed) → ws ≡ xs ++ m ∷ more → (c : List (List ℕ)) × Accepts w m.message c m.payload
-  pub next_back : (m : Passed) (more : List Passed) → us ≡ rs ++ m ∷ more → (c : List (List ℕ)) × Accepts v m.message c m.payload
+  pub theirs : AreTheirs w.own v.remote
+  pub theirs_too : AreTheirs v.own w.remote
+  pub next_there : (m : Passed) (more : List Passed) → ws ≡ xs ++ m ∷ more
+      → (c : List (List ℕ)) × Accepts w m.message c m.payload × Shown v.own (tokens_now w) c
+  pub next_back : (m : Passed) (more : List Passed) → us ≡ rs ++ m ∷ more
+      → (c : List (List ℕ)) × Accepts v m.message c m.payload × Shown w.own (tokens_now v) c
 
 -- ---- turns
 
@@ -132,6 +138,18 @@ known-there v w h k e = shown-key _ (w.own Static) k (sym (ap (λ (z : Party). z
 known-back : (v w : Party) → Counterparts v w → Known w v
 known-back v w h k e = shown-key _ (v.own Static) k (sym (ap (λ (z : Party). z.remote.s) h.there) ∙ e)
 
+theirs-there : (v w : Party) → Counterparts v w → AreTheirs w.own v.remote
+theirs-there v w h = (
+  (λ k e. shown-key _ (w.own Ephemeral) k (sym (ap (λ (z : Party). z.remote.e) h.back) ∙ e)),
+  known-there v w h,
+)
+
+theirs-back : (v w : Party) → Counterparts v w → AreTheirs v.own w.remote
+theirs-back v w h = (
+  (λ k e. shown-key _ (v.own Ephemeral) k (sym (ap (λ (z : Party). z.remote.e) h.there) ∙ e)),
+  known-back v w h,
+)
+
 module _ (laws : Laws) where
   -- neither has written more than the other has accepted
   level : (v w : Party) → Counterparts v w → Together v w [] [] [] []
@@ -141,6 +159,8 @@ module _ (laws : Laws) where
     equal = λ _. h;
     known = known-there v w h;
     known_too = known-back v w h;
+    theirs = theirs-there v w h;
+    theirs_too = theirs-back v w h;
     next_there = λ m more e. absurd (beyond-none m more e);
     next_back = λ m more e. absurd (beyond-none m more e);
   }
@@ -154,10 +174,14 @@ module _ (laws : Laws) where
     equal = λ e. absurd (passed-on v w c m.payload h e);
     known = known-there v w h;
     known_too = known-back v w h;
+    theirs = theirs-there v w h;
+    theirs_too = theirs-back v w h;
     next_there = λ k more e. (
       c,
       subst (λ (z : Passed). Accepts w z.message c z.payload) (only m k more e)
           (laws.accepts v w m.payload m.message c valid h writes),
+      subst (λ (ts : List Token). Shown v.own ts c) (sym (ap tokens_now h.there))
+          (given-shown (writer v) v.remote v.psks (tokens_now v) c writes.given),
     );
     next_back = λ k more e. absurd (beyond-none k more e);
   }
@@ -170,6 +194,8 @@ module _ (laws : Laws) where
     equal = λ e. laws.turned v w (t.equal (sym e));
     known = t.known_too;
     known_too = t.known;
+    theirs = t.theirs_too;
+    theirs_too = t.theirs;
     next_there = t.next_back;
     next_back = t.next_there;
   }
@@ -182,6 +208,8 @@ module _ (laws : Laws) where
     equal = t.equal;
     known = t.known;
     known_too = t.known_too;
+    theirs = t.theirs;
+    theirs_too = t.theirs_too;
     next_there = λ n more e. t.next_there n more (cons-parts m k ws (xs ++ n ∷ more) e).1;
     next_back = t.next_back;
   }

@@ -5,7 +5,7 @@ use Rattle.std.specs.Prelude.{false, true}
 use Rattle.noise_c.specs.declared.two_runs.Step.{Step}
 use Rattle.noise_c.specs.declared.two_runs.Turn.{Turn}
 use Rattle.noise_c.specs.declared.two_runs.Turn.TheVariants as turn
-use Rattle.noise_c.specs.HandshakeStructs.{IsQuery, KeepsRest, SetsPsk, Supplies, UnsetsPsk, entry_in}
+use Rattle.noise_c.specs.HandshakeStructs.{IsGiven, IsQuery, KeepsRest, LacksLastPsk, SetsPsk, Supplies, UnsetsPsk, entry_in}
 use Rattle.noise_c.specs.Outcomes.{ReadOutcome, WriteOutcome}
 use Rattle.noise_c.specs.Outcomes.WriteOutcome.{written, wants_dh_result as write_wants, wants_psk as write_wants_psk, withheld, no_room, unusable as write_unusable}
 use Rattle.noise_c.specs.Outcomes.ReadOutcome.{accepted, wants_dh_result as read_wants, wants_psk as read_wants_psk, declined, refused, too_long, unusable as read_unusable}
@@ -81,14 +81,14 @@ turned-usable side (turn.TryPsk psk m) k next ss ts moved u = psk-turn-usable si
 pub runs-usable : (a0 b0 : NoiseHandshake) (turns : List (Bool × Turn)) (a b : NoiseHandshake) (ss : List Step) → Runs a0 b0 turns a b ss
     → IsUsable a0 → IsUsable b0 → IsUsable a × IsUsable b
 runs-usable a0 b0 _ _ _ _ none u v = (u, v)
-runs-usable a0 b0 _ _ _ _ (initiator turns a next b ss ts t before moved) u v =
+runs-usable a0 b0 _ _ _ _ (initiator turns a next b ss ts t before lengths moved) u v =
     let w = runs-usable a0 b0 turns a b ss before u v in
     (turned-usable false t a next ss ts moved w.0, w.1)
-runs-usable a0 b0 _ _ _ _ (responder turns a b next ss ts t before moved) u v =
+runs-usable a0 b0 _ _ _ _ (responder turns a b next ss ts t before lengths moved) u v =
     let w = runs-usable a0 b0 turns a b ss before u v in
     (w.0, turned-usable true t b next ss ts moved w.1)
 
--- ---- the text of a struct stays
+-- ---- the text of a struct stays, and all else that calls leave as it was
 
 -- a message that isn't written leaves the struct as it was
 pub write-unchanged : (k next : NoiseHandshake) (payload out after : List ℕ) (results new : NoiseResult) (code : ℕ)
@@ -100,40 +100,72 @@ write-unchanged k next payload out after results new _ (withheld code low high a
 write-unchanged k next payload out after results new _ (no_room a b c d g) e = d
 write-unchanged k next payload out after results new _ (write_unusable a b c d) e = c
 
-write-text : (k next : NoiseHandshake) (payload out after : List ℕ) (results new : NoiseResult) (code : ℕ)
-    → WriteOutcome k payload out results next after new code → (code ≡ 0 → KeepsRest k next) → text_from_c next ≡ text_from_c k
-write-text k next payload out after results new code w rest = at (nat_lt 0 code) refl where
-  at : (b : Bool) → nat_lt 0 code ≡ b → text_from_c next ≡ text_from_c k
-  at true e = ap text_from_c (write-unchanged k next payload out after results new code w (above code e))
-  at false e = ap text_from_c (rest (none-above code e))
+-- what no message, no refusal and no psk changes
+pub record Stays {X : Type 0} (part : NoiseHandshake → X) : Type 0 where
+  pub ended : (k : NoiseHandshake) → part (record k { ended = 1 }) ≡ part k
+  pub rest : (k next : NoiseHandshake) → KeepsRest k next → part next ≡ part k
+  pub given : (k next : NoiseHandshake) (psk : List ℕ) → IsGiven k next psk → part next ≡ part k
+  pub lacks : (k next : NoiseHandshake) → LacksLastPsk k next → part next ≡ part k
 
-read-text : (ends : Bool) (k next : NoiseHandshake) (message after : List ℕ) (results new : NoiseResult) (code : ℕ)
-    → ReadOutcome ends k message results next after new code → Left k next code → (code ≡ 0 → KeepsRest k next) → text_from_c next ≡ text_from_c k
-read-text ends k next message after results new _ (accepted u r l d f) left rest = ap text_from_c (rest refl)
-read-text ends k next message after results new _ (read_wants a b f) left rest = ap text_from_c (left (inr (omega arith)) (omega arith))
-read-text ends k next message after results new _ (read_wants_psk a b f) left rest = ap text_from_c (left (inr (omega arith)) (omega arith))
-read-text ends k next message after results new _ (declined code low a b c f) left rest = ap text_from_c b
-read-text true k next message after results new _ (refused code low high a b c d f) left rest = ap text_from_c b
-read-text false k next message after results new _ (refused code low high a b c d f) left rest = ap text_from_c b
-read-text ends k next message after results new _ (too_long a b c d) left rest = ap text_from_c (left (inr (omega arith)) (omega arith))
-read-text ends k next message after results new _ (read_unusable a b c) left rest = ap text_from_c (left (inr (omega arith)) (omega arith))
+module _ {X : Type 0} (part : NoiseHandshake → X) (s : Stays part) where
+  pub write-stays : (k next : NoiseHandshake) (payload out after : List ℕ) (results new : NoiseResult) (code : ℕ)
+      → WriteOutcome k payload out results next after new code → (code ≡ 0 → KeepsRest k next) → part next ≡ part k
+  write-stays k next payload out after results new code w rest = at (nat_lt 0 code) refl where
+    at : (b : Bool) → nat_lt 0 code ≡ b → part next ≡ part k
+    at true e = ap part (write-unchanged k next payload out after results new code w (above code e))
+    at false e = s.rest k next (rest (none-above code e))
 
-read-turn-text : (side ends : Bool) (k next : NoiseHandshake) (ss ts : List Step) → ReadTurn side ends k next ss ts → text_from_c next ≡ text_from_c k
-read-turn-text side ends k next ss ts (inl idle) = ap text_from_c idle.1
-read-turn-text side ends k next ss ts (inr (message, s, first, r, e)) = read-text ends k next message r.after r.results r.next s.code r.outcome r.left r.rest
+  pub read-stays : (ends : Bool) (k next : NoiseHandshake) (message after : List ℕ) (results new : NoiseResult) (code : ℕ)
+      → ReadOutcome ends k message results next after new code → Left k next code → (code ≡ 0 → KeepsRest k next) → part next ≡ part k
+  read-stays ends k next message after results new _ (accepted u r l d f) left rest = s.rest k next (rest refl)
+  read-stays ends k next message after results new _ (read_wants a b f) left rest = ap part (left (inr (omega arith)) (omega arith))
+  read-stays ends k next message after results new _ (read_wants_psk a b f) left rest = ap part (left (inr (omega arith)) (omega arith))
+  read-stays ends k next message after results new _ (declined code low a b c f) left rest = ap part b
+  read-stays true k next message after results new _ (refused code low high a b c d f) left rest = ap part b ∙ s.ended k
+  read-stays false k next message after results new _ (refused code low high a b c d f) left rest = ap part b
+  read-stays ends k next message after results new _ (too_long a b c d) left rest = ap part (left (inr (omega arith)) (omega arith))
+  read-stays ends k next message after results new _ (read_unusable a b c) left rest = ap part (left (inr (omega arith)) (omega arith))
 
-set-text : (k next : NoiseHandshake) (psk : List ℕ) (code : ℕ) → SetsPsk k next psk code → text_from_c next ≡ text_from_c k
-set-text k next psk code sets = elim sets.codes [
-  | inl ok ↦ (sets.given ok).text
-  | inr (inl e) ↦ ap text_from_c (sets.unchanged (omega (arith, e)))
-  | inr (inr e) ↦ ap text_from_c (sets.unchanged (omega (arith, e)))
-]
+  pub read-turn-stays : (side ends : Bool) (k next : NoiseHandshake) (ss ts : List Step) → ReadTurn side ends k next ss ts → part next ≡ part k
+  read-turn-stays side ends k next ss ts (inl idle) = ap part idle.1
+  read-turn-stays side ends k next ss ts (inr (message, t, first, r, e)) = read-stays ends k next message r.after r.results r.next t.code r.outcome r.left r.rest
 
-unset-text : (k next : NoiseHandshake) (code : ℕ) → UnsetsPsk k next code → text_from_c next ≡ text_from_c k
-unset-text k next code unsets = elim unsets.codes [
-  | inl ok ↦ (unsets.lacks ok).text
-  | inr e ↦ ap text_from_c (unsets.unchanged (omega (arith, e)))
-]
+  pub set-stays : (k next : NoiseHandshake) (psk : List ℕ) (code : ℕ) → SetsPsk k next psk code → part next ≡ part k
+  set-stays k next psk code sets = elim sets.codes [
+    | inl ok ↦ s.given k next psk (sets.given ok)
+    | inr (inl e) ↦ ap part (sets.unchanged (omega (arith, e)))
+    | inr (inr e) ↦ ap part (sets.unchanged (omega (arith, e)))
+  ]
+
+  unset-stays : (k next : NoiseHandshake) (code : ℕ) → UnsetsPsk k next code → part next ≡ part k
+  unset-stays k next code unsets = elim unsets.codes [
+    | inl ok ↦ s.lacks k next (unsets.lacks ok)
+    | inr e ↦ ap part (unsets.unchanged (omega (arith, e)))
+  ]
+
+  pub psk-turn-stays : (side : Bool) (k next : NoiseHandshake) (psk message : List ℕ) (ss ts : List Step) → PskTurn side k next psk message ss ts
+      → part next ≡ part k
+  psk-turn-stays side k next psk message ss ts w = at (nat_lt 0 w.step.code) (nat_lt 0 w.code) refl refl where
+    r : ReadsStep side false true w.given w.after message w.step
+    r = w.reads
+
+    after : part w.after ≡ part k
+    after =
+        read-stays false w.given w.after message r.after r.results r.next w.step.code r.outcome r.left r.rest ∙ set-stays k w.given psk w.code w.sets
+
+    at : (b c : Bool) → nat_lt 0 w.step.code ≡ b → nat_lt 0 w.code ≡ c → part next ≡ part k
+    at false c e f = ap part (w.kept (λ _. none-above w.step.code e)) ∙ after
+    at true true e f = ap part (w.kept (λ ok. not-both w.code f ok)) ∙ after
+    at true false e f = let back = w.taken (none-above w.code f) (above w.step.code e) in
+        unset-stays w.after next back.0 back.1 ∙ after
+
+text-stays : Stays text_from_c
+text-stays = record {
+  ended = λ k. refl;
+  rest = λ k next rest. ap text_from_c rest;
+  given = λ k next psk given. given.text;
+  lacks = λ k next lacks. lacks.text;
+}
 
 supplies-text : (k next : NoiseHandshake) (entry : TableEntry) (code : ℕ) → Supplies k next entry code → k.answer_count ≤ 8 → text_from_c next ≡ text_from_c k
 supplies-text k next entry code supplies few = elim supplies.codes [
@@ -144,40 +176,26 @@ supplies-text k next entry code supplies few = elim supplies.codes [
   at ok true e = let less : k.answer_count < 8 = grind (arith, nat_tests, e) in (supplies.added ok less).text
   at ok false e = let eight : k.answer_count ≡ 8 = grind (arith, nat_tests, e, few) in (supplies.replaced ok eight).text
 
-psk-turn-text : (side : Bool) (k next : NoiseHandshake) (psk message : List ℕ) (ss ts : List Step) → PskTurn side k next psk message ss ts
-    → text_from_c next ≡ text_from_c k
-psk-turn-text side k next psk message ss ts w = at (nat_lt 0 w.step.code) (nat_lt 0 w.code) refl refl where
-  r : ReadsStep side false true w.given w.after message w.step
-  r = w.reads
-
-  after : text_from_c w.after ≡ text_from_c k
-  after =
-      read-text false w.given w.after message r.after r.results r.next w.step.code r.outcome r.left r.rest ∙ set-text k w.given psk w.code w.sets
-
-  at : (b c : Bool) → nat_lt 0 w.step.code ≡ b → nat_lt 0 w.code ≡ c → text_from_c next ≡ text_from_c k
-  at false c e f = ap text_from_c (w.kept (λ _. none-above w.step.code e)) ∙ after
-  at true true e f = ap text_from_c (w.kept (λ ok. not-both w.code f ok)) ∙ after
-  at true false e f = let back = w.taken (none-above w.code f) (above w.step.code e) in
-      unset-text w.after next back.0 back.1 ∙ after
-
 turned-text : (side : Bool) (t : Turn) (k next : NoiseHandshake) (ss ts : List Step) → Turned side t k next ss ts → IsUsable k
     → text_from_c next ≡ text_from_c k
 turned-text side (turn.Write payload room) k next ss ts (s, w, e) u =
-    write-text k next payload.items w.out w.after w.results w.next s.code w.outcome w.rest
-turned-text side turn.Read k next ss ts moved u = read-turn-text side true k next ss ts moved
-turned-text side turn.TryRead k next ss ts moved u = read-turn-text side false k next ss ts moved
+    write-stays text_from_c text-stays k next payload.items w.out w.after w.results w.next s.code w.outcome w.rest
+turned-text side turn.Read k next ss ts moved u = read-turn-stays text_from_c text-stays side true k next ss ts moved
+turned-text side turn.TryRead k next ss ts moved u = read-turn-stays text_from_c text-stays side false k next ss ts moved
 turned-text side (turn.Answer a) k next ss ts (code, supplies, e) u = supplies-text k next (entry_in a) code supplies u.answers
-turned-text side (turn.SetPsk psk) k next ss ts (code, sets, goes, stays, count, e) u = set-text k next psk code sets
-turned-text side (turn.Deliver m) k next ss ts (s, r, e) u = read-text true k next m.items r.after r.results r.next s.code r.outcome r.left r.rest
-turned-text side (turn.TryDeliver m) k next ss ts (s, r, e) u = read-text false k next m.items r.after r.results r.next s.code r.outcome r.left r.rest
-turned-text side (turn.TryPsk psk m) k next ss ts moved u = psk-turn-text side k next psk m.items ss ts moved
+turned-text side (turn.SetPsk psk) k next ss ts (code, sets, goes, stays, count, e) u = set-stays text_from_c text-stays k next psk code sets
+turned-text side (turn.Deliver m) k next ss ts (s, r, e) u =
+    read-stays text_from_c text-stays true k next m.items r.after r.results r.next s.code r.outcome r.left r.rest
+turned-text side (turn.TryDeliver m) k next ss ts (s, r, e) u =
+    read-stays text_from_c text-stays false k next m.items r.after r.results r.next s.code r.outcome r.left r.rest
+turned-text side (turn.TryPsk psk m) k next ss ts moved u = psk-turn-stays text_from_c text-stays side k next psk m.items ss ts moved
 
 pub runs-text : (a0 b0 : NoiseHandshake) (turns : List (Bool × Turn)) (a b : NoiseHandshake) (ss : List Step) → Runs a0 b0 turns a b ss
     → IsUsable a0 → IsUsable b0 → text_from_c a ≡ text_from_c a0
 runs-text a0 b0 _ _ _ _ none u v = refl
-runs-text a0 b0 _ _ _ _ (initiator turns a next b ss ts t before moved) u v =
+runs-text a0 b0 _ _ _ _ (initiator turns a next b ss ts t before lengths moved) u v =
     turned-text false t a next ss ts moved (runs-usable a0 b0 turns a b ss before u v).0 ∙ runs-text a0 b0 turns a b ss before u v
-runs-text a0 b0 _ _ _ _ (responder turns a b next ss ts t before moved) u v = runs-text a0 b0 turns a b ss before u v
+runs-text a0 b0 _ _ _ _ (responder turns a b next ss ts t before lengths moved) u v = runs-text a0 b0 turns a b ss before u v
 
 -- a query of a struct that a call has left returns OK
 pub query-ok : (usable unchanged : Type 0) (code : ℕ) → IsQuery usable code unchanged → usable → code ≡ 0

@@ -10,7 +10,7 @@ use Rattle.noise_handshake.specs.declared.faults.WriteFault.{WriteFault}
 use Rattle.noise_handshake.specs.declared.faults.WriteFault.TheVariants as write
 use Rattle.noise_c.specs.Outcomes.{WriteOutcome}
 use Rattle.noise_c.specs.Outcomes.WriteOutcome.{written, wants_dh_result, wants_psk, withheld, no_room, unusable}
-use Rattle.noise_c.specs.TwoRuns.{Asks, is_writer}
+use Rattle.noise_c.specs.TwoRuns.{is_writer}
 use Rattle.noise_c.proofs.Sides.{own-party}
 use Rattle.noise_c.proofs.Talking.{other-not, other-other, turn-next}
 
@@ -31,9 +31,13 @@ turn-of side (suc n) = turn-next Initiator n ∙ ap other (turn-of side n) ∙ f
 
 -- ---- what a write comes to
 
+-- it asks for a DH result or a psk
+abbrev pub IsAsking : ℕ → Type 0
+IsAsking code = (code ≡ 20) ⊎ (code ≡ 40)
+
 -- what a write of a program whose turn it is returns
 abbrev pub DueCode : ℕ → ℕ → ℕ → Type 0
-DueCode len room code = (code ≡ 0) ⊎ Asks code ⊎ ((code ≡ 11) × (65535 < len + 96)) ⊎ ((code ≡ 18) × (room < 65535))
+DueCode len room code = (code ≡ 0) ⊎ IsAsking code ⊎ ((code ≡ 11) × (65535 < len + 96)) ⊎ ((code ≡ 18) × (room < 65535))
 
 pub data WriteIs (p : Plan) (k : NoiseHandshake) (len room : ℕ) : ℕ → Type 0 where
   due : (code : ℕ) → (k.passed ≡ length p.messages → ⊥) → turn_from Initiator k.passed ≡ role_in k.responder → DueCode len room code → WriteIs p k len room code

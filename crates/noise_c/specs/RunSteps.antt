@@ -3,6 +3,7 @@ use Rattle.std.specs.declared.alloc.AllocError.{AllocError}
 use Rattle.std.specs.Prelude.{◌≡◌, ◌⊎◌, ◌<◌, ◌≤◌, ◌+◌, ℕ, List, [], ◌∷◌, ◌++◌, Bool, true, false, not, ◌&&◌, ◌||◌, ◌==◌, nat_lt, length, take, slice_range, Option, Result, IfOk, IfSome, MatchOption}
 use Rattle.noise_names.specs.Plan.{Plan}
 use Rattle.noise_names.specs.Validity.{IsValid}
+use Rattle.noise_handshake.specs.Setup.{psks_of}
 use Rattle.noise_c.specs.declared.structs.NoiseHandshake.{NoiseHandshake}
 use Rattle.noise_c.specs.declared.structs.NoiseResult.{NoiseResult}
 use Rattle.noise_c.specs.declared.structs.NoiseSetup.{NoiseSetup}
@@ -33,6 +34,7 @@ pub record WritesStep (side : Bool) (old new : NoiseHandshake) (payload : List �
   pub message_is : s.code ≡ OK → s.message.items ≡ take next.len after
   pub held : s.code ≡ OK → KeepsPsks old new
   pub rest : s.code ≡ OK → KeepsRest old new
+  pub asked : (s.of_static ≡ next.of_static) × (s.remote ≡ next.remote)
 
 -- whether a call accepted a message, or refused it and so ended the handshake
 abbrev pub accepts_or_ends : Bool → ℕ → Bool
@@ -52,6 +54,7 @@ pub record ReadsStep (side ends strange : Bool) (old new : NoiseHandshake) (mess
   pub payload_is : s.code ≡ OK → s.payload.items ≡ slice_range after next.from (next.from + next.len)
   pub held : s.code ≡ OK → KeepsPsks old new
   pub rest : s.code ≡ OK → KeepsRest old new
+  pub asked : (s.of_static ≡ next.of_static) × (s.remote ≡ next.remote)
   pub left : (s.code ≤ ENDED) ⊎ (WANTED ≤ s.code) → OK < s.code → new ≡ old
 
 -- the message of that number has these bytes
@@ -108,13 +111,20 @@ Turned side (turn.Deliver message) old new ss ts = StrangeTurn side true old new
 Turned side (turn.TryDeliver message) old new ss ts = StrangeTurn side false old new message.items ss ts
 Turned side (turn.TryPsk psk message) old new ss ts = PskTurn side old new psk message.items ss ts
 
+-- the arrays of a struct have their lengths
+pub record HasLengths (k : NoiseHandshake) : Type 0 where
+  pub e : length k.e.bytes ≡ 32
+  pub s : length k.s.bytes ≡ 32
+  pub psks : length k.psks ≡ 9
+  pub answers : length k.answers ≡ 8
+
 -- The turns, one after another, lead from the structs of both programs to these, with these steps.
 pub data Runs (a0 b0 : NoiseHandshake) : List (Bool × Turn) → NoiseHandshake → NoiseHandshake → List Step → Type 0 where
   none : Runs a0 b0 [] a0 b0 []
   initiator : (turns : List (Bool × Turn)) (a next b : NoiseHandshake) (ss ts : List Step) (t : Turn) → Runs a0 b0 turns a b ss
-      → Turned false t a next ss ts → Runs a0 b0 (turns ++ (false, t) ∷ []) next b ts
+      → HasLengths a → Turned false t a next ss ts → Runs a0 b0 (turns ++ (false, t) ∷ []) next b ts
   responder : (turns : List (Bool × Turn)) (a b next : NoiseHandshake) (ss ts : List Step) (t : Turn) → Runs a0 b0 turns a b ss
-      → Turned true t b next ss ts → Runs a0 b0 (turns ++ (true, t) ∷ []) a next ts
+      → HasLengths b → Turned true t b next ss ts → Runs a0 b0 (turns ++ (true, t) ∷ []) a next ts
 
 -- what `noise_stage`, `noise_hash` and `noise_remote_static` report
 pub record Reports (k : NoiseHandshake) (r : Report) : Type 0 where
@@ -130,7 +140,8 @@ pub record EndsAs (a b : NoiseHandshake) (interval : ℕ) (ran : Ran) : Type 0 w
   pub halves : MatchOption ran.halves (Finishes a OK → Finishes b OK → ⊥)
       (λ x. AreHalvesOf a interval x.sender x.receiver × AreHalvesOf b interval x.their_sender x.their_receiver)
 
--- A run: both handshakes began by `noise_start`, each turn made its call, and this came of it.
+-- A run: both handshakes began by `noise_start`, each turn made its call, and this came of it. So many psk tokens the
+-- pattern has.
 pub record IsMade (text prologue : List ℕ) (g h : NoiseSetup) (interval : ℕ) (turns : List (Bool × Turn)) (ran : Ran)
     : Type 0 where
   pub begun : NoiseHandshake
@@ -141,6 +152,7 @@ pub record IsMade (text prologue : List ℕ) (g h : NoiseSetup) (interval : ℕ)
   pub started_too : IsStarted text prologue h begun_too
   pub runs : Runs begun begun_too turns last last_too ran.steps.items
   pub ends : EndsAs last last_too interval ran
+  pub psks : (p : Plan) → IsPatternOf text p → ran.psks ≡ psks_of p.messages
 
 abbrev pub RunIsMade : List ℕ → List ℕ → NoiseSetup → NoiseSetup → ℕ → List (Bool × Turn) → Result (Option Ran) AllocError
     → Type 0

@@ -6,6 +6,7 @@ use Rattle.noise_names.specs.Tokens.{other, same_role, turn_from}
 use Rattle.noise_names.specs.Plan.{Plan}
 use Rattle.noise_names.specs.Validity.{IsValid}
 use Rattle.noise_keys.specs.Table.{TableEntry}
+use Rattle.noise_keys.specs.declared.keys.Own.{Own}
 use Rattle.noise_handshake.specs.Setup.{psks_of}
 use Rattle.noise_handshake.specs.Party.{Party}
 use Rattle.noise_handshake.specs.Counterparts.{DhResultsAgree, shown_before}
@@ -22,7 +23,7 @@ use Rattle.noise_c.specs.Finishing.{AreHalvesOf}
 use Rattle.noise_c.specs.HalfStructs.{half_from_c}
 use Rattle.noise_c.specs.HandedIn.{dh_results_in}
 use Rattle.noise_c.specs.HandshakeStructs.{handshake_from_c, key_from_c, psks_in, public_in, remote_of, role_in, table_of, ForParty, GoesOn, IsPatternOf, IsStarted, IsUsable, KeepsParty, Supplies, WasRead, WasWritten}
-use Rattle.noise_c.specs.Outcomes.{ReadOutcome}
+use Rattle.noise_c.specs.Outcomes.{ReadOutcome, WriteOutcome}
 
 -- what a program has beside its struct: the DH results of its private keys, and a psk for each psk token
 pub record Secrets : Type 0 where
@@ -151,9 +152,23 @@ IsTaken k m = (ends : Bool) (next : NoiseHandshake) (after : List ℕ) (results 
 abbrev pub TakesNext : List Passed → List Passed → NoiseHandshake → Type 0
 TakesNext written read k = (m : Passed) (more : List Passed) → written ≡ read ++ m ∷ more → IsTaken k m
 
+-- a public key of the program of this setup
+abbrev pub IsKeyOf : NoiseSetup → List ℕ → Type 0
+IsKeyOf setup key = (own : Own) × (public_in (table_of setup) own ≡ Some key)
+
+-- A DH result that a call asks for, to write or to read the next of these messages, is that of a public key of the other
+-- program.
+pub record AsksForOther (other : NoiseSetup) (k : NoiseHandshake) (written read : List Passed) : Type 0 where
+  pub to_write : (next : NoiseHandshake) (payload out after : List ℕ) (results new : NoiseResult) (code : ℕ)
+      → WriteOutcome k payload out results next after new code → code ≡ WANTED → IsKeyOf other new.remote
+  pub to_read : (m : Passed) (more : List Passed) → written ≡ read ++ m ∷ more
+      → (ends : Bool) (next : NoiseHandshake) (after : List ℕ) (results new : NoiseResult) (code : ℕ)
+      → ReadOutcome ends k m.message results next after new code → code ≡ WANTED → IsKeyOf other new.remote
+
 -- What comes of it: each payload that was handed out is the writer's, the messages are the transcript's, what comes
--- next is taken, and once equally many messages have passed both hashes are one; the static key that one takes for the
--- other's is the other's; and the halves that both finish with face each other.
+-- next is taken, what is asked for is of the other's keys, and once equally many messages have passed both hashes are
+-- one; the static key that one takes for the other's is the other's; and the halves that both finish with face each
+-- other.
 pub record Agree (p : Plan) (g h : Program) : Type 0 where
   pub there : IsFront h.read g.written
   pub back : IsFront g.read h.written
@@ -162,6 +177,8 @@ pub record Agree (p : Plan) (g h : Program) : Type 0 where
   pub by_responder : h.written ≡ those_by Responder 0 (transcript_between p g h payloads)
   pub next_there : TakesNext g.written h.read h.last
   pub next_back : TakesNext h.written g.read g.last
+  pub asks : AsksForOther h.setup g.last h.written g.read
+  pub asks_too : AsksForOther g.setup h.last g.written h.read
   pub hash : g.last.passed ≡ h.last.passed → g.last.hash ≡ h.last.hash
   pub known : (k : List ℕ) → key_from_c g.last.remote_s ≡ Some k → key_from_c h.setup.s ≡ Some k
   pub known_too : (k : List ℕ) → key_from_c h.last.remote_s ≡ Some k → key_from_c g.setup.s ≡ Some k

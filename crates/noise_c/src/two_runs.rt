@@ -2,6 +2,7 @@
 //! static library has none of it.
 
 ghost use Rattle.std.specs.Prelude.{◌≡◌, ◌⊎◌, ◌<◌, ◌≤◌, ◌&&◌, [], length, true, false, IfOk, IsSome, MatchOption};
+ghost use Rattle.noise_handshake.specs.Setup.{psks_of};
 ghost use Rattle.noise_c.specs.Finishing.{AreHalvesOf, Finishes};
 ghost use Rattle.noise_c.specs.HandshakeStructs.{IsUsable, KeepsPsks, KeepsRest, UnsetsPsk};
 ghost use Rattle.noise_c.specs.Outcomes.{ReadOutcome};
@@ -11,6 +12,7 @@ ghost use Rattle.noise_c.specs.declared.codes.numbers.TheConstants.{ENDED, OK, W
 
 use crate::codes::numbers::{OK, SHORT, TAG};
 use crate::late::{noise_answer, noise_set_psk, noise_unset_psk};
+use crate::laws::first_act_as_all;
 use crate::messages::{noise_read, noise_try_read, noise_write};
 use crate::patterns::pattern_of;
 use crate::progress::{noise_hash, noise_remote_static, noise_stage};
@@ -22,6 +24,8 @@ use crate::structs::{NoiseHandshake, NoiseResult, NoiseStageResult};
 use crate::toys::{NO_HANDSHAKE, NO_KEY, NO_RESULT};
 use crate::two_programs::two_programs_agree;
 use noise_handshake::laws::{setup_is_whole, tokens_match};
+use noise_handshake::psk_total;
+use noise_names::ValidPattern;
 use noise_names::laws::tokens_keep_rules;
 use std::alloc::{AllocError, Global};
 
@@ -42,13 +46,16 @@ pub enum Turn {
 }
 
 /// A call that writes or reads, and what came of it. It is stray if it accepted a message of a stranger, or ended the
-/// handshake by one.
+/// handshake by one. Where it asks for a DH result (WANTED), that is of the ephemeral key pair where `of_static` is 0,
+/// and of this key of the other program.
 #[derive(Drop)]
 pub struct Step {
     pub responder: bool,
     pub reads: bool,
     pub stray: bool,
     pub code: u32,
+    pub of_static: u8,
+    pub remote: [u8; 32],
     pub message: Vec<u8>,
     pub payload: Vec<u8>,
 }
@@ -72,9 +79,10 @@ pub struct Halves {
     pub their_receiver: NoiseHalf,
 }
 
-/// What came of a run.
+/// What came of a run of a pattern with so many psk tokens.
 #[derive(Drop)]
 pub struct Ran {
+    pub psks: usize,
     pub steps: Vec<Step>,
     pub initiator: Report,
     pub responder: Report,
@@ -105,6 +113,8 @@ fn write(
         reads: false,
         stray: false,
         code,
+        of_static: results.of_static,
+        remote: results.remote,
         message,
         payload,
     })
@@ -161,6 +171,8 @@ fn read(
         reads: true,
         stray: is_stray(strange, ends, code),
         code,
+        of_static: results.of_static,
+        remote: results.remote,
         message,
         payload,
     })
@@ -375,17 +387,32 @@ fn finish_both(a: &mut NoiseHandshake, b: &mut NoiseHandshake, interval: u64) ->
     Some(halves)
 }
 
-// What came of a run of these steps that led to these structs.
-fn end(a: &mut NoiseHandshake, b: &mut NoiseHandshake, steps: Vec<Step>, interval: u64) -> Ran
+// How many psk tokens a pattern has.
+fn psks_of(valid: &ValidPattern) -> usize
+    ensures { result ≡ psks_of valid.now.messages }
+{
+    psk_total(valid.pattern().messages())
+}
+
+// What came of a run of these steps, of a pattern with so many psk tokens, that led to these structs.
+fn end(
+    a: &mut NoiseHandshake,
+    b: &mut NoiseHandshake,
+    psks: usize,
+    steps: Vec<Step>,
+    interval: u64,
+) -> Ran
     requires usable { IsUsable a.old }
     requires usable_too { IsUsable b.old }
     ensures ends { EndsAs a.old b.old interval result }
     ensures steps { result.steps ≡ steps }
+    ensures psks { result.psks ≡ psks }
 {
     let initiator = report_of(a);
     let responder = report_of(b);
     let halves = finish_both(a, b, interval);
     Ran {
+        psks,
         steps,
         initiator,
         responder,
@@ -399,6 +426,12 @@ fn end(a: &mut NoiseHandshake, b: &mut NoiseHandshake, steps: Vec<Step>, interva
 /// If they begin alike, then until a message of a stranger is accepted or ends a handshake, each payload that is read is
 /// the one that was written, and no message of the other program is refused. If none does, both end with one hash, with
 /// each other's static keys as far as they know them, and with halves that meet.
+///
+/// Until then each call that reads a message of the other program returns OK or asks, and so does each that writes one
+/// in turn, unless it is too long or the room too small. It asks for a DH result of a public key of the other program
+/// that isn't among the last eight that were handed in, and for a psk only where fewer were handed in than the pattern
+/// has psk tokens. So a program that hands in what is asked for, and no more, before it calls again, is asked at most
+/// four times in all for a DH result, once for each of its key pairs and each key of the other, and once for each psk.
 pub fn run_two(
     alloc: Global,
     text: &[u8],
@@ -412,9 +445,10 @@ pub fn run_two(
     ensures starts { BothStart text.now prologue.now initiator.now responder.now → IfOk result (λ one. IsSome one) }
     ensures right { RunsRight initiator.now responder.now turns.now result }
 {
-    let Ok(_pattern) = pattern_of(text) else {
+    let Ok(pattern) = pattern_of(text) else {
         return Ok(None);
     };
+    first_act_as_all();
     two_programs_agree();
     setup_is_whole();
     tokens_match();
@@ -435,5 +469,5 @@ pub fn run_two(
             take_turn(alloc, &mut a, false, turn, &mut steps)?;
         }
     }
-    Ok(Some(end(&mut a, &mut b, steps, interval)))
+    Ok(Some(end(&mut a, &mut b, psks_of(&pattern), steps, interval)))
 }

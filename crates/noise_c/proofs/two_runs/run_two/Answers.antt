@@ -1,11 +1,12 @@
-use Rattle.std.proofs.Common.{◌≡◌, ◌∙◌, ◌+◌, ◌++◌, [], ◌∷◌, ◌≤◌, ℕ, List, arith, length, take, ap, sym, subst, refl}
+use Rattle.std.proofs.Common.{◌≡◌, ◌∙◌, ◌+◌, ◌++◌, [], ◌∷◌, ◌≤◌, ℕ, List, arith, length, take, ap, sym, subst, refl, rules}
 use Rattle.std.specs.Prelude.{Bool, false, true}
 use Rattle.std.proofs.lemmas.List.{take_all, take_more}
 use Rattle.noise_names.specs.Plan.{Plan}
+use Rattle.noise_handshake.specs.Setup.{psks_of}
 use Rattle.noise_c.specs.declared.structs.NoiseHandshake.{NoiseHandshake}
 use Rattle.noise_c.specs.declared.two_runs.Step.{Step}
 use Rattle.noise_c.specs.declared.two_runs.Turn.{Turn}
-use Rattle.noise_c.specs.RunSteps.{Runs}
+use Rattle.noise_c.specs.RunSteps.{HasLengths, Runs}
 use Rattle.noise_c.specs.RunSteps.Runs.{none, initiator, responder}
 use Rattle.noise_c.proofs.Both.{Begins, no-start-fault, right-at-end}
 use Rattle.noise_c.proofs.Turning.{runs-usable}
@@ -28,12 +29,14 @@ turns-preserved c =
     let more : take (at + 1) all ≡ take at all ++ item ∷ [] =
     take_more all at item c.turns-test.true ∙ ap (λ (z : Bool × Turn). take at all ++ z ∷ []) (sym c.turns-item.is) in
     let runs = c.turns.invariant.runs in
+    let lengths : HasLengths c.turns.a = record { e = search rules; s = search rules; psks = search rules; answers = search rules } in
+    let lengths_too : HasLengths c.turns.b = record { e = search rules; s = search rules; psks = search rules; answers = search rules } in
     record {
       runs = elim c.if-is_responder.branch [
         | then-is_responder+in_ok-take_turn w ↦
             let side : take (at + 1) all ≡ take at all ++ (true, item.1) ∷ [] =
             more ∙ ap (λ (z : Bool). take at all ++ (z, item.1) ∷ []) w.if-is_responder.true in
-            let next = responder (take at all) c.turns.a c.turns.b w.take_turn.new.handshake c.turns.steps.items w.take_turn.new.steps.items item.1 runs
+            let next = responder (take at all) c.turns.a c.turns.b w.take_turn.new.handshake c.turns.steps.items w.take_turn.new.steps.items item.1 runs lengths_too
             w.in_ok-take_turn.ensures in
             let here = subst (λ (z : List (Bool × Turn)). Runs a0 b0 z c.turns.a w.take_turn.new.handshake w.take_turn.new.steps.items) (sym side) next in
             subst (λ (z : NoiseHandshake). Runs a0 b0 (take (at + 1) all) z c.if-is_responder.b c.if-is_responder.steps.items) (sym w.a-is)
@@ -43,7 +46,7 @@ turns-preserved c =
             let side : take (at + 1) all ≡ take at all ++ (false, item.1) ∷ [] =
             more ∙ ap (λ (z : Bool). take at all ++ (z, item.1) ∷ []) w.if-is_responder.false in
             let after = w.take_turn-else-is_responder.new in
-            let next = initiator (take at all) c.turns.a after.handshake c.turns.b c.turns.steps.items after.steps.items item.1 runs w.in_ok-take_turn-2.ensures in
+            let next = initiator (take at all) c.turns.a after.handshake c.turns.b c.turns.steps.items after.steps.items item.1 runs lengths w.in_ok-take_turn-2.ensures in
             let here = subst (λ (z : List (Bool × Turn)). Runs a0 b0 z after.handshake c.turns.b after.steps.items) (sym side) next in
             subst (λ (z : NoiseHandshake). Runs a0 b0 (take (at + 1) all) c.if-is_responder.a z c.if-is_responder.steps.items) (sym w.b-is)
             (subst (λ (z : NoiseHandshake). Runs a0 b0 (take (at + 1) all) z c.turns.b c.if-is_responder.steps.items) (sym w.a-is)
@@ -61,7 +64,7 @@ end-requires c =
 
 pub returns : goal.returns
 returns c =
-    let p : Plan = c.in-Ok._pattern in
+    let p : Plan = c.in-Ok.pattern in
     let text = c.args.text.now in
     let prologue = c.args.prologue.now in
     let g = c.args.initiator.now in
@@ -76,6 +79,7 @@ returns c =
     subst (λ (z : List (Bool × Turn)). Runs a0 b0 z c.turns.a c.turns.b c.turns.steps.items) (take_all c.turns.is_responder-index all past) c.turns.invariant.runs in
     let runs : Runs a0 b0 all c.turns.a c.turns.b c.end.result.steps.items =
     subst (λ z. Runs a0 b0 all c.turns.a c.turns.b z.items) (sym c.end.ensures.steps) whole in
+    let tokens : c.end.result.psks ≡ psks_of p.messages = c.end.ensures.psks ∙ c.psks_of.ensures in
     record {
       made = record {
         begun = a0;
@@ -86,6 +90,7 @@ returns c =
         started_too = started_too;
         runs = runs;
         ends = c.end.ensures.ends;
+        psks = λ q named. tokens ∙ ap (λ (z : Plan). psks_of z.messages) (sym (c.in-Ok.ensures.one q named));
       };
       starts = λ _. refl;
       right = λ d d_too psks alike.
@@ -95,7 +100,9 @@ returns c =
               remote = c.setup_is_whole.ensures.remote;
               keys = c.tokens_match.ensures.keys;
             };
+            sent = c.tokens_match.ensures.sent;
             law = c.two_programs_agree.ensures;
+            lacking = c.first_act_as_all.ensures.lacks;
             once = c.tokens_keep_rules.ensures p c.in-Ok.ensures.valid;
             valid = c.in-Ok.ensures.valid;
             named = c.in-Ok.ensures.named;
@@ -110,5 +117,5 @@ returns c =
             held_too = c.noise_start-2.ensures.held c.if-noise_start-ne-OK-2.false;
             alike = alike;
           } in
-          right-at-end text prologue p g h a0 b0 all d d_too psks o c.turns.a c.turns.b c.args.interval c.end.result runs c.end.ensures.ends;
+          right-at-end text prologue p g h a0 b0 all d d_too psks o c.turns.a c.turns.b c.args.interval c.end.result runs c.end.ensures.ends tokens;
     }

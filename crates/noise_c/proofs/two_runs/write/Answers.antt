@@ -34,4 +34,5 @@ returns c =
       message_is = message;
       held = w.ensures.held;
       rest = w.ensures.rest;
+      asked = (refl, refl);
     }
