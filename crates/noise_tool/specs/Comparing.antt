@@ -1,7 +1,8 @@
 -- What `compare` prints of a log and of a vector file, and its exit status.
-use Rattle.std.specs.Prelude.{⊤, ◌≡◌, ◌⊎◌, ◌<◌, ◌≤◌, ℕ, ◌-◌, Bool, true, List, [], ◌++◌, Option, Some, IfSome, IsTrue, codes, decimal, flat_map, length, map, string_bytes}
+use Rattle.std.specs.Prelude.{⊤, ◌≡◌, ◌⊎◌, ◌<◌, ◌≤◌, ℕ, ◌-◌, Bool, true, false, List, [], ◌++◌, Option, Some, IfSome, IsTrue, codes, decimal, flat_map, length, map, string_bytes}
 use Rattle.std.specs.Io.KnownBytes.{Appends}
 use Rattle.noise_compare.specs.Findings.{IsReport}
+use Rattle.noise_compare.specs.Known.{AreKnown}
 use Rattle.noise_compare.specs.Lines.{words_in, line_words}
 use Rattle.noise_compare.specs.Plain.{skipped_text, plain_text, written_lines}
 use Rattle.noise_compare.specs.Reading.{first_wrong, schedule_lines, views}
@@ -53,9 +54,14 @@ finding_status Agrees = 0
 finding_status Ends = 1
 finding_status Differs = 1
 
+-- where they are wanted, the mistakes that are known at the step of the first difference
+abbrev pub IsListed : Bool → Facts → List Line → List Line → List ℕ → Type 0
+IsListed true facts right logged text = AreKnown facts right logged text
+IsListed false facts right logged text = text ≡ []
+
 -- This is the report on the log of this text, by the key schedule of the file of this text and facts of its run. It ends
--- with the number of the log's lines that were passed over.
-pub record Compares (log file : List ℕ) (report : LogReport) : Type 0 where
+-- with the number of the log's lines that were passed over, and then has the mistakes that are known, if all are wanted.
+pub record Compares (all : Bool) (log file : List ℕ) (report : LogReport) : Type 0 where
   pub logged : List Line
   pub logged_are : views logged ≡ schedule_lines (plain_text log)
   pub right : List Line
@@ -63,7 +69,9 @@ pub record Compares (log file : List ℕ) (report : LogReport) : Type 0 where
   pub facts : Facts
   pub compared : List ℕ
   pub reported : IsReport facts right logged report.finding compared
-  pub text_is : report.text.items ≡ compared ++ skipped_text (written_lines log - length logged)
+  pub known : List ℕ
+  pub listed : IsListed all facts right logged known
+  pub text_is : report.text.items ≡ (compared ++ skipped_text (written_lines log - length logged)) ++ known
 
 abbrev pub IfMade : Comparison → (LogReport → Type 0) → Type 0
 IfMade (Made report) P = P report
@@ -79,9 +87,9 @@ IfUnread _ P = ⊤
 
 -- the log and the file were compared, where their texts are known: the output grew by the report on them, and the
 -- status is that of what was found
-pub record IsCompared (log file : Option (List ℕ)) (before after : Option (List ℕ)) (status : ℕ) : Type 0 where
+pub record IsCompared (all : Bool) (log file : Option (List ℕ)) (before after : Option (List ℕ)) (status : ℕ) : Type 0 where
   pub report : LogReport
-  pub compares : IfSome log (λ l. IfSome file (λ f. Compares l f report))
+  pub compares : IfSome log (λ l. IfSome file (λ f. Compares all l f report))
   pub printed : Appends before after report.text.items
   pub status_is : status ≡ finding_status report.finding
 
@@ -89,13 +97,13 @@ pub record IsCompared (log file : Option (List ℕ)) (before after : Option (Lis
 abbrev pub ComparesFiles : {E : Type 0} → Compared → (List ℕ → Option (List ℕ)) → Option (List ℕ) → Option (List ℕ)
     → E → E → ℕ → Type 0
 ComparesFiles names bytes_at before after err err_after status =
-    IsCompared (bytes_at (string_bytes names.log)) (bytes_at (string_bytes names.file)) before after status
+    IsCompared names.all (bytes_at (string_bytes names.log)) (bytes_at (string_bytes names.file)) before after status
     × (err_after ≡ err)
 
 -- the output grew by a prefix of the report on them
-pub record ComparesPrefix (log file : Option (List ℕ)) (before after : Option (List ℕ)) : Type 0 where
+pub record ComparesPrefix (all : Bool) (log file : Option (List ℕ)) (before after : Option (List ℕ)) : Type 0 where
   pub report : LogReport
-  pub compares : IfSome log (λ l. IfSome file (λ f. Compares l f report))
+  pub compares : IfSome log (λ l. IfSome file (λ f. Compares all l f report))
   pub grown : AppendsPrefix before after report.text.items
 
 -- ---- a log that isn't compared

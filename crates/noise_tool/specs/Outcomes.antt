@@ -57,7 +57,7 @@ module _ {O E : Type 0} (printed : O → Option (List ℕ)) (reported : E → Op
         (reported err) (reported err_after)
     pub twice : NamesInputTwice names → IsRefusedTwice names (reported err) (reported err_after) status
     pub outside : status ≡ 3 → StopsComparing names unreadable (reported err) (reported err_after)
-    pub prefix : (out_after ≡ out) ⊎ ComparesPrefix (bytes_at (string_bytes names.log))
+    pub prefix : (out_after ≡ out) ⊎ ComparesPrefix names.all (bytes_at (string_bytes names.log))
         (bytes_at (string_bytes names.file)) (printed out) (printed out_after)
 
   -- of `template` with a file of values

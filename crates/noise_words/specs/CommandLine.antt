@@ -27,13 +27,13 @@ use Rattle.clap.specs.Faults.{fault_of}
 abbrev pub Choice : Type 0
 Choice = Text × List Text
 
--- The values that a command wants, by these names: none, one, two, one and a second that may be left out, at least
--- one beside these flags, or one beside these options and flags.
+-- The values that a command wants, by these names: none, one, two beside these flags, one and a second that may be left
+-- out, at least one beside these flags, or one beside these options and flags.
 pub data Wants : Type 0 where
   Nothing : Wants
   One : Text → Wants
   Several : Text → List Text → Wants
-  Two : Text → Text → Wants
+  Two : Text → Text → List Text → Wants
   OneOrTwo : Text → Text → Wants
   OneWith : Text → List Choice → List Text → Wants
 
@@ -60,8 +60,12 @@ trace = (codes "trace", OneWith (codes "FILE") (part_choice ∷ role_choice ∷ 
 abbrev pub template : Text × Wants
 template = (codes "template", OneOrTwo (codes "NAME|FILE") (codes "KEYS"))
 
+-- the flag of `compare`
+abbrev pub all_flag : Text
+all_flag = codes "all"
+
 abbrev pub compare : Text × Wants
-compare = (codes "compare", Two (codes "LOG") (codes "FILE"))
+compare = (codes "compare", Two (codes "LOG") (codes "FILE") (all_flag ∷ []))
 
 -- the commands, each with the values that it wants
 abbrev pub commands : List (Text × Wants)
@@ -98,7 +102,7 @@ flag name = record (new_rule name) { long = Some name; action = Some SetTrue }
 abbrev pub rules_for : Wants → List Rule
 rules_for Nothing = []
 rules_for (One value) = wanted value ∷ []
-rules_for (Two first second) = wanted first ∷ wanted second ∷ []
+rules_for (Two first second flags) = wanted first ∷ wanted second ∷ map flag flags
 rules_for (OneOrTwo first second) = wanted first ∷ new_rule second ∷ []
 rules_for (Several value flags) = several value ∷ map flag flags
 rules_for (OneWith value choices flags) = wanted value ∷ (map optional choices ++ map flag flags)
@@ -158,7 +162,8 @@ abbrev pub named_explain : Vec (String Global) Global → Named
 named_explain files = (codes "explain", map string_bytes files.items, [])
 
 abbrev pub named_compare : Compared → Named
-named_compare compared = (codes "compare", string_bytes compared.log ∷ string_bytes compared.file ∷ [], [])
+named_compare compared =
+    (codes "compare", string_bytes compared.log ∷ string_bytes compared.file ∷ [], flag_text compared.all ∷ [])
 
 abbrev pub named_fill : Filled → Named
 named_fill filled = (codes "template", string_bytes filled.pattern ∷ string_bytes filled.keys ∷ [], [])
@@ -202,8 +207,9 @@ with_second first (Some second) = first ∷ second ∷ []
 abbrev pub order_with : List Row → Text × Wants → Option Named
 order_with rows (name, Nothing) = Some (name, [], [])
 order_with rows (name, One value) = option_map (λ text. (name, text ∷ [], [])) (first_of value rows)
-order_with rows (name, Two first second) =
-    option_and_then (λ one. option_map (λ two. (name, one ∷ two ∷ [], [])) (first_of second rows)) (first_of first rows)
+order_with rows (name, Two first second flags) = option_and_then
+    (λ one. option_map (λ two. (name, one ∷ two ∷ [], map (flag_in rows) flags)) (first_of second rows))
+    (first_of first rows)
 order_with rows (name, OneOrTwo first second) =
     option_map (λ one. (name, with_second one (first_of second rows), [])) (first_of first rows)
 order_with rows (name, Several value flags) =

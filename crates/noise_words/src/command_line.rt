@@ -8,7 +8,7 @@ ghost use Rattle.noise_words.specs.CommandLine.{Nothing, asked, compare, flag, n
 
 use crate::choices::{compared, explained, templated, tested, traced, wrong_choice};
 use crate::help::{
-    COMPARE, Flag, HEADING, OF_PATTERNS, OF_VECTORS, ONLY, ROLE, Subcommand, TEMPLATE, TEST, TRACE,
+    ALL, COMPARE, Flag, HEADING, OF_PATTERNS, OF_VECTORS, ONLY, ROLE, Subcommand, TEMPLATE, TEST, TRACE,
     TRACES, ValueOption,
 };
 use crate::orders::{Chosen, LineFault, Order};
@@ -137,20 +137,21 @@ fn with_options<'a>(alloc: Global) -> Result<Command<'a>, AllocError>
     whole.arg(flag_of(alloc, &HEADING))
 }
 
-// With the subcommand that has two values, too.
+// With the subcommand that has two values and a flag, too.
 fn with_compare<'a>(alloc: Global, whole: Command<'a>) -> Result<Command<'a>, AllocError>
     ensures { IfOk result (λ c. app_of c ≡ with_subcommand (app_of whole.entry) (subcommand compare)) }
 {
     whole.subcommand(with_two(alloc)?)
 }
 
-// The subcommand that has two values.
+// The subcommand that has two values and a flag.
 fn with_two<'a>(alloc: Global) -> Result<Command<'a>, AllocError>
     ensures shape { IfOk result (λ c. shape_of c ≡ subcommand compare) }
     ensures local { IfOk result (λ c. (out-Command c).has_globals ≡ false) }
 {
     let whole = with_value(alloc, &COMPARE)?;
-    whole.arg(second_value(alloc))
+    let whole = whole.arg(second_value(alloc))?;
+    whole.arg(flag_of(alloc, &ALL))
 }
 
 // Its second value.

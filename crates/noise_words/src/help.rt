@@ -114,13 +114,13 @@ pub const TRACE: Subcommand<'static> = Subcommand {
     example: "Example: noise trace --role responder examples/vectors/nnpsk2.vector",
 };
 
-/// The subcommand that has two values: the first.
+/// The subcommand that has two values and a flag: the first.
 pub const COMPARE: Subcommand<'static> = Subcommand {
     name: "compare",
     value: "LOG",
     several: false,
     about: "Print the first line of a logged key schedule that differs from that of a vector file, \
-            and the mistakes that give its values: what it prints are secrets",
+            and the mistakes that give its values, or what these show: what it prints are secrets",
     meaning: "Lines of a key schedule in the form of trace, logged by another implementation",
     example: "Example: noise compare yours.log examples/vectors/xx.vector",
 };
@@ -149,6 +149,12 @@ pub struct Flag<'a> {
 pub const TRACES: Flag<'static> = Flag {
     name: "trace",
     meaning: "Print the trace of each file that differs, up to the line that differs: what it prints are secrets",
+};
+
+/// Whether the mistakes that are known at the step that differs are printed.
+pub const ALL: Flag<'static> = Flag {
+    name: "all",
+    meaning: "Print each mistake that is known at the step that differs, too",
 };
 
 /// Whether the first line of a trace names the words of the others.

@@ -52,6 +52,8 @@ pub struct Compared {
     pub log: String,
     /// The name of the vector file.
     pub file: String,
+    /// Whether the mistakes that are known at the step are wanted too.
+    pub all: bool,
 }
 
 /// What is filled in.

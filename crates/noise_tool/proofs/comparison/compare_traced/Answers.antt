@@ -20,5 +20,7 @@ returns-in-Ok-clause-made c = λ file runs. record {
   facts = c.args.facts.now;
   compared = c.in_ok-report-in-Ok.report.text.items;
   reported = rw (c.deref-in-Ok.ensures.value, c.deref-in-Ok-2.ensures.value, sym c.in_ok-with_others-in-Ok.ensures.finding) at c.in_ok-report-in-Ok.ensures;
+  known = c.in_ok-known-in-Ok.known.items;
+  listed = rw (c.deref-in-Ok-3.ensures.value, c.deref-in-Ok-4.ensures.value) at c.in_ok-known-in-Ok.ensures;
   text_is = rw (c.saturating_sub-others.ensures, c.in_ok-written_lines-in-Ok.ensures, c.len.ensures, c.in-Ok.lines.ok.0) at c.in_ok-with_others-in-Ok.ensures.text;
 }

@@ -1,6 +1,6 @@
 use Rattle.std.proofs.Common.{◌≡◌, ◌++◌, take}
-use Rattle.noise_compare.specs.Advice.{indented_sentences}
-use Rattle.noise_compare.proofs.advice.push_indented.Given as goal
+use Rattle.noise_compare.specs.Known.{indented_sentences}
+use Rattle.noise_compare.proofs.known.push_indented.Given as goal
 
 -- the lines of those so far
 abbrev pub invariant-loop-mistake : goal.invariant-loop-mistake
