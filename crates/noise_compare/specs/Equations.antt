@@ -173,6 +173,6 @@ abbrev pub pairs : Value → List Operation → List Input → List Equation
 pairs value os is = flat_map (λ o. map (paired value o) is) os
 
 -- either the operation is another, or the form of what it takes
-abbrev pub equations : Value → List Equation
+unfoldable pub equations : Value → List Equation
 equations value = pairs value (operations value) (inputs value)
     ++ pairs value (other_operations value) (plain_inputs value)

@@ -190,13 +190,20 @@ logged_value value.Hash logged = items_of logged.hash
 logged_value value.ChainingKey logged = items_of logged.chaining_key
 logged_value value.Key logged = items_of logged.key
 
+-- An operation gives this value of a source in a form. A source of more bytes than a message has is not tried.
+abbrev pub holds_for : Equation → Situation → Logged → List ℕ → List ℕ → Bool
+holds_for e at logged v x = nat_le (length x) 65535 && gives e.operation at logged (in_form e.input.form x) v
+
+abbrev pub holds_at : Equation → Situation → Logged → List ℕ → Option (List ℕ) → Bool
+holds_at e at logged v None = false
+holds_at e at logged v (Some x) = holds_for e at logged v x
+
 abbrev pub holds_of : Equation → Situation → Logged → Option (List ℕ) → Option (List ℕ) → Bool
-holds_of e at logged (Some v) (Some x) = gives e.operation at logged (in_form e.input.form x) v
-holds_of e at logged (Some v) None = false
-holds_of e at logged None x = false
+holds_of e at logged None source = false
+holds_of e at logged (Some v) source = holds_at e at logged v source
 
 -- The logged value is what the operation gives of its input. Where there is no such value, the equation doesn't hold.
-abbrev pub holds : Equation → Situation → Logged → Bool
+unfoldable pub holds : Equation → Situation → Logged → Bool
 holds e at logged = holds_of e at logged (logged_value e.value logged) (source_bytes e.input.source at logged)
 
 -- those of a value that hold, in their order

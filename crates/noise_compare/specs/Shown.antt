@@ -228,19 +228,23 @@ differing_text v k bytes (first ∷ more) = found_text k first more
 unfoldable pub right_line : Value → List ℕ
 right_line v = joined (codes "    " ∷ value_word v ∷ ended (codes " is right") ∷ [])
 
-abbrev pub logged_text : Value → Situation → Logged → Option (List ℕ) → List ℕ
-logged_text v at logged None = []
-logged_text v at logged (Some bytes) = if is_value_right v at logged then right_line v
+-- that the value is right, or the shortest equation of those that hold, and how many do
+abbrev pub logged_line : Value → Situation → Logged → List ℕ → List ℕ
+logged_line v at logged bytes = if is_value_right v at logged then right_line v
     else differing_text v at.kind bytes (found_equations v at logged)
 
--- that the value is right, or the shortest equation of those that hold, and how many do
-abbrev pub value_line : Value → Situation → Logged → List ℕ
+abbrev pub logged_text : Value → Situation → Logged → Option (List ℕ) → List ℕ
+logged_text v at logged None = []
+logged_text v at logged (Some bytes) = logged_line v at logged bytes
+
+-- that line, where the value is logged
+unfoldable pub value_line : Value → Situation → Logged → List ℕ
 value_line v at logged = logged_text v at logged (logged_value v logged)
 
 unfoldable pub shown_head : List ℕ
 shown_head = ended (codes "what they show, by the right values before this step:")
 
 -- a line for each value that is logged
-abbrev pub shown_text : Situation → Logged → List ℕ
+unfoldable pub shown_text : Situation → Logged → List ℕ
 shown_text at logged = shown_head ++ (value_line value.Bytes at logged ++ (value_line value.Hash at logged
     ++ (value_line value.ChainingKey at logged ++ value_line value.Key at logged)))

@@ -172,6 +172,7 @@ pub struct Equation {
 }
 
 /// All equations of a value that are tried.
+#[tactic(auto, unfolding(crate::specs::Equations::equations))]
 pub fn equations(alloc: Global, value: Value) -> Result<Vec<Equation>, AllocError>
     ensures { IfOk result (λ e. e.items ≡ equations value) }
 {

@@ -5,7 +5,7 @@ ghost use Rattle.std.specs.List.{filter};
 ghost use Rattle.std.specs.Str.{bytes_eq};
 ghost use Rattle.sha2.specs.Sha256.{sha256};
 ghost use Rattle.noise_aead.specs.Sealing.{nonce_of, sealed};
-ghost use Rattle.noise_compare.specs.Holding.{code_of, found_equations, gives, holds, holds_of, is_but_tag, is_made, is_renewed, is_sealed, is_sealed_front, is_value_right, key_of, output_of, source_bytes};
+ghost use Rattle.noise_compare.specs.Holding.{code_of, found_equations, gives, holds, holds_at, holds_for, holds_of, is_but_tag, is_made, is_renewed, is_sealed, is_sealed_front, is_value_right, key_of, output_of, source_bytes};
 ghost use Rattle.noise_compare.specs.declared.equation.Expansion.TheVariants.{Standard};
 ghost use Rattle.noise_compare.specs.declared.equation.Source.TheVariants.{Hash};
 
@@ -60,16 +60,62 @@ fn holds(
 ) -> Result<bool, AllocError>
     ensures { IfOk result (λ b. b ≡ holds equation at.now logged.now) }
 {
-    match logged_value(equation.value, logged) {
+    let value = logged_value(equation.value, logged);
+    let source = source_bytes(equation.input.source, at, logged);
+    holds_of(alloc, equation, at, logged, value, source)
+}
+
+fn holds_of(
+    alloc: Global,
+    equation: Equation,
+    at: &Situation<'_>,
+    logged: &Logged,
+    value: Option<&[u8]>,
+    source: Option<&[u8]>,
+) -> Result<bool, AllocError>
+    ensures { IfOk result (λ b. b
+        ≡ holds_of equation at.now logged.now (option_copied value.entry) (option_copied source.entry)) }
+{
+    match value {
+        Some(value) => holds_at(alloc, equation, at, logged, value, source),
         None => Ok(false),
-        Some(value) => match source_bytes(equation.input.source, at, logged) {
-            None => Ok(false),
-            Some(bytes) => {
-                let input = in_form(alloc, equation.input.form, bytes)?;
-                gives(alloc, equation.operation, at, logged, &input, value)
-            }
-        },
     }
+}
+
+fn holds_at(
+    alloc: Global,
+    equation: Equation,
+    at: &Situation<'_>,
+    logged: &Logged,
+    value: &[u8],
+    source: Option<&[u8]>,
+) -> Result<bool, AllocError>
+    ensures { IfOk result (λ b. b
+        ≡ holds_at equation at.now logged.now value.now (option_copied source.entry)) }
+{
+    match source {
+        Some(bytes) => holds_for(alloc, equation, at, logged, value, bytes),
+        None => Ok(false),
+    }
+}
+
+// Whether the operation of an equation gives this value of these bytes in its form.
+fn holds_for(
+    alloc: Global,
+    equation: Equation,
+    at: &Situation<'_>,
+    logged: &Logged,
+    value: &[u8],
+    bytes: &[u8],
+) -> Result<bool, AllocError>
+    ensures { IfOk result (λ b. b ≡ holds_for equation at.now logged.now value.now bytes.now) }
+{
+    if bytes.len() > 65535 {
+        return Ok(false);
+    }
+    let input = in_form(alloc, equation.input.form, bytes)?;
+    let given = gives(alloc, equation.operation, at, logged, &input, value)?;
+    Ok(given)
 }
 
 // Whether an operation gives this value of an input.
@@ -95,15 +141,19 @@ fn gives(
         Operation::Code(source) => Ok(code_gives(source_bytes(source, at, logged), input, value)),
         Operation::CodeUnder(source) => Ok(code_under_gives(source_bytes(source, at, logged), input, value)),
         Operation::Expanded(source, expansion, output) => {
-            expanded_gives(alloc, source_bytes(source, at, logged), expansion, output, input, value)
+            let other = source_bytes(source, at, logged);
+            let given = expanded_gives(alloc, other, expansion, output, input, value)?;
+            Ok(given)
         }
         Operation::ExpandedBy(source, output) => {
-            expanded_by_gives(alloc, source_bytes(source, at, logged), output, input, value)
+            let other = source_bytes(source, at, logged);
+            let given = expanded_by_gives(alloc, other, output, input, value)?;
+            Ok(given)
         }
         Operation::Sealed => is_sealed(alloc, &at.before.key, at.before.nonce, &at.before.hash, input, value),
         Operation::SealedAlone => is_sealed(alloc, &at.before.key, at.before.nonce, &[], input, value),
         Operation::SealedWith => is_sealed(alloc, &at.before.key, at.before.nonce, input, at.text, value),
-        Operation::SealedUnder => is_sealed(alloc, &key_of(input), at.before.nonce, &at.before.hash, at.text, value),
+        Operation::SealedUnder => is_sealed_under(alloc, at, input, value),
         Operation::Renewed => is_renewed(alloc, &at.before.key, &[], input, value),
         Operation::RenewedWith => is_renewed(alloc, &at.before.key, input, &[0; 32], value),
         Operation::ButTag => Ok(is_but_tag(input, value)),
@@ -253,6 +303,21 @@ fn key_of(input: &[u8]) -> Option<[u8; 32]>
     let mut key = [0; 32];
     key.copy_from_slice(input);
     Some(key)
+}
+
+// Whether a value is the step's text, encrypted under these bytes.
+fn is_sealed_under(
+    alloc: Global,
+    at: &Situation<'_>,
+    input: &[u8],
+    value: &[u8],
+) -> Result<bool, AllocError>
+    ensures { IfOk result (λ b. b ≡ is_sealed (key_of input.now) (nonce_of at.now.before.nonce)
+        at.now.before.hash at.now.text.now value.now) }
+{
+    let key = key_of(input);
+    let given = is_sealed(alloc, &key, at.before.nonce, &at.before.hash, at.text, value)?;
+    Ok(given)
 }
 
 // Whether a value is a text that is encrypted.

@@ -1,7 +1,7 @@
 //! What the logged values of a step show.
 
-ghost use Rattle.std.specs.Prelude.{◌≡◌, ◌≤◌, ◌++◌, ◌∷◌, [], IfOk, OnOk, length};
-ghost use Rattle.noise_compare.specs.Shown.{differing_text, found_text, is_printable, is_words, printable, printable_head, printable_text, right_line, shortest, shown_head, shown_text, unfound_text, value_line};
+ghost use Rattle.std.specs.Prelude.{◌≡◌, ◌≤◌, ◌++◌, ◌∷◌, [], IfOk, OnOk, length, option_copied};
+ghost use Rattle.noise_compare.specs.Shown.{differing_text, found_text, is_printable, is_words, logged_line, logged_text, printable, printable_head, printable_text, right_line, shortest, shown_head, shown_text, unfound_text, value_line};
 
 use crate::equation::{Equation, Value};
 use crate::equation_words::{equation_text, push_parts, value_word};
@@ -24,7 +24,8 @@ pub(crate) fn push_shown(
     push_value_line(alloc, Value::Bytes, at, logged, text)?;
     push_value_line(alloc, Value::Hash, at, logged, text)?;
     push_value_line(alloc, Value::ChainingKey, at, logged, text)?;
-    push_value_line(alloc, Value::Key, at, logged, text)
+    push_value_line(alloc, Value::Key, at, logged, text)?;
+    Ok(())
 }
 
 #[tactic(auto, unfolding(crate::specs::Shown::shown_head))]
@@ -46,16 +47,43 @@ fn push_value_line(
 ) -> Result<(), AllocError>
     ensures { OnOk result (text.new.items ≡ text.old.items ++ value_line value at.now logged.now) }
 {
-    match logged_value(value, logged) {
+    let bytes = logged_value(value, logged);
+    push_if_logged(alloc, value, at, logged, bytes, text)
+}
+
+fn push_if_logged(
+    alloc: Global,
+    value: Value,
+    at: &Situation<'_>,
+    logged: &Logged,
+    bytes: Option<&[u8]>,
+    text: &mut Vec<u8>,
+) -> Result<(), AllocError>
+    ensures { OnOk result (text.new.items
+        ≡ text.old.items ++ logged_text value at.now logged.now (option_copied bytes.entry)) }
+{
+    match bytes {
+        Some(bytes) => push_logged(alloc, value, at, logged, bytes, text),
         None => Ok(()),
-        Some(bytes) => {
-            if is_value_right(value, at, logged) {
-                return push_right(value, text);
-            }
-            let found = found_equations(alloc, value, at, logged)?;
-            push_differing(alloc, value, at.kind, bytes, &found, text)
-        }
     }
+}
+
+// Appends that a value is right, or what the equations that hold of it show.
+fn push_logged(
+    alloc: Global,
+    value: Value,
+    at: &Situation<'_>,
+    logged: &Logged,
+    bytes: &[u8],
+    text: &mut Vec<u8>,
+) -> Result<(), AllocError>
+    ensures { OnOk result (text.new.items ≡ text.old.items ++ logged_line value at.now logged.now bytes.now) }
+{
+    if is_value_right(value, at, logged) {
+        return push_right(value, text);
+    }
+    let found = found_equations(alloc, value, at, logged)?;
+    push_differing(alloc, value, at.kind, bytes, &found, text)
 }
 
 #[tactic(auto, unfolding(crate::specs::Shown::right_line))]

@@ -1,0 +1,12 @@
+use Rattle.std.proofs.Common.{◌≡◌, ◌++◌, ℕ, List, append_assoc}
+use Rattle.noise_compare.specs.Shown.{shown_text}
+use Rattle.noise_compare.proofs.shown.push_shown.Goals as goal
+
+joined : (a b c d e f v w x y z : List ℕ) → b ≡ a ++ v → c ≡ b ++ w → d ≡ c ++ x → e ≡ d ++ y → f ≡ e ++ z
+    → f ≡ a ++ (v ++ (w ++ (x ++ (y ++ z))))
+joined a b c d e f v w x y z first second third fourth fifth = rw (fifth, fourth, third, second, first) (simp append_assoc)
+
+pub returns : goal.returns
+unfolding shown_text
+returns c = joined _ _ _ _ _ _ _ _ _ _ _ c.in_ok-push_head.ensures c.in_ok-push_value_line.ensures
+    c.in_ok-push_value_line-2.ensures c.in_ok-push_value_line-3.ensures c.in_ok-push_value_line-4.ensures
