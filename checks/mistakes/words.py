@@ -88,6 +88,12 @@ def right_faults(program: str, pattern: str, seed: int) -> tuple[int, list[str]]
                 count += 1
                 if REFUSED not in printed:
                     faults.append(f"{pattern}: not said: {REFUSED}:\n{printed}")
+            if number:
+                cut = " ".join(words[:8])
+                printed = compared(program, pathlib.Path(folder), session, events, lines[:number], cut)
+                count += 1
+                if f"the last line, {number + 1}, is cut off\n" not in printed or "differs" in printed:
+                    faults.append(f"{pattern}: cut off in line {number + 1}:\n{printed}")
     return count + 1, faults
 
 

@@ -20,12 +20,12 @@ abbrev pub is_cut : List ℕ → Bool
 is_cut text = is_wrong (plain_line (last_line text))
 
 -- the lines before it
-abbrev pub whole_lines : List ℕ → List ℕ
+unfoldable pub whole_lines : List ℕ → List ℕ
 whole_lines text = if is_cut text then take (length text - length (last_line text)) text else text
 
 unfoldable pub cut_line : ℕ → List ℕ
 cut_line number = codes "the last line, " ++ (decimal number ++ ended (codes ", is cut off"))
 
 -- that it is passed over
-abbrev pub cut_text : List ℕ → List ℕ
+unfoldable pub cut_text : List ℕ → List ℕ
 cut_text text = if is_cut text then cut_line (line_count text) else []

@@ -12,6 +12,7 @@ use std::alloc::{AllocError, Global};
 
 /// A log without its last line, if that is cut off: it has no LF, begins as a line of a key schedule, and has more or
 /// fewer than twelve words.
+#[tactic(auto, unfolding(crate::specs::Cut::whole_lines))]
 pub fn whole_lines(alloc: Global, text: &[u8]) -> Result<&[u8], AllocError>
     ensures { IfOk result (λ whole. whole.now ≡ whole_lines text.now) }
 {
@@ -49,6 +50,7 @@ fn is_wrong(alloc: Global, text: &[u8]) -> Result<bool, AllocError>
 }
 
 /// Appends that the last line of a log is cut off, if it is, with its number.
+#[tactic(auto, unfolding(crate::specs::Cut::cut_text))]
 pub fn push_cut(alloc: Global, log: &[u8], text: &mut Vec<u8>) -> Result<(), AllocError>
     ensures { OnOk result (text.new.items ≡ text.old.items ++ cut_text log.now) }
 {

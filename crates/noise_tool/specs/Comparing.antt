@@ -1,6 +1,7 @@
 -- What `compare` prints of a log and of a vector file, and its exit status.
 use Rattle.std.specs.Prelude.{⊤, ◌≡◌, ◌⊎◌, ◌<◌, ◌≤◌, ℕ, ◌-◌, Bool, true, false, List, [], ◌++◌, Option, Some, IfSome, IsTrue, codes, decimal, flat_map, length, map, string_bytes}
 use Rattle.std.specs.Io.KnownBytes.{Appends}
+use Rattle.noise_compare.specs.Cut.{cut_text, whole_lines}
 use Rattle.noise_compare.specs.Findings.{IsReport}
 use Rattle.noise_compare.specs.Known.{AreKnown}
 use Rattle.noise_compare.specs.Lines.{words_in, line_words}
@@ -59,11 +60,12 @@ abbrev pub IsListed : Bool → Facts → List Line → List Line → List ℕ �
 IsListed true facts right logged text = AreKnown facts right logged text
 IsListed false facts right logged text = text ≡ []
 
--- This is the report on the log of this text, by the key schedule of the file of this text and facts of its run. It ends
--- with the number of the log's lines that were passed over, and then has the mistakes that are known, if all are wanted.
+-- This is the report on the whole lines of the log of this text, by the key schedule of the file of this text and facts
+-- of its run. Then it has the number of the log's lines that were passed over, that its last line is cut off, and the
+-- mistakes that are known, if all are wanted.
 pub record Compares (all : Bool) (log file : List ℕ) (report : LogReport) : Type 0 where
   pub logged : List Line
-  pub logged_are : views logged ≡ schedule_lines (plain_text log)
+  pub logged_are : views logged ≡ schedule_lines (plain_text (whole_lines log))
   pub right : List Line
   pub right_are : IsScheduleOf file right
   pub facts : Facts
@@ -71,7 +73,8 @@ pub record Compares (all : Bool) (log file : List ℕ) (report : LogReport) : Ty
   pub reported : IsReport facts right logged report.finding compared
   pub known : List ℕ
   pub listed : IsListed all facts right logged known
-  pub text_is : report.text.items ≡ (compared ++ skipped_text (written_lines log - length logged)) ++ known
+  pub text_is : report.text.items
+      ≡ ((compared ++ skipped_text (written_lines (whole_lines log) - length logged)) ++ cut_text log) ++ known
 
 abbrev pub IfMade : Comparison → (LogReport → Type 0) → Type 0
 IfMade (Made report) P = P report
@@ -114,8 +117,8 @@ NamesInputTwice names = (is_input (string_bytes names.log) ≡ true) × (is_inpu
 
 -- why it isn't, by its text
 abbrev pub IsWrongLog : List ℕ → Uncompared → Type 0
-IsWrongLog log NoLine = schedule_lines (plain_text log) ≡ []
-IsWrongLog log (WrongLine number) = first_wrong (plain_text log) ≡ Some number
+IsWrongLog log NoLine = schedule_lines (plain_text (whole_lines log)) ≡ []
+IsWrongLog log (WrongLine number) = first_wrong (plain_text (whole_lines log)) ≡ Some number
 IsWrongLog log LongLog = 4194304 < length log
 IsWrongLog log _ = ⊥
 

@@ -2,6 +2,7 @@
 
 ghost use Rattle.std.specs.Prelude.{◌≡◌, ◌⊎◌, ◌++◌, ◌≤◌, ℕ, List, true, IfErr, IfOk, IfSome, IsTrue, MatchResult, OnOk, map, string_bytes};
 ghost use Rattle.std.specs.Io.KnownBytes.{Appends};
+ghost use Rattle.noise_compare.specs.Cut.{cut_text};
 ghost use Rattle.noise_compare.specs.Lines.{words_in, line_words};
 ghost use Rattle.noise_compare.specs.Plain.{skipped_text};
 ghost use Rattle.noise_lines.specs.Faults.{status_of};
@@ -19,8 +20,8 @@ ghost use Rattle.noise_tool.specs.declared.comparison.Uncompared.TheVariants.{Na
 use crate::testing::{FilesByName, is_input, trace_named};
 use crate::tracing::Traced;
 use noise_compare::{
-    Facts, Finding, Line, LogFault, LogReport, compare_lines, known_lines, plain_text,
-    push_schedule, push_skipped, read_log, written_lines,
+    Facts, Finding, Line, LogFault, LogReport, compare_lines, known_lines, plain_text, push_cut,
+    push_schedule, push_skipped, read_log, whole_lines, written_lines,
 };
 use noise_lines::{Fault, Verdict, flush, named_fault, report_fault, verdict_lines, write};
 use noise_words::Compared;
@@ -176,17 +177,18 @@ fn compare_traced(
     ensures fault { IfErr result EndsTest }
 {
     let right = schedule(alloc, traced)?;
-    let plain = plain_text(alloc, log)?;
+    let whole = whole_lines(alloc, log)?;
+    let plain = plain_text(alloc, whole)?;
     match read_log(alloc, &plain) {
         Ok(lines) => {
             if lines.is_empty() {
                 return Ok(Comparison::Wrong(Uncompared::NoLine));
             }
             let report = compare_lines(alloc, facts, &lines, &right)?;
-            let others = written_lines(alloc, log)?.saturating_sub(lines.len());
+            let others = written_lines(alloc, whole)?.saturating_sub(lines.len());
             let known = listed(alloc, all, facts, &lines, &right)?;
             Ok(Comparison::Made(
-                with_others(alloc, report, others, &known)?,
+                with_others(alloc, report, others, log, &known)?,
             ))
         }
         Err(LogFault::Line(number)) => Ok(Comparison::Wrong(Uncompared::WrongLine(number))),
@@ -210,18 +212,22 @@ fn listed(
     }
 }
 
-// A report, with the number of the lines of its log that are passed over, and the mistakes that are known.
+// A report, with the number of the lines of its log that are passed over, that its last line is cut off, and the
+// mistakes that are known.
 fn with_others(
     alloc: Global,
     report: LogReport,
     others: usize,
+    log: &[u8],
     known: &[u8],
 ) -> Result<LogReport, AllocError>
     ensures finding { IfOk result (λ more. more.finding ≡ report.finding) }
-    ensures text { IfOk result (λ more. more.text.items ≡ (report.text.items ++ skipped_text others) ++ known.now) }
+    ensures text { IfOk result (λ more. more.text.items
+        ≡ ((report.text.items ++ skipped_text others) ++ cut_text log.now) ++ known.now) }
 {
     let LogReport { finding, mut text } = report;
     push_skipped(alloc, others, &mut text)?;
+    push_cut(alloc, log, &mut text)?;
     text.extend_from_slice(known)?;
     Ok(LogReport { finding, text })
 }

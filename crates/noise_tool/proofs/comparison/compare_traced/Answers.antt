@@ -5,7 +5,7 @@ use Rattle.noise_tool.proofs.comparison.compare_traced.Goals as goal
 pub returns-in-Ok-clause-made : goal.returns-in-Ok-clause-made
 returns-in-Ok-clause-made c = λ file runs. record {
   logged = c.in-Ok.lines.items;
-  logged_are = rw (c.deref.ensures.value, c.in_ok-plain.ensures) at c.in-Ok.ensures.lines;
+  logged_are = rw (c.deref.ensures.value, c.in_ok-plain.ensures, c.in_ok-whole.ensures) at c.in-Ok.ensures.lines;
   right = c.in_ok-right.right.items;
   right_are = record {
     file = runs.file;
@@ -22,5 +22,5 @@ returns-in-Ok-clause-made c = λ file runs. record {
   reported = rw (c.deref-in-Ok.ensures.value, c.deref-in-Ok-2.ensures.value, sym c.in_ok-with_others-in-Ok.ensures.finding) at c.in_ok-report-in-Ok.ensures;
   known = c.in_ok-known-in-Ok.known.items;
   listed = rw (c.deref-in-Ok-3.ensures.value, c.deref-in-Ok-4.ensures.value) at c.in_ok-known-in-Ok.ensures;
-  text_is = rw (c.saturating_sub-others.ensures, c.in_ok-written_lines-in-Ok.ensures, c.len.ensures, c.in-Ok.lines.ok.0) at c.in_ok-with_others-in-Ok.ensures.text;
+  text_is = rw (c.deref-in-Ok-5.ensures.value, c.saturating_sub-others.ensures, c.in_ok-written_lines-in-Ok.ensures, c.in_ok-whole.ensures, c.len.ensures, c.in-Ok.lines.ok.0) at c.in_ok-with_others-in-Ok.ensures.text;
 }
