@@ -1,5 +1,6 @@
 use Rattle.std.proofs.Common.{◌∙◌, ap}
 use Rattle.noise_compare.specs.Situations.{secrets_of}
+use Rattle.noise_compare.proofs.SituationLemmas.{same-text}
 use Rattle.noise_compare.proofs.known.known_of.Goals as goal
 
 pub returns : goal.returns
@@ -12,6 +13,7 @@ returns c = (
     after = c.situation-at.ensures.right ∙ c.in_ok-parts.ensures.right;
     bytes = c.situation-at.ensures.bytes ∙ c.in_ok-parts.ensures.bytes;
     data_is = c.situation-at.ensures.data_is ∙ c.in_ok-parts.ensures.data_is;
+    text = same-text _ _ _ _ c.situation-at.ensures.text_is c.in_ok-parts.ensures.text;
     secret = c.situation-at.ensures.secret ∙ c.in_ok-parts.ensures.secret;
     secrets = c.situation-at.ensures.secrets ∙ ap (secrets_of c.args.facts.now) c.in_ok-parts.ensures.kind;
     name = c.situation-at.ensures.name;
