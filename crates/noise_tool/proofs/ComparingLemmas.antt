@@ -20,14 +20,15 @@ begun-left {O = O} contents all log file a why middle new report three left comp
 }
 
 -- what is made of a log and of a run of the file's text is the report on their bytes, where these are known
-pub made-known : (all : Bool) (r : Result Comparison Fault) (Runs : List ℕ → Type 0) (log file : Option (List ℕ)) (text : List ℕ)
-    → IfSome log (λ bytes. text ≡ bytes) → IfSome file Runs → ((f : List ℕ) → Runs f → IfOk r (λ made. IfMade made (Compares all text f)))
+pub made-known : (all : Bool) (r : Result Comparison Fault) (Runs Gives : List ℕ → Type 0) (log file : Option (List ℕ)) (text : List ℕ)
+    → IfSome log (λ bytes. text ≡ bytes) → IfSome file Runs → IfSome file Gives
+    → ((f : List ℕ) → Runs f → Gives f → IfOk r (λ made. IfMade made (Compares all text f)))
     → IfOk r (λ made. IfMade made (λ report. IfSome log (λ l. IfSome file (λ f. Compares all l f report))))
-made-known all (Err why) Runs log file text read runs made = tt
-made-known all (Ok (Wrong why)) Runs log file text read runs made = tt
-made-known all (Ok (Unread which)) Runs log file text read runs made = tt
-made-known all (Ok (Made report)) Runs None file text read runs made = tt
-made-known all (Ok (Made report)) Runs (Some bytes) None text read runs made = tt
-made-known all (Ok (Made report)) Runs (Some bytes) (Some f) text read runs made = subst (λ (l : List ℕ). Compares all l f report) read (made f runs)
+made-known all (Err why) Runs Gives log file text read runs gives made = tt
+made-known all (Ok (Wrong why)) Runs Gives log file text read runs gives made = tt
+made-known all (Ok (Unread which)) Runs Gives log file text read runs gives made = tt
+made-known all (Ok (Made report)) Runs Gives None file text read runs gives made = tt
+made-known all (Ok (Made report)) Runs Gives (Some bytes) None text read runs gives made = tt
+made-known all (Ok (Made report)) Runs Gives (Some bytes) (Some f) text read runs gives made = subst (λ (l : List ℕ). Compares all l f report) read (made f runs gives)
 
 -- ---- why a comparison ends with status 3

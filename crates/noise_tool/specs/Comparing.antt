@@ -22,6 +22,7 @@ use Rattle.noise_vectors.specs.VectorText.{file_text}
 use Rattle.noise_vectors.specs.declared.vector.AllowedEvents.TheVariants.{Any}
 use Rattle.noise_vectors.specs.declared.vector.VectorFile.{VectorFile}
 use Rattle.noise_words.specs.declared.orders.Compared.{Compared}
+use Rattle.noise_tool.specs.FileFacts.{AreFactsOfText}
 use Rattle.noise_tool.specs.Selection.{all_lines}
 use Rattle.noise_tool.specs.Performing.{IsRunFault}
 use Rattle.noise_tool.specs.Testing.{EndsTest, is_input}
@@ -60,8 +61,8 @@ abbrev pub IsListed : Bool → Facts → List Line → List Line → List ℕ �
 IsListed true facts right logged text = AreKnown facts right logged text
 IsListed false facts right logged text = text ≡ []
 
--- This is the report on the whole lines of the log of this text, by the key schedule of the file of this text and facts
--- of its run. Then it has the number of the log's lines that were passed over, that its last line is cut off, and the
+-- This is the report on the whole lines of the log of this text, by the key schedule of the file of this text and its
+-- facts. Then it has the number of the log's lines that were passed over, that its last line is cut off, and the
 -- mistakes that are known, if all are wanted.
 pub record Compares (all : Bool) (log file : List ℕ) (report : LogReport) : Type 0 where
   pub logged : List Line
@@ -69,6 +70,7 @@ pub record Compares (all : Bool) (log file : List ℕ) (report : LogReport) : Ty
   pub right : List Line
   pub right_are : IsScheduleOf file right
   pub facts : Facts
+  pub facts_are : AreFactsOfText file facts
   pub compared : List ℕ
   pub reported : IsReport facts right logged report.finding compared
   pub known : List ℕ

@@ -13,6 +13,7 @@ ghost use Rattle.noise_lines.specs.declared.faults.Fault.TheVariants.{Unreadable
 ghost use Rattle.noise_lines.specs.TracedLines.{traces_of};
 ghost use Rattle.noise_names.specs.Lists.{bytes_of};
 ghost use Rattle.noise_tool.specs.Comparing.{Compares, ComparesPrefix, IfMade, IfUnread, IfWrong, IsCompared, IsListed, IsNotCompared, IsRefusedTwice, IsUncompared, IsWrongLog, NamesInputTwice, StopsComparing, compared_name, finding_status, schedule_of, uncompared_line};
+ghost use Rattle.noise_tool.specs.FileFacts.{AreFactsOfText};
 ghost use Rattle.noise_tool.specs.Testing.{EndsTest, RunsTo};
 ghost use Rattle.noise_tool.specs.declared.comparison.Comparison.TheVariants.{Wrong};
 ghost use Rattle.noise_tool.specs.declared.comparison.Uncompared.TheVariants.{NamedTwice, WrongFile};
@@ -170,7 +171,7 @@ fn compare_traced(
     facts: &Facts,
     traced: &Traced,
 ) -> Result<Comparison, Fault>
-    ensures made { (file : List ℕ) → RunsTo true file traced.now
+    ensures made { (file : List ℕ) → RunsTo true file traced.now → AreFactsOfText file facts.now
         → IfOk result (λ made. IfMade made (Compares all log.now file)) }
     ensures wrong { IfOk result (λ made. IfWrong made (IsWrongLog log.now)) }
     ensures read { IfOk result (λ made. IfUnread made (λ which. ⊥)) }

@@ -3,7 +3,7 @@ use Rattle.noise_tool.proofs.Common.{traces_of, bytes_of}
 use Rattle.noise_tool.proofs.comparison.compare_traced.Goals as goal
 
 pub returns-in-Ok-clause-made : goal.returns-in-Ok-clause-made
-returns-in-Ok-clause-made c = λ file runs. record {
+returns-in-Ok-clause-made c = λ file runs are_facts. record {
   logged = c.in-Ok.lines.items;
   logged_are = rw (c.deref.ensures.value, c.in_ok-plain.ensures, c.in_ok-whole.ensures) at c.in-Ok.ensures.lines;
   right = c.in_ok-right.right.items;
@@ -18,6 +18,7 @@ returns-in-Ok-clause-made c = λ file runs. record {
     words_are = c.in_ok-right.ensures;
   };
   facts = c.args.facts.now;
+  facts_are = are_facts;
   compared = c.in_ok-report-in-Ok.report.text.items;
   reported = rw (c.deref-in-Ok.ensures.value, c.deref-in-Ok-2.ensures.value, sym c.in_ok-with_others-in-Ok.ensures.finding) at c.in_ok-report-in-Ok.ensures;
   known = c.in_ok-known-in-Ok.known.items;
