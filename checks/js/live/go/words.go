@@ -3,6 +3,7 @@ package main
 import (
 	"crypto/sha256"
 	"encoding/hex"
+	"errors"
 	"fmt"
 	"io"
 	"net"
@@ -21,9 +22,11 @@ type words struct {
 	size, count       int
 }
 
+const usage = "usage: peer noise|flynn PATTERN OWN_SECRET PEER_KEY PSK ADDRESS ORDER SIZE COUNT"
+
 func parse(args []string) words {
 	if len(args) != 8 {
-		fail(fmt.Errorf("usage: peer PATTERN OWN_SECRET PEER_KEY PSK ADDRESS ORDER SIZE COUNT"))
+		fail(errors.New(usage))
 	}
 	w := words{
 		pattern: args[0],

@@ -1,4 +1,4 @@
-module example.org/noise-peer
+module example.org/flynnpeer
 
 go 1.19
 
