@@ -5,34 +5,18 @@ import { visible } from './bytes.mjs';
 import { lookalikeIn } from './lookalikes.mjs';
 import { linesOf } from './plan.mjs';
 
-/** For each rule a sentence, and how to mend it. Words in braces are filled in by `brokenRule`. */
+/**
+ * For each rule what is wrong. Words in braces are filled in by `brokenRule`. What corrects it mends.mjs offers, after
+ * it has tried it.
+ */
 export const RULES = Object.freeze({
-  1: [
-    '{token} needs the {owner}’s {key}, which is neither sent before this place nor named above “...”.',
-    'Let the {owner} send {key} earlier, or name it above “...”.',
-  ],
-  later: [
-    '{token} needs the {owner}’s {key}, which is neither sent before this place nor named above “...”.',
-    'Let the {owner} send {key} earlier, or mix {token} after it.',
-  ],
-  2: ['The {sender} has sent {token} already.', 'Leave the second one out.'],
-  above: ['The {sender}’s {token} is named above “...” already.', 'Keep the one that is meant.'],
-  3: ['{token} is mixed in already, and adds nothing the second time.', 'Leave the second one out.'],
-  4: [
-    'The {sender} encrypts here, {after} is mixed in, and {missing} isn’t: '
-      + 'what it encrypts could depend on no fresh key of its own.',
-    '{mend}',
-  ],
-  5: [
-    'The {sender} encrypts here after psk, and has sent no e: the same key and nonce could come again.',
-    'Let the {sender} send e before it.',
-  ],
-});
-/** How to mend rule 4. */
-const MIXES = Object.freeze({
-  lacks: ['Let the {lacks} send {key}, and mix {dh} after it.'],
-  first: ['Mix {dh} in message {message}.'],
-  after: ['Mix {dh} in message {message}, after {after}.'],
+  1: '{token} needs the {owner}’s {key}, which is neither sent before this place nor named above “...”.',
+  2: 'The {sender} has sent {token} already.',
+  above: 'The {sender}’s {token} is named above “...” already.',
+  3: '{token} is mixed in already, and adds nothing the second time.',
+  4: 'The {sender} encrypts here, {after} is mixed in, and {missing} isn’t: '
+    + 'what it encrypts could depend on no fresh key of its own.',
+  5: 'The {sender} encrypts here after psk, and has sent no e: the same key and nonce could come again.',
 });
 /**
  * The same for each kind of malformed line, by its code in include/noise.h: a sentence, and how to mend it. All these
@@ -164,15 +148,6 @@ export function mixPlace(lines, dh) {
 
 const filled = (text, values) => text.replace(/\{(\w+)\}/g, (_, name) => values[name]);
 
-function mixWords(lines, dh) {
-  const { n, at, lacks, key } = mixPlace(lines, dh);
-  if (lacks) return filled(MIXES.lacks[0], { lacks, key, dh });
-  const message = n - firstOf(lines) + 1;
-  return at < 0
-    ? filled(MIXES.first[0], { dh, message })
-    : filled(MIXES.after[0], { dh, message, after: lines[n].tokens[at].name });
-}
-
 /** What a broken rule is about, by name: the words that are filled in. */
 export function brokenRule(lines, { rule, message, token }) {
   const line = lines[firstOf(lines) + message - 1];
@@ -187,7 +162,7 @@ export function brokenRule(lines, { rule, message, token }) {
     const has = (role, key) => earlier.some((it) => it.role === role && it.names.includes(key));
     const owner = has('initiator', name[0]) ? 'responder' : 'initiator';
     const key = owner === 'initiator' ? name[0] : name[1];
-    return { token: name, sender, owner, key, isLater: keyPlace(lines, owner, key) !== undefined };
+    return { token: name, sender, owner, key };
   }
   if (rule === 2) return { token: name, sender, isAbove: keyPlace(lines, sender, name).at < 0 };
   if (rule !== 4) return { token: name, sender };
@@ -196,7 +171,7 @@ export function brokenRule(lines, { rule, message, token }) {
   );
   const needs = sender === 'initiator' ? [['se', 'ee'], ['ss', 'es']] : [['es', 'ee'], ['ss', 'se']];
   const [after, missing] = needs.find(([dh, first]) => names.includes(dh) && !names.includes(first)) ?? needs[0];
-  return { token: name, sender, after, missing, mend: mixWords(lines, missing) };
+  return { token: name, sender, after, missing };
 }
 
 /** What a line of too many tokens, or of none, or a line too many says. */
@@ -232,16 +207,15 @@ function whatIs(line, [from, to]) {
 }
 
 /**
- * What a fault says: a title, a sentence, how to correct it, and its place in the text as two offsets. Of a broken rule
- * the title comes in two parts, with the rule's number between them, and `section` is that of the standard.
+ * What a fault says: a title, a sentence, of a malformed line how to correct it, and its place in the text as two
+ * offsets. Of a broken rule the title comes in two parts, with the rule's number between them, and `section` is that of
+ * the standard.
  */
 export function explain(text, fault) {
   const lines = linesOf(text);
   if (fault.rule) {
     const values = brokenRule(lines, fault);
-    const [says, mend] = RULES[(values.isAbove && 'above') || (values.isLater && 'later') || fault.rule].map((it) =>
-      filled(it, values),
-    );
+    const says = filled(RULES[values.isAbove ? 'above' : fault.rule], values);
     const [number, where] = [sectionOf(fault.rule), ` is broken at ${placeOf(lines, fault)}`];
     return {
       title: `Rule ${fault.rule}${where}`,
@@ -249,7 +223,6 @@ export function explain(text, fault) {
       rule: fault.rule,
       section: { number, url: SECTIONS[number] },
       says,
-      mend,
       span: spanOfRule(lines, fault),
     };
   }

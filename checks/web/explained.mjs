@@ -112,10 +112,12 @@ function ofTheStandard() {
 /** The faults of a pattern that breaks rules, below its place and the line with the caret. */
 function faultLines(text) {
   const told = faultsOf(text, checkPattern(text)).map((fault) => explain(text, fault));
-  return plain(
-    told.flatMap(({ title, says, mend }) => [`${title}.`, says, mend]).map((line) => `  ${line}\n`).join(''),
-  );
+  return plain(told.flatMap(({ title, says }) => [`${title}.`, says]).map((line) => `  ${line}\n`).join(''));
 }
+
+/** A line of a correction: checks/patterns does what it says. The page has its own, which facts.test.mjs tries. */
+const CORRECTS = /^ {2}(?:Write line \d+ so: |Put in as line \d+: |Leave line \d+ out\.$)/;
+const faultsIn = (said) => said.split('\n').slice(3).filter((line) => !CORRECTS.test(line)).join('\n');
 
 /** What the command says of each text, with this status. */
 function saidOf(texts, status) {
@@ -138,7 +140,7 @@ const texts = [...ofTheStandard(), ...drawn(400, ({ valid }) => valid)];
 saidOf(texts, 0).forEach((said, n) => assert.equal(said, explained(`${n}.pattern`, texts[n]), texts[n]));
 const wrong = drawn(300, ({ rule }) => rule);
 saidOf(wrong, 1).forEach(
-  (said, n) => assert.equal(said.split('\n').slice(3).join('\n'), faultLines(wrong[n]), wrong[n]),
+  (said, n) => assert.equal(faultsIn(said), faultLines(wrong[n]), wrong[n]),
 );
 const missing = Object.keys(SENTENCES).filter((name) => !met.has(name));
 assert.deepEqual(missing, [], 'sentences of the page that no pattern has');

@@ -75,6 +75,10 @@ test('who can compute the key at each encrypted s and payload', () => {
     /Whoever takes the responder’s part needs only an e and an s of its own\.$/,
   );
   assert.doesNotMatch(keyOf('XK', 'Message 3, s'), /part/);
+  assert.equal(
+    keyOf('MINE:\n  -> s\n  <- e, se\n  -> e, ee\n', 'Message 2, payload'),
+    'The initiator’s s, or the responder’s e. Whoever takes the initiator’s part needs only an s of its own.',
+  );
   assert.equal(keyOf('IX', 'Message 1, s'), 'In the clear: everybody sees it.');
   assert.equal(keyOf('NN', 'Message 1, payload'), 'In the clear: everybody sees it.');
   assert.equal(keyOf(textOf('NN', [0]), 'Message 1, payload'), 'The psk alone.');

@@ -1,3 +1,4 @@
+pub mod CorrectionLemmas
 pub mod CountLemmas
 pub mod ExplainedLemmas
 pub mod FactLemmas

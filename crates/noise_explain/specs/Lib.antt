@@ -1,6 +1,8 @@
+pub mod Corrections
 pub mod Explained
 pub mod FactLines
 pub mod Facts
+pub mod FaultPlaces
 pub mod FactWords
 pub mod FramePieces
 pub mod KeyLines

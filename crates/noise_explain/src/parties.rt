@@ -74,6 +74,7 @@ pub(crate) fn is_fresh(pattern: &Pattern, party: Role, passed: usize) -> bool
 pub(crate) enum Part {
     Neither,
     Ephemeral,
+    Static,
     Both,
 }
 
@@ -81,11 +82,16 @@ pub(crate) enum Part {
 pub(crate) fn own_part(pattern: &Pattern, party: Role, passed: usize, mixed: Mixed) -> Part
     ensures { result ≡ own_part pattern.now party passed mixed }
 {
+    let has_s = chooses(pattern, party, Token::S, passed);
     if !chooses(pattern, party, Token::E, passed) {
-        Part::Neither
+        if has_s && mixed.is_by(Keys::static_of(party)) {
+            Part::Static
+        } else {
+            Part::Neither
+        }
     } else if mixed.is_by(Keys::of(party, false)) {
         Part::Ephemeral
-    } else if chooses(pattern, party, Token::S, passed) && mixed.is_by(Keys::of(party, true)) {
+    } else if has_s && mixed.is_by(Keys::of(party, true)) {
         Part::Both
     } else {
         Part::Neither

@@ -5,21 +5,20 @@ use noise_lines::{role_word, token_word};
 use noise_names::{Pattern, Role, RuleFault, Token};
 use std::alloc::{AllocError, Global};
 
-// What is wrong at a place, and what mends it.
+// Which rule is broken where, and what is wrong there.
 #[derive(Drop)]
 pub(crate) struct Sentences {
     pub place: String,
     pub says: String,
-    pub mends: String,
 }
 
 // What breaks a rule, who does it, and where.
 #[derive(Clone, Copy)]
-struct Broken {
-    rule: u8,
-    sender: Role,
-    token: Option<Token>,
-    spot: Spot,
+pub(crate) struct Broken {
+    pub rule: u8,
+    pub sender: Role,
+    pub token: Option<Token>,
+    pub spot: Spot,
 }
 
 pub(crate) fn rule_sentences(
@@ -29,17 +28,17 @@ pub(crate) fn rule_sentences(
 ) -> Result<Sentences, AllocError> {
     let broken = broken_at(pattern, fault);
     let place = place_words(alloc, broken, pattern.messages().len())?;
-    let (says, mends) = match broken.token {
+    let says = match broken.token {
         Some(token) if broken.rule == 1 => key_missing(alloc, pattern, broken, token)?,
         Some(token) if broken.rule == 2 => key_again(alloc, pattern, broken, token)?,
         Some(token) if broken.rule == 3 => dh_again(alloc, token)?,
         _ if broken.rule == 4 => dh_missing(alloc, pattern, broken)?,
         _ => fresh_missing(alloc, broken.sender)?,
     };
-    Ok(Sentences { place, says, mends })
+    Ok(Sentences { place, says })
 }
 
-fn broken_at(pattern: &Pattern, fault: RuleFault) -> Broken {
+pub(crate) fn broken_at(pattern: &Pattern, fault: RuleFault) -> Broken {
     let spot = Spot {
         message: usize::from(fault.message),
         token: usize::from(fault.token),
@@ -80,27 +79,24 @@ fn key_missing(
     pattern: &Pattern,
     broken: Broken,
     dh: Token,
-) -> Result<(String, String), AllocError> {
-    let (first, second) = keys_of(dh);
-    let has_first = is_by(key_spot(pattern, Role::Initiator, first), broken.spot);
-    let (role, missing) = if has_first {
-        (Role::Responder, second)
-    } else {
-        (Role::Initiator, first)
-    };
+) -> Result<String, AllocError> {
+    let (role, missing) = missing_key(pattern, broken, dh);
     let token = token_word(dh);
     let key = token_word(missing);
     let owner = role_word(role);
-    let says = format!(in alloc;
+    format!(in alloc;
         "{token} needs the {owner}'s {key}, which is neither sent before this place nor named above \"...\"."
-    )?;
-    // A key that comes in a later message stays in one.
-    let mends = if key_spot(pattern, role, missing).is_some() {
-        format!(in alloc; "Let the {owner} send {key} earlier, or mix {token} after it.")?
+    )
+}
+
+// Whose key a DH lacks, and which one.
+pub(crate) fn missing_key(pattern: &Pattern, broken: Broken, dh: Token) -> (Role, Token) {
+    let (first, second) = keys_of(dh);
+    if is_by(key_spot(pattern, Role::Initiator, first), broken.spot) {
+        (Role::Responder, second)
     } else {
-        format!(in alloc; "Let the {owner} send {key} earlier, or name it above \"...\".")?
-    };
-    Ok((says, mends))
+        (Role::Initiator, first)
+    }
 }
 
 // Rule 2: a key comes a second time.
@@ -109,46 +105,36 @@ fn key_again(
     pattern: &Pattern,
     broken: Broken,
     key: Token,
-) -> Result<(String, String), AllocError> {
+) -> Result<String, AllocError> {
     let sender = role_word(broken.sender);
     let token = token_word(key);
     if pattern.pre(broken.sender).contains(&key) {
-        let says = format!(in alloc; "The {sender}'s {token} is named above \"...\" already.")?;
-        return Ok((
-            says,
-            String::from_str(alloc, "Keep the one that is meant.")?,
-        ));
+        format!(in alloc; "The {sender}'s {token} is named above \"...\" already.")
+    } else {
+        format!(in alloc; "The {sender} has sent {token} already.")
     }
-    let says = format!(in alloc; "The {sender} has sent {token} already.")?;
-    Ok((says, String::from_str(alloc, "Leave the second one out.")?))
 }
 
 // Rule 3: a DH comes a second time.
-fn dh_again(alloc: Global, dh: Token) -> Result<(String, String), AllocError> {
+fn dh_again(alloc: Global, dh: Token) -> Result<String, AllocError> {
     let token = token_word(dh);
-    let says = format!(in alloc; "{token} is mixed in already, and adds nothing the second time.")?;
-    Ok((says, String::from_str(alloc, "Leave the second one out.")?))
+    format!(in alloc; "{token} is mixed in already, and adds nothing the second time.")
 }
 
 // Rule 4: a DH of the sender's ephemeral key is missing.
-fn dh_missing(
-    alloc: Global,
-    pattern: &Pattern,
-    broken: Broken,
-) -> Result<(String, String), AllocError> {
+fn dh_missing(alloc: Global, pattern: &Pattern, broken: Broken) -> Result<String, AllocError> {
     let (mixed, wanted) = unfresh(pattern, broken);
     let sender = role_word(broken.sender);
     let after = token_word(mixed);
     let missing = token_word(wanted);
-    let says = format!(in alloc;
+    format!(in alloc;
         "The {sender} encrypts here, {after} is mixed in, and {missing} isn't: what it encrypts could depend on no \
          fresh key of its own."
-    )?;
-    Ok((says, mix_words(alloc, pattern, wanted)?))
+    )
 }
 
 // A DH of the sender's static key that is mixed, and the one of its ephemeral key that isn't.
-fn unfresh(pattern: &Pattern, broken: Broken) -> (Token, Token) {
+pub(crate) fn unfresh(pattern: &Pattern, broken: Broken) -> (Token, Token) {
     let (mixed, wanted) = match broken.sender {
         Role::Initiator => (Token::Se, Token::Ee),
         Role::Responder => (Token::Es, Token::Ee),
@@ -164,44 +150,10 @@ fn unfresh(pattern: &Pattern, broken: Broken) -> (Token, Token) {
     }
 }
 
-// Where a DH can be mixed: after the later one of its two keys.
-fn mix_words(alloc: Global, pattern: &Pattern, dh: Token) -> Result<String, AllocError> {
-    let (first, second) = keys_of(dh);
-    let Some(one) = key_spot(pattern, Role::Initiator, first) else {
-        return send_words(alloc, Role::Initiator, first, dh);
-    };
-    let Some(other) = key_spot(pattern, Role::Responder, second) else {
-        return send_words(alloc, Role::Responder, second, dh);
-    };
-    let later = if one.is_before(other) { other } else { one };
-    let message = later.message;
-    let word = token_word(dh);
-    let before = Spot {
-        message,
-        token: later.token.saturating_sub(1),
-    };
-    match token_at(pattern.messages(), before) {
-        Some(key) if later.token > 0 => {
-            let after = token_word(key);
-            format!(in alloc; "Mix {word} in message {message}, after {after}.")
-        }
-        _ => format!(in alloc; "Mix {word} in message {message}."),
-    }
-}
-
-fn send_words(alloc: Global, role: Role, key: Token, dh: Token) -> Result<String, AllocError> {
-    let owner = role_word(role);
-    let sent = token_word(key);
-    let word = token_word(dh);
-    format!(in alloc; "Let the {owner} send {sent}, and mix {word} after it.")
-}
-
 // Rule 5: a psk comes without an ephemeral key.
-fn fresh_missing(alloc: Global, role: Role) -> Result<(String, String), AllocError> {
+fn fresh_missing(alloc: Global, role: Role) -> Result<String, AllocError> {
     let sender = role_word(role);
-    let says = format!(in alloc;
+    format!(in alloc;
         "The {sender} encrypts here after psk, and has sent no e: the same key and nonce could come again."
-    )?;
-    let mends = format!(in alloc; "Let the {sender} send e before it.")?;
-    Ok((says, mends))
+    )
 }
