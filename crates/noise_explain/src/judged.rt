@@ -1,6 +1,6 @@
 //! Which of some corrections of a pattern text is told: they are tried by the judge that `check` has.
 
-ghost use Rattle.std.specs.Prelude.{◌≡◌, IfOk, IfSome, IsTrue, MatchOption};
+ghost use Rattle.std.specs.Prelude.{◌≡◌, ◌<◌, IfOk, IfSome, IsTrue, MatchOption, length};
 ghost use Rattle.noise_lines.specs.Output.{IsCheckFault};
 ghost use Rattle.noise_lines.specs.declared.faults.Fault.TheVariants.{Text};
 ghost use Rattle.noise_names.specs.Text.{Spells};
@@ -106,6 +106,13 @@ fn is_behind(later: Position, position: Position) -> bool
     }
 }
 
+// Whether the one has fewer bytes than the other.
+fn is_shorter(left: &[u8], had: &[u8]) -> bool
+    ensures { IsTrue result → length left.now < length had.now }
+{
+    left.len() < had.len()
+}
+
 // How many bytes of the other text are left from its first fault on, and one more, where that comes later.
 fn left_if_later(text: &[u8], found: Found, other: &[u8], later: Found) -> Option<usize>
     requires first { IsFirst text.now found.fault found.position }
@@ -117,7 +124,7 @@ fn left_if_later(text: &[u8], found: Found, other: &[u8], later: Found) -> Optio
     if later.fault.status() > found.fault.status() {
         return None;
     }
-    if left.len() >= had.len() {
+    if !is_shorter(left, had) {
         return None;
     }
     if is_behind(later.position, found.position) || had.ends_with(left) {

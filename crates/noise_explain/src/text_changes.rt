@@ -3,7 +3,8 @@
 use crate::change::{Change, corrected};
 use crate::judged::Correction;
 use crate::position::{after_line, from_line, line_at};
-use crate::tidy::{push_modifiers, tidy_line};
+use crate::text_advice::is_keys;
+use crate::tidy::{has_psk, push_modifiers, tidy_line};
 use noise_names::{TextFault, TextFaultKind};
 use std::alloc::{AllocError, Global};
 
@@ -42,12 +43,12 @@ fn push_by_kind(
         TextFaultKind::Heading | TextFaultKind::NameTaken => push_headings(alloc, text, found),
         TextFaultKind::PskPlace => {
             push_headings(alloc, text, found)?;
-            push_placed(alloc, text, number, psk_last(alloc, line)?, found)
+            push_psks_moved(alloc, text, number, line, found)
         }
         TextFaultKind::Arrow => push_out(alloc, number, line, found),
         TextFaultKind::Token => {
             push_placed(alloc, text, number, tidy_line(alloc, line, false)?, found)?;
-            push_placed(alloc, text, number, without_piece(alloc, line, column)?, found)
+            push_without_piece(alloc, text, number, column, found)
         }
         TextFaultKind::PreMessage => {
             push_swapped(alloc, text, number, line, found)?;
@@ -56,7 +57,8 @@ fn push_by_kind(
         TextFaultKind::Turn => push_turned(alloc, number, line, found),
         TextFaultKind::Limit => {
             push_placed(alloc, text, number, once_each(alloc, line)?, found)?;
-            push_placed(alloc, text, number, with_e(alloc, line)?, found)
+            push_placed(alloc, text, number, with_e(alloc, line)?, found)?;
+            push_placed(alloc, text, number, after_e(alloc, line)?, found)
         }
         TextFaultKind::Ending => push_message(alloc, text, number, found),
     }
@@ -214,7 +216,7 @@ fn push_out(
     line: &[u8],
     found: &mut Vec<Correction>,
 ) -> Result<(), AllocError> {
-    if line.split(|b| *b == b' ').any(|word| word.starts_with(b"psk".as_slice())) {
+    if has_psk(line) {
         return Ok(());
     }
     push_one(alloc, Change::Out(number), found)
@@ -239,15 +241,17 @@ fn push_swapped(
     Ok(())
 }
 
-// "..." below the line; or its arrow turned around.
+// "..." below the line, where it may be one of keys that are known before; or its arrow turned around.
 fn push_turned(
     alloc: Global,
     number: usize,
     line: &[u8],
     found: &mut Vec<Correction>,
 ) -> Result<(), AllocError> {
-    let dots = copy(alloc, b"  ...".as_slice())?;
-    push_one(alloc, Change::Put(number.saturating_add(1), dots), found)?;
+    if number == 2 && is_keys(line) {
+        let dots = copy(alloc, b"  ...".as_slice())?;
+        push_one(alloc, Change::Put(3, dots), found)?;
+    }
     push_one(alloc, Change::Write(number, turned(alloc, line)?), found)
 }
 
@@ -282,25 +286,57 @@ fn push_placed(
     Ok(())
 }
 
-// The line with its psk at the end.
-fn psk_last(alloc: Global, line: &[u8]) -> Result<Vec<u8>, AllocError> {
+// The line with its psk at the end; one of two at the front.
+fn push_psks_moved(
+    alloc: Global,
+    text: &[u8],
+    number: usize,
+    line: &[u8],
+    found: &mut Vec<Correction>,
+) -> Result<(), AllocError> {
     let (arrow, list) = line.split_at(line.len().min(5));
+    let count = list.split(|b| *b == b',').filter(|word| name_of(*word) == b"psk".as_slice()).count();
     let mut made = copy(alloc, arrow)?;
+    match count {
+        1 => {}
+        2 => made.extend_from_slice(b"psk, ".as_slice())?,
+        _ => return Ok(()),
+    }
+    push_others(list, &mut made)?;
+    made.extend_from_slice(b"psk".as_slice())?;
+    push_placed(alloc, text, number, made, found)
+}
+
+// Appends the words of a list that aren't psk, each with a comma and a space.
+fn push_others(list: &[u8], made: &mut Vec<u8>) -> Result<(), AllocError> {
     for word in list.split(|b| *b == b',') {
-        let name = word.strip_prefix(b" ").unwrap_or(word);
+        let name = name_of(word);
         if name != b"psk".as_slice() {
             made.extend_from_slice(name)?;
             made.extend_from_slice(b", ".as_slice())?;
         }
     }
-    made.extend_from_slice(b"psk".as_slice())?;
-    Ok(made)
+    Ok(())
 }
 
-// The line with an e more.
+// A word of a list, without the space that stands before it.
+fn name_of(word: &[u8]) -> &[u8] {
+    word.strip_prefix(b" ").unwrap_or(word)
+}
+
+// The line with an e after its other words.
 fn with_e(alloc: Global, line: &[u8]) -> Result<Vec<u8>, AllocError> {
     let mut made = copy(alloc, line)?;
     made.extend_from_slice(b", e".as_slice())?;
+    Ok(made)
+}
+
+// The line with an e before its other words.
+fn after_e(alloc: Global, line: &[u8]) -> Result<Vec<u8>, AllocError> {
+    let (arrow, list) = line.split_at(line.len().min(5));
+    let mut made = copy(alloc, arrow)?;
+    made.extend_from_slice(b"e, ".as_slice())?;
+    made.extend_from_slice(list)?;
     Ok(made)
 }
 
@@ -320,11 +356,26 @@ fn push_message(
     Ok(())
 }
 
-// The line without the piece at this column.
-fn without_piece(alloc: Global, line: &[u8], column: usize) -> Result<Vec<u8>, AllocError> {
+// The line without the piece at this column, unless a psk stands in it.
+fn push_without_piece(
+    alloc: Global,
+    text: &[u8],
+    number: usize,
+    column: usize,
+    found: &mut Vec<Correction>,
+) -> Result<(), AllocError> {
+    let line = line_at(text, number);
     let (front, rest) = line.split_at(column.saturating_sub(1).min(line.len()));
     let len = rest.iter().take_while(|b| **b != b' ').count();
-    let (_, after) = rest.split_at(len.min(rest.len()));
+    let (piece, after) = rest.split_at(len.min(rest.len()));
+    if has_psk(piece) {
+        return Ok(());
+    }
+    push_placed(alloc, text, number, joined(alloc, front, after)?, found)
+}
+
+// What stands before a piece, and what follows it, without the space or the comma between.
+fn joined(alloc: Global, front: &[u8], after: &[u8]) -> Result<Vec<u8>, AllocError> {
     let mut left = copy(alloc, front)?;
     match after.split_first() {
         Some((_, next)) if !next.is_empty() => left.extend_from_slice(next)?,
@@ -348,10 +399,8 @@ fn once_each(alloc: Global, line: &[u8]) -> Result<Vec<u8>, AllocError> {
 
 fn push_once(word: &[u8], made: &mut Vec<u8>) -> Result<(), AllocError> {
     let (_, before) = made.split_at(made.len().min(5));
-    let name = word.strip_prefix(b" ").unwrap_or(word);
-    let has = before
-        .split(|b| *b == b',')
-        .any(|it| it.strip_prefix(b" ").unwrap_or(it) == name);
+    let name = name_of(word);
+    let has = before.split(|b| *b == b',').any(|it| name_of(it) == name);
     if has && name != b"psk".as_slice() {
         return Ok(());
     }

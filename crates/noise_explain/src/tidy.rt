@@ -172,3 +172,18 @@ fn has_modifier(text: &[u8], digit: u8) -> bool {
     }
     false
 }
+
+// Whether psk stands somewhere in a line, in small letters or not.
+pub(crate) fn has_psk(line: &[u8]) -> bool {
+    for at in 0..line.len() {
+        let (_, rest) = line.split_at(at.min(line.len()));
+        if let [p, s, k, ..] = rest
+            && p.to_ascii_lowercase() == b'p'
+            && s.to_ascii_lowercase() == b's'
+            && k.to_ascii_lowercase() == b'k'
+        {
+            return true;
+        }
+    }
+    false
+}

@@ -12,7 +12,7 @@ returns-then-is_behind c =
     let had : List ℕ = c.left_from-had.result.now in
     let has : List ℕ = c.left_from-left.result.now in
     let status : status_of c.args.later.fault ≤ status_of c.args.found.fault = omega (arith, c.if-status.false, c.status.ensures, c.status-2.ensures) in
-    let short : length has < length had = omega (arith, c.if-left-had.false) in
+    let short : length has < length had = c.is_shorter.ensures c.if-is_shorter.true in
     let moved : IsBehind c.args.later.position c.args.found.position ⊎ (had ≡ take (length had - length has) had ++ has) =
     elim c.then-is_behind.branch [
       | then-is_behind-via-then-is_behind w ↦ inl (c.is_behind.ensures w.if-is_behind.true)
