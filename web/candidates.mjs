@@ -216,8 +216,13 @@ const OF_KIND = {
   ],
 };
 
+/** Whether a first line is a later one of a vector file, of which nothing is tried. */
+const isOfVectors = (line) =>
+  /^(?:protocol|prologue|interval|initiator|responder) /.test(line) && !/[#\t]|[\r ]$/.test(line);
+
 export function ofText(text, { code, line: number }, column) {
   const line = lineAt(text, number);
+  if (code === 30 && isOfVectors(line)) return [];
   return [
     ...(text.endsWith('\n') ? [] : [[['feed']]]),
     ...(text.includes('\r') ? [[['returns']]] : []),

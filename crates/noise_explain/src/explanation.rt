@@ -36,7 +36,8 @@ pub struct Explained {
 }
 
 /// Explains a pattern text, from the file of this name: a valid pattern by its messages and what follows from its
-/// tokens; else the fault that `check` reports, with its line and its column, and what would mend it.
+/// tokens; else the fault that `check` reports, with its line and its column, and changes that correct it, if some of
+/// those that are tried do.
 pub fn explain(alloc: Global, name: &str, text: &[u8]) -> Result<Explained, AllocError>
     ensures explained { IfOk result (IsExplained name.now text.now) }
     ensures bound { IfOk result (λ e. e.status ≤ 2) }

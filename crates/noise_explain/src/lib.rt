@@ -1,10 +1,11 @@
 //! What a pattern text or a vector file says and what is wrong with it, in sentences: where the fault stands, and what
-//! would mend it. Also the vector file that a pattern needs, with a placeholder for each key, or what a file gives for
+//! corrects it. Also the vector file that a pattern needs, with a placeholder for each key, or what a file gives for
 //! it.
 #![tactic(auto)]
 
 mod advice;
 mod all_rules;
+mod block_changes;
 mod block_sentences;
 mod change;
 mod choice;

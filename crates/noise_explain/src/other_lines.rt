@@ -11,8 +11,8 @@ use std::alloc::{AllocError, Global};
 // How many lines are read after the first wrong one: a pattern has at most 12.
 const MOST: usize = 40;
 
-// What is wrong with each later line that can't be read alone. What was said of the first one isn't
-// said again, and nothing is where all lines are indented, or are those of a vector file.
+// What is wrong with each later line that can't be read alone. What was said of the first one isn't said again, and
+// nothing is where all lines are indented, or are those of a vector file.
 pub(crate) fn other_lines(
     alloc: Global,
     text: &[u8],
