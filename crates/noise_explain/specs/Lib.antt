@@ -4,6 +4,7 @@ pub mod FactLines
 pub mod Facts
 pub mod FaultPlaces
 pub mod FactWords
+pub mod Fixed
 pub mod FramePieces
 pub mod KeyLines
 pub mod MixedKeys

@@ -1,6 +1,5 @@
 -- The command line, as `clap` sees it, and the command that its matches state.
-use Rattle.std.specs.Prelude.{List, [], ◌∷◌, ◌++◌, Option, Some, None, Bool, true, false, String, Vec, map, codes, find, option_map, option_and_then, string_bytes, if◌then◌else◌}
-use Rattle.std.specs.Global.{Global}
+use Rattle.std.specs.Prelude.{List, [], ◌∷◌, ◌++◌, Option, Some, None, Bool, true, false, map, codes, find, option_map, option_and_then, string_bytes, if◌then◌else◌}
 use Rattle.std.specs.List.{list_any}
 use Rattle.std.specs.Str.{bytes_eq}
 use Rattle.noise_words.specs.declared.help.Subcommand.{Subcommand}
@@ -8,6 +7,7 @@ use Rattle.noise_words.specs.declared.orders.Chosen.{Chosen}
 use Rattle.noise_words.specs.declared.orders.Chosen.TheVariants as chosen
 use Rattle.noise_words.specs.declared.orders.Order.{Order}
 use Rattle.noise_words.specs.declared.orders.Compared.{Compared}
+use Rattle.noise_words.specs.declared.orders.Explained.{Explained}
 use Rattle.noise_words.specs.declared.orders.Filled.{Filled}
 use Rattle.noise_words.specs.declared.orders.Order.TheVariants.{Command, Compare, Explain, Fill, Test}
 use Rattle.noise_words.specs.declared.orders.Tested.{Tested}
@@ -44,6 +44,13 @@ traces_flag = codes "trace"
 abbrev pub test : Text × Wants
 test = (codes "test", Several (codes "FILE") (traces_flag ∷ []))
 
+-- the flag of `explain`
+abbrev pub fix_flag : Text
+fix_flag = codes "fix"
+
+abbrev pub explain : Text × Wants
+explain = (codes "explain", Several (codes "FILE") (fix_flag ∷ []))
+
 -- the options and the flag of `trace`
 abbrev pub part_choice : Choice
 part_choice = (codes "only", codes "handshake" ∷ codes "transport" ∷ [])
@@ -69,7 +76,7 @@ commands =
     (codes "list", Nothing)
     ∷ (codes "show", One (codes "NAME"))
     ∷ (codes "check", One (codes "FILE"))
-    ∷ (codes "explain", Several (codes "FILE") [])
+    ∷ explain
     ∷ template
     ∷ (codes "talk", One (codes "FILE"))
     ∷ (codes "replay", One (codes "FILE"))
@@ -154,8 +161,8 @@ words_of (chosen.Trace traced) = named_trace traced
 abbrev pub named_test : Tested → Named
 named_test tested = (codes "test", map string_bytes tested.files.items, flag_text tested.traces ∷ [])
 
-abbrev pub named_explain : Vec (String Global) Global → Named
-named_explain files = (codes "explain", map string_bytes files.items, [])
+abbrev pub named_explain : Explained → Named
+named_explain explained = (codes "explain", map string_bytes explained.files.items, flag_text explained.fixes ∷ [])
 
 abbrev pub named_compare : Compared → Named
 named_compare compared = (codes "compare", string_bytes compared.log ∷ string_bytes compared.file ∷ [], [])
@@ -166,7 +173,7 @@ named_fill filled = (codes "template", string_bytes filled.pattern ∷ string_by
 abbrev pub order_of : Order → Named
 order_of (Command c) = words_of c
 order_of (Test tested) = named_test tested
-order_of (Explain files) = named_explain files
+order_of (Explain explained) = named_explain explained
 order_of (Compare compared) = named_compare compared
 order_of (Fill filled) = named_fill filled
 

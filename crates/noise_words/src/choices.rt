@@ -1,13 +1,13 @@
-//! The options of `trace`, whose values are checked here, the flags of `trace` and `test`, and the files of `explain`,
-//! `compare` and `template`.
+//! The options of `trace`, whose values are checked here, the flags of `trace`, `test` and `explain`, and the
+//! files of `compare` and `template`.
 
 ghost use Rattle.std.specs.Prelude.{◌≡◌, IfOk, codes, option_map};
 ghost use Rattle.clap.specs.Words.{found_of, rows_of};
 ghost use Rattle.noise_words.specs.CommandLine.{choice_in, flag_in, flag_text, named_compare, named_explain, named_test, named_trace, order_of, part_choice, part_text, role_choice, role_text, stated_by};
 
 use crate::command_line::{value, values};
-use crate::help::{HEADING, ONLY, ROLE, TRACES};
-use crate::orders::{Chosen, Compared, Filled, Order, Tested, Traced, TracedPart, TracedRole};
+use crate::help::{FIXES, HEADING, ONLY, ROLE, TRACES};
+use crate::orders::{Chosen, Compared, Explained, Filled, Order, Tested, Traced, TracedPart, TracedRole};
 use clap::ArgMatches;
 use std::alloc::{AllocError, Global};
 
@@ -45,12 +45,13 @@ pub fn tested(alloc: Global, found: &ArgMatches<'_>) -> Result<Option<Tested>, A
 }
 
 /// What is explained, where the matches of `explain` have files.
-pub fn explained(alloc: Global, found: &ArgMatches<'_>) -> Result<Option<Vec<String>>, AllocError>
-    ensures { IfOk result (λ files. option_map named_explain files
+pub fn explained(alloc: Global, found: &ArgMatches<'_>) -> Result<Option<Explained>, AllocError>
+    ensures { IfOk result (λ e. option_map named_explain e
         ≡ stated_by (codes "explain") (rows_of (found_of found.now))) }
 {
+    let fixes = is_given(found, FIXES.name);
     match values(alloc, found, "FILE")? {
-        Some(files) => Ok(Some(files)),
+        Some(files) => Ok(Some(Explained { files, fixes })),
         None => Ok(None),
     }
 }

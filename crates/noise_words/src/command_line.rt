@@ -4,11 +4,11 @@ ghost use Rattle.std.specs.Prelude.{◌≡◌, ◌≢◌, ◌⊎◌, ◌∷◌, 
 ghost use Rattle.clap.specs.Simple.{new_rule, with_subcommand};
 ghost use Rattle.clap.specs.Words.{all_of, app_of, first_of, found_of, kind_of, rows_of, rule_of, shape_of, subcommand_rows_of};
 ghost use Rattle.clap.specs.declared.builder.command.Command.TheViews.{out-Command};
-ghost use Rattle.noise_words.specs.CommandLine.{Nothing, asked, compare, flag, noise, optional, order_of, rules_for, stated_by, stated_in, subcommand, template, test, trace, wanted, wanted_by, words_of};
+ghost use Rattle.noise_words.specs.CommandLine.{Nothing, asked, compare, explain, flag, noise, optional, order_of, rules_for, stated_by, stated_in, subcommand, template, test, trace, wanted, wanted_by, words_of};
 
 use crate::choices::{compared, explained, templated, tested, traced, wrong_choice};
 use crate::help::{
-    COMPARE, Flag, HEADING, OF_PATTERNS, OF_VECTORS, ONLY, ROLE, Subcommand, TEMPLATE, TEST, TRACE,
+    COMPARE, EXPLAIN, FIXES, Flag, HEADING, OF_PATTERNS, OF_VECTORS, ONLY, ROLE, Subcommand, TEMPLATE, TEST, TRACE,
     TRACES, ValueOption,
 };
 use crate::orders::{Chosen, LineFault, Order};
@@ -64,8 +64,25 @@ fn command<'a>(alloc: Global) -> Result<Command<'a>, AllocError>
     ensures { IfOk result (λ c. app_of c ≡ noise) }
 {
     let whole = adding(alloc, with_list(alloc)?, &OF_PATTERNS)?;
-    let whole = adding(alloc, with_template(alloc, whole)?, &OF_VECTORS)?;
+    let whole = with_template(alloc, with_explain(alloc, whole)?)?;
+    let whole = adding(alloc, whole, &OF_VECTORS)?;
     with_compare(alloc, with_trace(alloc, with_test(alloc, whole)?)?)
+}
+
+// With the subcommand of patterns that has a flag, too.
+fn with_explain<'a>(alloc: Global, whole: Command<'a>) -> Result<Command<'a>, AllocError>
+    ensures { IfOk result (λ c. app_of c ≡ with_subcommand (app_of whole.entry) (subcommand explain)) }
+{
+    whole.subcommand(with_fix(alloc)?)
+}
+
+// The subcommand of patterns that has a flag.
+fn with_fix<'a>(alloc: Global) -> Result<Command<'a>, AllocError>
+    ensures shape { IfOk result (λ c. shape_of c ≡ subcommand explain) }
+    ensures local { IfOk result (λ c. (out-Command c).has_globals ≡ false) }
+{
+    let whole = with_value(alloc, &EXPLAIN)?;
+    whole.arg(flag_of(alloc, &FIXES))
 }
 
 // With the subcommand that has a second value that may be left out, too.

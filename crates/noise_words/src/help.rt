@@ -29,7 +29,7 @@ Replace the digits of each placeholder wherever they stand, or give KEYS, a file
 Example: noise template XXpsk3";
 
 /// The subcommands that have a pattern.
-pub const OF_PATTERNS: [Subcommand<'static>; 3] = [
+pub const OF_PATTERNS: [Subcommand<'static>; 2] = [
     Subcommand {
         name: "show",
         value: "NAME",
@@ -46,15 +46,17 @@ pub const OF_PATTERNS: [Subcommand<'static>; 3] = [
         meaning: "A file with the text of a pattern, or a pattern name, as XX, where no such file can be read",
         example: "Example: noise check examples/patterns/ikpsk2.pattern",
     },
-    Subcommand {
-        name: "explain",
-        value: "FILE",
-        several: true,
-        about: "Say in sentences what is wrong with a pattern or a vector file, and what follows from it",
-        meaning: "Files with the text of a pattern, vector files, and pattern names, as XX",
-        example: "Example: noise explain examples/patterns/broken.pattern",
-    },
 ];
+
+/// The subcommand of patterns and vector files that has several values and a flag.
+pub const EXPLAIN: Subcommand<'static> = Subcommand {
+    name: "explain",
+    value: "FILE",
+    several: true,
+    about: "Say in sentences what is wrong with a pattern or a vector file, and what follows from it",
+    meaning: "Files with the text of a pattern, vector files, and pattern names, as XX",
+    example: "Example: noise explain examples/patterns/broken.pattern",
+};
 
 /// The subcommands that have the name of a vector file.
 pub const OF_VECTORS: [Subcommand<'static>; 3] = [
@@ -149,6 +151,12 @@ pub struct Flag<'a> {
 pub const TRACES: Flag<'static> = Flag {
     name: "trace",
     meaning: "Print the trace of each file that differs, up to the line that differs: what it prints are secrets",
+};
+
+/// Whether corrected texts are printed.
+pub const FIXES: Flag<'static> = Flag {
+    name: "fix",
+    meaning: "Print the text of a pattern with all changes that correct it, and nothing else; the status is 0 only if it is valid then",
 };
 
 /// Whether the first line of a trace names the words of the others.
