@@ -86,15 +86,15 @@ text-told text says found rows more one two items printed correct rows_is one_is
   told_is = items_is ∙ ap (λ (t : List ℕ). t ++ more) (two_is ∙ ap (λ (t : List ℕ). t ++ rows) one_is) ∙ append_assoc (sentence_line says) rows more;
 }
 
-pub rule-told : (text place says found rows more one two items : List ℕ) → AreCorrection text found → rows ≡ found
-    → one ≡ sentence_line place ++ sentence_line says → two ≡ one ++ rows → items ≡ two ++ more → IsRuleTold text items
-rule-told text place says found rows more one two items correct rows_is one_is two_is items_is = record {
-  place = place;
-  says = says;
-  rows = rows;
-  correct = subst (AreCorrection text) (sym rows_is) correct;
-  more = more;
-  told_is = items_is ∙ ap (λ (t : List ℕ). t ++ more) (two_is ∙ ap (λ (t : List ℕ). t ++ rows) one_is)
-      ∙ append_assoc (sentence_line place ++ sentence_line says) rows more
-      ∙ append_assoc (sentence_line place) (sentence_line says) (rows ++ more);
-}
+pub rule-told : (text found rows one two items : List ℕ) (p : Plan) (fault : RuleFault) (others : List RuleFault) → Spells text p → AreCorrection text found
+    → rows ≡ found → one ≡ rule_lines p fault → two ≡ one ++ rows → items ≡ two ++ flat_map (rule_lines p) others → IsRuleTold text fault items
+rule-told text found rows one two items p fault others spells correct rows_is one_is two_is items_is =
+    let more : List ℕ = flat_map (rule_lines p) others in
+    record {
+      p = p;
+      spells = spells;
+      rows = rows;
+      correct = subst (AreCorrection text) (sym rows_is) correct;
+      others = others;
+      told_is = items_is ∙ ap (λ (t : List ℕ). t ++ more) (two_is ∙ ap (λ (t : List ℕ). t ++ rows) one_is) ∙ append_assoc (rule_lines p fault) rows more;
+    }

@@ -1,6 +1,7 @@
 -- What an explanation of a text says.
-use Rattle.std.specs.Prelude.{◌≡◌, ◌⊎◌, ℕ, List, ◌++◌, IsTrue}
+use Rattle.std.specs.Prelude.{◌≡◌, ◌⊎◌, ℕ, List, ◌++◌, IsTrue, flat_map}
 use Rattle.std.specs.List.{list_all}
+use Rattle.noise_names.specs.declared.faults.RuleFault.{RuleFault}
 use Rattle.noise_names.specs.Plan.{Plan}
 use Rattle.noise_names.specs.Text.{Spells}
 use Rattle.noise_names.specs.Validity.{IsValid}
@@ -13,6 +14,7 @@ use Rattle.noise_explain.specs.Corrections.{AreCorrection}
 use Rattle.noise_explain.specs.Facts.{facts_text}
 use Rattle.noise_explain.specs.FaultPlaces.{IsAt}
 use Rattle.noise_explain.specs.Positions.{line_at}
+use Rattle.noise_explain.specs.RuleWords.{rule_lines}
 use Rattle.noise_explain.specs.Shown.{caret_text, right_head, sentence_line, unread_head, wrong_head}
 use Rattle.noise_explain.specs.declared.explanation.Explained.{Explained}
 use Rattle.noise_explain.specs.declared.position.Position.{Position}
@@ -32,7 +34,8 @@ pub record AreTwo (text : List ℕ) : Type 0 where
   pub text_is : text ≡ sentence_line says ++ sentence_line mends
 
 -- What is said of a fault of this text. Of one that reading finds: what is wrong; of a broken rule: the place, and what
--- is wrong there. Then come the changes that correct it, where some do, a line each. Other faults may follow.
+-- is wrong there. Then come the changes that correct it, where some do, a line each. Other faults may follow, of rules
+-- each in the same two lines.
 pub record IsTextTold (text told : List ℕ) : Type 0 where
   pub says : List ℕ
   pub says_is : IsTrue (list_all is_printed_byte says)
@@ -41,17 +44,17 @@ pub record IsTextTold (text told : List ℕ) : Type 0 where
   pub more : List ℕ
   pub told_is : told ≡ sentence_line says ++ (rows ++ more)
 
-pub record IsRuleTold (text told : List ℕ) : Type 0 where
-  pub place : List ℕ
-  pub says : List ℕ
+pub record IsRuleTold (text : List ℕ) (fault : RuleFault) (told : List ℕ) : Type 0 where
+  pub p : Plan
+  pub spells : Spells text p
   pub rows : List ℕ
   pub correct : AreCorrection text rows
-  pub more : List ℕ
-  pub told_is : told ≡ sentence_line place ++ (sentence_line says ++ (rows ++ more))
+  pub others : List RuleFault
+  pub told_is : told ≡ rule_lines p fault ++ (rows ++ flat_map (rule_lines p) others)
 
 abbrev pub IsTold : List ℕ → Fault → List ℕ → Type 0
 IsTold text (Text fault) told = IsTextTold text told
-IsTold text (Rule fault) told = IsRuleTold text told
+IsTold text (Rule fault) told = IsRuleTold text fault told
 IsTold text fault told = ⊥
 
 -- ---- the whole

@@ -10,6 +10,7 @@ pub mod MixedKeys
 pub mod Parties
 pub mod Positions
 pub mod RulePlaces
+pub mod RuleWords
 pub mod RunCounts
 pub mod Shown
 pub mod Slips

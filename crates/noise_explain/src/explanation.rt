@@ -1,13 +1,15 @@
 //! What is said of a text.
 
-ghost use Rattle.std.specs.Prelude.{◌≡◌, ◌≤◌, ◌++◌, ℕ, List, IfOk};
+ghost use Rattle.std.specs.Prelude.{◌≡◌, ◌≤◌, ◌++◌, List, IfOk, flat_map};
 ghost use Rattle.noise_lines.specs.Output.{IsCheckFault};
 ghost use Rattle.noise_lines.specs.declared.faults.Fault.TheVariants.{Rule, Text};
 ghost use Rattle.noise_names.specs.Text.{Spells};
 ghost use Rattle.noise_explain.specs.Corrections.{AreCorrection, IsFirst};
 ghost use Rattle.noise_explain.specs.Explained.{AreTwo, IsExplained, IsRuleTold, IsTextTold, SaysLong, SaysWrong};
 ghost use Rattle.noise_explain.specs.Facts.{facts_text};
-ghost use Rattle.noise_explain.specs.Shown.{right_head, sentence_line};
+ghost use Rattle.noise_explain.specs.RuleWords.{rule_lines};
+ghost use Rattle.noise_explain.specs.Shown.{right_head};
+ghost use Rattle.noise_names.specs.declared.faults.RuleFault.{RuleFault};
 
 use crate::advice::Advice;
 use crate::all_rules::other_rules;
@@ -19,7 +21,7 @@ use crate::other_lines::other_lines;
 use crate::position::{Position, line_at};
 use crate::rule_changes::rule_candidates;
 use crate::rule_place::rule_place;
-use crate::rule_sentences::rule_sentences;
+use crate::rule_sentences::{fault_words, place_words};
 use crate::text_advice::fault_advice;
 use crate::text_changes::text_candidates;
 use noise_lines::Fault;
@@ -182,7 +184,8 @@ fn all_rule_lines(
     position: Position,
 ) -> Result<Vec<u8>, AllocError>
     requires first { IsFirst text.now (Rule fault) position }
-    ensures told { IfOk result (λ told. IsRuleTold text.now told.items) }
+    requires spells { Spells text.now pattern.now }
+    ensures told { IfOk result (λ told. IsRuleTold text.now fault told.items) }
 {
     let mut said = rule_lines(alloc, pattern, fault)?;
     let found = Found {
@@ -216,9 +219,13 @@ fn other_rule_lines(
     alloc: Global,
     pattern: &Pattern,
     fault: RuleFault,
-) -> Result<Vec<u8>, AllocError> {
+) -> Result<Vec<u8>, AllocError>
+    ensures { IfOk result
+        (λ text. (others : List RuleFault) × (text.items ≡ flat_map (rule_lines pattern.now) others)) }
+{
+    let others = other_rules(alloc, pattern, fault)?;
     let mut text = Vec::new(alloc);
-    for other in &other_rules(alloc, pattern, fault)? {
+    for other in &others {
         text.extend_from_slice(&rule_lines(alloc, pattern, *other)?)?;
     }
     Ok(text)
@@ -240,11 +247,10 @@ pub fn rule_lines(
     pattern: &Pattern,
     fault: RuleFault,
 ) -> Result<Vec<u8>, AllocError>
-    ensures { IfOk result (λ text. (place says : List ℕ) × (text.items ≡ sentence_line place ++ sentence_line says)) }
+    ensures { IfOk result (λ text. text.items ≡ rule_lines pattern.now fault) }
 {
-    let sentences = rule_sentences(alloc, pattern, fault)?;
     let mut text = Vec::new(alloc);
-    push_sentence(sentences.place.as_str(), &mut text)?;
-    push_sentence(sentences.says.as_str(), &mut text)?;
+    push_sentence(place_words(alloc, pattern, fault)?.as_str(), &mut text)?;
+    push_sentence(fault_words(alloc, pattern, fault)?.as_str(), &mut text)?;
     Ok(text)
 }

@@ -3,6 +3,7 @@
 ghost use Rattle.std.specs.Prelude.{◌≡◌, ◌&&◌};
 ghost use Rattle.noise_names.specs.Tokens.{same_role};
 ghost use Rattle.noise_explain.specs.MixedKeys.{tokens_after};
+ghost use Rattle.noise_explain.specs.RuleWords.{is_known};
 ghost use Rattle.noise_explain.specs.Parties.{chooses, has_sent, has_token, is_fresh, is_mixed, is_unmixed, own_part, sender_after};
 
 use crate::mixed::{Keys, Mixed};
@@ -60,6 +61,23 @@ pub(crate) fn chooses(pattern: &Pattern, party: Role, key: Token, passed: usize)
     ensures { result ≡ chooses pattern.now party key passed }
 {
     !pattern.pre(party).contains(&key) && has_sent(pattern, party, key, passed)
+}
+
+// Whether a party's key is known before a place: after so many messages, and so many tokens of the next one.
+pub(crate) fn is_known(
+    pattern: &Pattern,
+    party: Role,
+    key: Token,
+    passed: usize,
+    count: usize,
+) -> bool
+    ensures { result ≡ is_known pattern.now party key passed count }
+{
+    let tokens = tokens_at(pattern.messages(), passed);
+    let (before, _) = tokens.split_at(count.min(tokens.len()));
+    pattern.pre(party).contains(&key)
+        || has_sent(pattern, party, key, passed)
+        || (is_same(sender_after(passed), party) && before.contains(&key))
 }
 
 // Whether a party has put in an ephemeral key.

@@ -18,13 +18,18 @@ pub(crate) fn rule_candidates(
     let broken = broken_at(pattern, fault);
     let mut found = Vec::new(alloc);
     match broken.token {
-        Some(dh) if broken.rule == 1 => push_for_key(alloc, pattern, broken, dh, &mut found)?,
+        Some(dh) if broken.rule == 1 => {
+            let missing = missing_key(pattern, fault, dh);
+            push_for_key(alloc, pattern, broken, missing, &mut found)?;
+        }
         Some(key) if broken.rule == 2 => {
             push_out(alloc, pattern, place_of(broken), &mut found)?;
             push_unnamed(alloc, pattern, broken.sender, key, &mut found)?;
         }
         Some(_) if broken.rule == 3 => push_out(alloc, pattern, place_of(broken), &mut found)?,
-        _ if broken.rule == 4 => push_for_dh(alloc, pattern, broken, &mut found)?,
+        _ if broken.rule == 4 => {
+            push_for_dh(alloc, pattern, broken, unfresh(pattern, fault).1, &mut found)?;
+        }
         _ => push_puts(alloc, pattern, broken.spot.message, &[Token::E], &mut found)?,
     }
     Ok(found)
@@ -57,10 +62,9 @@ fn push_for_key(
     alloc: Global,
     pattern: &Pattern,
     broken: Broken,
-    dh: Token,
+    (owner, key): (Role, Token),
     found: &mut Vec<Correction>,
 ) -> Result<(), AllocError> {
-    let (owner, key) = missing_key(pattern, broken, dh);
     let place = place_of(broken);
     match key_spot(pattern, owner, key) {
         Some(spot) => {
@@ -83,9 +87,9 @@ fn push_for_dh(
     alloc: Global,
     pattern: &Pattern,
     broken: Broken,
+    missing: Token,
     found: &mut Vec<Correction>,
 ) -> Result<(), AllocError> {
-    let (_, missing) = unfresh(pattern, broken);
     let (first, second) = keys_of(missing);
     let last = broken.spot.message;
     push_puts(alloc, pattern, last, &[missing], found)?;

@@ -1,16 +1,15 @@
 //! The sentences on broken rules.
 
-use crate::known::{Spot, is_by, key_spot, keys_of, mixed_spot, sender_of, token_at};
+ghost use Rattle.std.specs.Prelude.{◌≡◌, ◌-◌, IfOk, string_bytes};
+ghost use Rattle.noise_explain.specs.MixedKeys.{mixed_before};
+ghost use Rattle.noise_explain.specs.RuleWords.{dh_again, dh_missing, fresh_missing, fresh_words, key_again, key_missing, missing_key, place_words, rule_sender, rule_token, token_words, unfresh};
+
+use crate::known::{Spot, keys_of, sender_of, token_at};
+use crate::mixed::mixed_by;
+use crate::parties::is_known;
 use noise_lines::{role_word, token_word};
 use noise_names::{Pattern, Role, RuleFault, Token};
 use std::alloc::{AllocError, Global};
-
-// Which rule is broken where, and what is wrong there.
-#[derive(Drop)]
-pub(crate) struct Sentences {
-    pub place: String,
-    pub says: String,
-}
 
 // What breaks a rule, who does it, and where.
 #[derive(Clone, Copy)]
@@ -21,66 +20,103 @@ pub(crate) struct Broken {
     pub spot: Spot,
 }
 
-pub(crate) fn rule_sentences(
-    alloc: Global,
-    pattern: &Pattern,
-    fault: RuleFault,
-) -> Result<Sentences, AllocError> {
-    let broken = broken_at(pattern, fault);
-    let place = place_words(alloc, broken, pattern.messages().len())?;
-    let says = match broken.token {
-        Some(token) if broken.rule == 1 => key_missing(alloc, pattern, broken, token)?,
-        Some(token) if broken.rule == 2 => key_again(alloc, pattern, broken, token)?,
-        Some(token) if broken.rule == 3 => dh_again(alloc, token)?,
-        _ if broken.rule == 4 => dh_missing(alloc, pattern, broken)?,
-        _ => fresh_missing(alloc, broken.sender)?,
-    };
-    Ok(Sentences { place, says })
-}
-
-pub(crate) fn broken_at(pattern: &Pattern, fault: RuleFault) -> Broken {
-    let spot = Spot {
-        message: usize::from(fault.message),
-        token: usize::from(fault.token),
-    };
-    let sender = if spot.message <= pattern.messages().len() {
-        sender_of(spot.message)
+// Which party breaks a rule.
+pub(crate) fn sender_at(pattern: &Pattern, fault: RuleFault) -> Role
+    ensures { result ≡ rule_sender pattern.now fault }
+{
+    if usize::from(fault.message) <= pattern.messages().len() {
+        sender_of(usize::from(fault.message))
     } else if fault.token == 0 {
         Role::Initiator
     } else {
         Role::Responder
-    };
-    Broken {
-        rule: fault.rule,
-        sender,
-        token: token_at(pattern.messages(), spot),
-        spot,
     }
 }
 
-fn place_words(alloc: Global, broken: Broken, count: usize) -> Result<String, AllocError> {
-    let rule = broken.rule;
-    let message = broken.spot.message;
-    let sender = role_word(broken.sender);
-    if let Some(token) = broken.token {
+// The token that breaks a rule, if one stands at the place.
+pub(crate) fn token_of(pattern: &Pattern, fault: RuleFault) -> Option<Token>
+    ensures { result ≡ rule_token pattern.now fault }
+{
+    token_at(pattern.messages(), spot_of(fault))
+}
+
+fn spot_of(fault: RuleFault) -> Spot
+    ensures message { result.message ≡ fault.message }
+    ensures token { result.token ≡ fault.token }
+{
+    Spot {
+        message: usize::from(fault.message),
+        token: usize::from(fault.token),
+    }
+}
+
+pub(crate) fn broken_at(pattern: &Pattern, fault: RuleFault) -> Broken {
+    Broken {
+        rule: fault.rule,
+        sender: sender_at(pattern, fault),
+        token: token_of(pattern, fault),
+        spot: spot_of(fault),
+    }
+}
+
+// Which rule is broken where.
+pub(crate) fn place_words(
+    alloc: Global,
+    pattern: &Pattern,
+    fault: RuleFault,
+) -> Result<String, AllocError>
+    ensures { IfOk result (λ text. string_bytes text ≡ place_words pattern.now fault (rule_token pattern.now fault)) }
+{
+    let rule = fault.rule;
+    let message = fault.message;
+    if let Some(token) = token_of(pattern, fault) {
         let word = token_word(token);
         return format!(in alloc; "Rule {rule} is broken at message {message}, token {word}.");
     }
-    if message <= count {
-        format!(in alloc; "Rule {rule} is broken at the payload of message {message}.")
+    if usize::from(message) <= pattern.messages().len() {
+        return format!(in alloc; "Rule {rule} is broken at the payload of message {message}.");
+    }
+    let sender = role_word(sender_at(pattern, fault));
+    format!(in alloc; "Rule {rule} is broken at the first transport message of the {sender}.")
+}
+
+// What is wrong there.
+pub(crate) fn fault_words(
+    alloc: Global,
+    pattern: &Pattern,
+    fault: RuleFault,
+) -> Result<String, AllocError>
+    ensures { IfOk result (λ text. string_bytes text ≡ token_words pattern.now fault (rule_token pattern.now fault)) }
+{
+    match token_of(pattern, fault) {
+        Some(token) if fault.rule == 1 => {
+            key_missing(alloc, token, missing_key(pattern, fault, token))
+        }
+        Some(token) if fault.rule == 2 => {
+            key_again(alloc, pattern, sender_at(pattern, fault), token)
+        }
+        Some(token) if fault.rule == 3 => dh_again(alloc, token),
+        _ => fresh_words(alloc, pattern, fault),
+    }
+}
+
+// The same of rules 4 and 5, which need no token.
+fn fresh_words(alloc: Global, pattern: &Pattern, fault: RuleFault) -> Result<String, AllocError>
+    ensures { IfOk result (λ text. string_bytes text ≡ fresh_words pattern.now fault) }
+{
+    let sender = sender_at(pattern, fault);
+    if fault.rule == 4 {
+        dh_missing(alloc, sender, unfresh(pattern, fault))
     } else {
-        format!(in alloc; "Rule {rule} is broken at the first transport message of the {sender}.")
+        fresh_missing(alloc, sender)
     }
 }
 
 // Rule 1: a public key of a DH is missing.
-fn key_missing(
-    alloc: Global,
-    pattern: &Pattern,
-    broken: Broken,
-    dh: Token,
-) -> Result<String, AllocError> {
-    let (role, missing) = missing_key(pattern, broken, dh);
+fn key_missing(alloc: Global, dh: Token, missing: (Role, Token)) -> Result<String, AllocError>
+    ensures { IfOk result (λ text. string_bytes text ≡ key_missing dh missing) }
+{
+    let (role, missing) = missing;
     let token = token_word(dh);
     let key = token_word(missing);
     let owner = role_word(role);
@@ -90,9 +126,12 @@ fn key_missing(
 }
 
 // Whose key a DH lacks, and which one.
-pub(crate) fn missing_key(pattern: &Pattern, broken: Broken, dh: Token) -> (Role, Token) {
+pub(crate) fn missing_key(pattern: &Pattern, fault: RuleFault, dh: Token) -> (Role, Token)
+    ensures { result ≡ missing_key pattern.now fault dh }
+{
     let (first, second) = keys_of(dh);
-    if is_by(key_spot(pattern, Role::Initiator, first), broken.spot) {
+    let passed = usize::from(fault.message).saturating_sub(1);
+    if is_known(pattern, Role::Initiator, first, passed, usize::from(fault.token)) {
         (Role::Responder, second)
     } else {
         (Role::Initiator, first)
@@ -103,12 +142,14 @@ pub(crate) fn missing_key(pattern: &Pattern, broken: Broken, dh: Token) -> (Role
 fn key_again(
     alloc: Global,
     pattern: &Pattern,
-    broken: Broken,
+    role: Role,
     key: Token,
-) -> Result<String, AllocError> {
-    let sender = role_word(broken.sender);
+) -> Result<String, AllocError>
+    ensures { IfOk result (λ text. string_bytes text ≡ key_again pattern.now role key) }
+{
+    let sender = role_word(role);
     let token = token_word(key);
-    if pattern.pre(broken.sender).contains(&key) {
+    if pattern.pre(role).contains(&key) {
         format!(in alloc; "The {sender}'s {token} is named above \"...\" already.")
     } else {
         format!(in alloc; "The {sender} has sent {token} already.")
@@ -116,15 +157,19 @@ fn key_again(
 }
 
 // Rule 3: a DH comes a second time.
-fn dh_again(alloc: Global, dh: Token) -> Result<String, AllocError> {
+fn dh_again(alloc: Global, dh: Token) -> Result<String, AllocError>
+    ensures { IfOk result (λ text. string_bytes text ≡ dh_again dh) }
+{
     let token = token_word(dh);
     format!(in alloc; "{token} is mixed in already, and adds nothing the second time.")
 }
 
 // Rule 4: a DH of the sender's ephemeral key is missing.
-fn dh_missing(alloc: Global, pattern: &Pattern, broken: Broken) -> Result<String, AllocError> {
-    let (mixed, wanted) = unfresh(pattern, broken);
-    let sender = role_word(broken.sender);
+fn dh_missing(alloc: Global, role: Role, dhs: (Token, Token)) -> Result<String, AllocError>
+    ensures { IfOk result (λ text. string_bytes text ≡ dh_missing role dhs) }
+{
+    let (mixed, wanted) = dhs;
+    let sender = role_word(role);
     let after = token_word(mixed);
     let missing = token_word(wanted);
     format!(in alloc;
@@ -134,24 +179,34 @@ fn dh_missing(alloc: Global, pattern: &Pattern, broken: Broken) -> Result<String
 }
 
 // A DH of the sender's static key that is mixed, and the one of its ephemeral key that isn't.
-pub(crate) fn unfresh(pattern: &Pattern, broken: Broken) -> (Token, Token) {
-    let (mixed, wanted) = match broken.sender {
-        Role::Initiator => (Token::Se, Token::Ee),
-        Role::Responder => (Token::Es, Token::Ee),
-    };
-    let is_broken = is_by(mixed_spot(pattern, mixed), broken.spot)
-        && !is_by(mixed_spot(pattern, wanted), broken.spot);
-    if is_broken {
-        return (mixed, wanted);
-    }
-    match broken.sender {
-        Role::Initiator => (Token::Ss, Token::Es),
-        Role::Responder => (Token::Ss, Token::Se),
+pub(crate) fn unfresh(pattern: &Pattern, fault: RuleFault) -> (Token, Token)
+    ensures { result ≡ unfresh (rule_sender pattern.now fault)
+        (mixed_before pattern.now (fault.message - 1) fault.token) }
+{
+    let passed = usize::from(fault.message).saturating_sub(1);
+    let mixed = mixed_by(pattern, passed, usize::from(fault.token));
+    match sender_at(pattern, fault) {
+        Role::Initiator => {
+            if mixed.se && !mixed.ee {
+                (Token::Se, Token::Ee)
+            } else {
+                (Token::Ss, Token::Es)
+            }
+        }
+        Role::Responder => {
+            if mixed.es && !mixed.ee {
+                (Token::Es, Token::Ee)
+            } else {
+                (Token::Ss, Token::Se)
+            }
+        }
     }
 }
 
 // Rule 5: a psk comes without an ephemeral key.
-fn fresh_missing(alloc: Global, role: Role) -> Result<String, AllocError> {
+fn fresh_missing(alloc: Global, role: Role) -> Result<String, AllocError>
+    ensures { IfOk result (λ text. string_bytes text ≡ fresh_missing role) }
+{
     let sender = role_word(role);
     format!(in alloc;
         "The {sender} encrypts here after psk, and has sent no e: the same key and nonce could come again."
