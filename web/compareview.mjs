@@ -84,7 +84,7 @@ const naming = () => element('p', '', 'This page names no mistake; the command n
 
 function outcome(found, log) {
   if (found.fault) return [element('p', 'bad', `The log can’t be compared: ${found.fault}.`)];
-  const { finding, text: [first], values = [], skipped } = found;
+  const { finding, text: [first], values = [], skipped, cut } = found;
   const table = values.length ? [element('table', 'values', element('tbody', '', ...valueRows(values)))] : [];
   return [
     element('p', finding === 'agrees' ? 'title good' : 'title bad', first),
@@ -92,6 +92,7 @@ function outcome(found, log) {
     element('p', '', MORE[finding](found)),
     ...(finding === 'differs' ? [...callOf(found), naming(), lineButton(log, found.number)] : []),
     ...(skipped ? [element('p', 'hint', `Lines that aren’t of a key schedule, passed over: ${skipped}.`)] : []),
+    ...(cut ? [element('p', 'hint', `${cut.replace('the', 'The').replace("isn't", 'isn’t')}.`)] : []),
   ];
 }
 

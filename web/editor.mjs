@@ -86,14 +86,13 @@ function titleOf({ title, rule, section, where }) {
   return ['Rule ', to(`rules.html#rule-${rule}`, String(rule)), ' (', to(section.url, section.number), `)${where}. `];
 }
 
-/** What is said of a refused text: its first fault with what mends it, and a line for each other one. */
+/** What is said of a refused text: its first fault, and a line for each other one. */
 function faultParts([first, ...others]) {
   const more = others.map((it) => element('li', '', ...titleOf(it), it.says));
   const list = more.length ? [element('ul', 'more', ...more)] : [];
   return [
     paragraph('title', ...titleOf(first)),
     paragraph('', `${first.says} `),
-    paragraph('mend', `${first.mend} `),
     ...list,
   ];
 }

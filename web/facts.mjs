@@ -87,7 +87,8 @@ function ownPart({ before, messages }, role, until, dhs) {
     !before[role].includes(own)
     && messages.slice(0, until).some(({ from, tokens }) => from === role && tokens.includes(own)),
   );
-  return [['e'], ['e', 's']].find((own) =>
+  const parts = sent.includes('e') ? [['e'], ['e', 's']] : [['s']];
+  return parts.find((own) =>
     own.every((key) => sent.includes(key)) && areEnough(dhs, own.map((key) => `${role} ${key}`)),
   );
 }

@@ -1,81 +1,45 @@
-// What a refusal means, in a sentence, and how to correct it. The proved check says that a text is refused, and which
-// rule is broken where. It also gives the line and the kind of a malformed text, but no contract covers these two. The
-// place in that line is this page's own reading.
+// What a refusal means, in a sentence. The proved check says that a text is refused, and which rule is broken where. It
+// also gives the line and the kind of a malformed text, but no contract covers these two. The place in that line is
+// this page's own reading.
 import { visible } from './bytes.mjs';
 import { lookalikeIn } from './lookalikes.mjs';
 import { linesOf } from './plan.mjs';
 
-/** For each rule a sentence, and how to mend it. Words in braces are filled in by `brokenRule`. */
+/** For each rule what is wrong. Words in braces are filled in by `brokenRule`. What corrects it mends.mjs offers. */
 export const RULES = Object.freeze({
-  1: [
-    '{token} needs the {owner}’s {key}, which is neither sent before this place nor named above “...”.',
-    'Let the {owner} send {key} earlier, or name it above “...”.',
-  ],
-  later: [
-    '{token} needs the {owner}’s {key}, which is neither sent before this place nor named above “...”.',
-    'Let the {owner} send {key} earlier, or mix {token} after it.',
-  ],
-  2: ['The {sender} has sent {token} already.', 'Leave the second one out.'],
-  above: ['The {sender}’s {token} is named above “...” already.', 'Keep the one that is meant.'],
-  3: ['{token} is mixed in already, and adds nothing the second time.', 'Leave the second one out.'],
-  4: [
-    'The {sender} encrypts here, {after} is mixed in, and {missing} isn’t: '
-      + 'what it encrypts could depend on no fresh key of its own.',
-    '{mend}',
-  ],
-  5: [
-    'The {sender} encrypts here after psk, and has sent no e: the same key and nonce could come again.',
-    'Let the {sender} send e before it.',
-  ],
+  1: '{token} needs the {owner}’s {key}, which is neither sent before this place nor named above “...”.',
+  2: 'The {sender} has sent {token} already.',
+  above: 'The {sender}’s {token} is named above “...” already.',
+  3: '{token} is mixed in already, and adds nothing the second time.',
+  4: 'The {sender} encrypts here, {after} is mixed in, and {missing} isn’t: '
+    + 'what it encrypts could depend on no fresh key of its own.',
+  5: 'The {sender} encrypts here after psk, and has sent no e: the same key and nonce could come again.',
 });
-/** How to mend rule 4. */
-const MIXES = Object.freeze({
-  lacks: ['Let the {lacks} send {key}, and mix {dh} after it.'],
-  first: ['Mix {dh} in message {message}.'],
-  after: ['Mix {dh} in message {message}, after {after}.'],
-});
-/**
- * The same for each kind of malformed line, by its code in include/noise.h: a sentence, and how to mend it. All these
- * are also those of `noise explain`.
- */
+/** The same of each kind of malformed line, by its code in include/noise.h. All these are also `noise explain`'s. */
 export const FORMS = Object.freeze({
-  30: [
-    'The first line has to be a name of 1 to 8 upper-case letters and digits, '
-      + 'then psk modifiers such as psk0 or psk0+psk2, then a colon.',
-    'For example: MINE:',
-  ],
-  31: [
-    'The line has to begin with two spaces, an arrow (-> or <-) and one space.',
-    'For example: two spaces, then “-> e”.',
-  ],
-  32: ['This isn’t a token.', 'The tokens are e, s, ee, es, se, ss and psk, with a comma and a space between two.'],
-  33: ['Above “...” a line has e, s or “e, s”, the initiator’s first, and “...” comes once, after them.',
-    'Write one line for each party, the initiator’s first, and messages below “...”.'],
-  34: ['It is the other party’s turn.', 'Turn the arrow around: the initiator (->) begins, and then they alternate.'],
-  35: ['psk0 in the heading is a psk before message 1, pskN one at the end of message N; none is elsewhere.',
-    'Name the place of each psk in the heading, and put a psk at each place named there.'],
-  36: ['This name belongs to a fundamental pattern, and the text is another one.', 'Give it a name of its own.'],
-  37: ['A message has from 1 to 8 tokens besides psk, and this one has more.', 'Leave out those that come twice.'],
-  38: ['There is no message.', 'Add a line such as “  -> e”.'],
+  30: 'The first line has to be a name of 1 to 8 upper-case letters and digits, '
+    + 'then psk modifiers such as psk0 or psk0+psk2, then a colon.',
+  31: 'The line has to begin with two spaces, an arrow (-> or <-) and one space.',
+  32: 'This isn’t a token.',
+  33: 'Above “...” a line has e, s or “e, s”, the initiator’s first, and “...” comes once, after them.',
+  34: 'It is the other party’s turn.',
+  35: 'psk0 in the heading is a psk before message 1, pskN one at the end of message N; none is elsewhere.',
+  36: 'This name belongs to a fundamental pattern, and the text is another one.',
+  37: 'A message has from 1 to 8 tokens besides psk, and this one has more.',
+  38: 'There is no message.',
 });
 /** What stands in the place of an entry of FORMS where the line shows more. */
 const CLOSER = Object.freeze({
-  empty: ['The line is empty.', 'Leave it out.'],
-  dots: [
-    'A key that is known before the first message stands above a line of two spaces and “...”, '
-      + 'and that line is missing.',
-    'Put “...” below the lines of such keys.',
-  ],
-  space: ['A space is at the end of the line.', 'Take it out.'],
-  arrow: ['The arrow is written as two characters: -> or <-.', 'Write it so.'],
-  comment: ['The library takes no comments.', 'Take them out.'],
-  none: ['A token has to stand here, and none does.', 'Write one, for example e, or take the comma before it out.'],
-  beyond: [
-    'The heading has an index of a psk that is greater than the number of messages.',
-    'Write the index that is meant, or add messages.',
-  ],
-  ninth: ['A pattern has at most 8 messages, and this is one more.', 'Put its tokens into earlier messages.'],
-  alone: ['A message has from 1 to 8 tokens besides psk, and this one has none.', 'Add one, for example e.'],
+  empty: 'The line is empty.',
+  dots: 'A key that is known before the first message stands above a line of two spaces and “...”, '
+    + 'and that line is missing.',
+  space: 'A space is at the end of the line.',
+  arrow: 'The arrow is written as two characters: -> or <-.',
+  comment: 'The library takes no comments.',
+  none: 'A token has to stand here, and none does.',
+  beyond: 'The heading has an index of a psk that is greater than the number of messages.',
+  ninth: 'A pattern has at most 8 messages, and this is one more.',
+  alone: 'A message has from 1 to 8 tokens besides psk, and this one has none.',
 });
 /** How many messages a pattern has at most. */
 export const MOST = 8;
@@ -89,7 +53,7 @@ export const firstOf = (lines) => lines.findIndex(({ line }) => line === '  ...'
  * Whether line 2 has keys of the responder that are known before, whose “...” was forgotten: that line, or undefined. A
  * line that could be a message stays one.
  */
-export function forgottenDots(lines, n) {
+function forgottenDots(lines, n) {
   if (n !== 1 || lines.some(({ line }) => line === '  ...')) return undefined;
   const { role, tokens } = lines[1];
   return role === 'responder' && tokens !== undefined && ['s', 'e,s'].includes(tokens.map(({ name }) => name).join())
@@ -137,41 +101,11 @@ function placeOf(lines, { message, token }) {
     : `the payload of message ${message}`;
 }
 
-/**
- * Where a party's key is first known: the line and the place of its token, that of what is known before the first
- * message, or undefined.
- */
-export function keyPlace(lines, owner, key) {
-  const n = lines.findIndex(({ role, tokens }, at) =>
-    at > 0 && role === owner && tokens?.some(({ name }) => name === key),
-  );
-  if (n < 0) return undefined;
-  return n < firstOf(lines)
-    ? { n: firstOf(lines), at: -1 }
-    : { n, at: lines[n].tokens.findIndex(({ name }) => name === key) };
-}
-
-/**
- * The place after which a DH can be mixed: that of the later one of its two keys. Or `lacks`, the party whose key of
- * the two is nowhere.
- */
-export function mixPlace(lines, dh) {
-  const places = ['initiator', 'responder'].map((owner, i) =>
-    keyPlace(lines, owner, dh[i]) ?? { lacks: owner, key: dh[i] },
-  );
-  return places.find(({ lacks }) => lacks) ?? places.sort((a, b) => a.n - b.n || a.at - b.at)[1];
-}
+/** Whether a key of a party is known before the first message. */
+const isAbove = (lines, owner, key) =>
+  lines.slice(1, firstOf(lines)).some(({ role, tokens }) => role === owner && tokens?.some(({ name }) => name === key));
 
 const filled = (text, values) => text.replace(/\{(\w+)\}/g, (_, name) => values[name]);
-
-function mixWords(lines, dh) {
-  const { n, at, lacks, key } = mixPlace(lines, dh);
-  if (lacks) return filled(MIXES.lacks[0], { lacks, key, dh });
-  const message = n - firstOf(lines) + 1;
-  return at < 0
-    ? filled(MIXES.first[0], { dh, message })
-    : filled(MIXES.after[0], { dh, message, after: lines[n].tokens[at].name });
-}
 
 /** What a broken rule is about, by name: the words that are filled in. */
 export function brokenRule(lines, { rule, message, token }) {
@@ -187,16 +121,16 @@ export function brokenRule(lines, { rule, message, token }) {
     const has = (role, key) => earlier.some((it) => it.role === role && it.names.includes(key));
     const owner = has('initiator', name[0]) ? 'responder' : 'initiator';
     const key = owner === 'initiator' ? name[0] : name[1];
-    return { token: name, sender, owner, key, isLater: keyPlace(lines, owner, key) !== undefined };
+    return { token: name, sender, owner, key };
   }
-  if (rule === 2) return { token: name, sender, isAbove: keyPlace(lines, sender, name).at < 0 };
+  if (rule === 2) return { token: name, sender, isAbove: isAbove(lines, sender, name) };
   if (rule !== 4) return { token: name, sender };
   const names = lines.slice(firstOf(lines), firstOf(lines) + message).flatMap(({ tokens }, n) =>
     tokens.slice(0, n === message - 1 ? token : undefined).map((it) => it.name),
   );
   const needs = sender === 'initiator' ? [['se', 'ee'], ['ss', 'es']] : [['es', 'ee'], ['ss', 'se']];
   const [after, missing] = needs.find(([dh, first]) => names.includes(dh) && !names.includes(first)) ?? needs[0];
-  return { token: name, sender, after, missing, mend: mixWords(lines, missing) };
+  return { token: name, sender, after, missing };
 }
 
 /** What a line of too many tokens, or of none, or a line too many says. */
@@ -232,16 +166,14 @@ function whatIs(line, [from, to]) {
 }
 
 /**
- * What a fault says: a title, a sentence, how to correct it, and its place in the text as two offsets. Of a broken rule
- * the title comes in two parts, with the rule's number between them, and `section` is that of the standard.
+ * What a fault says: a title, a sentence, and its place in the text as two offsets. Of a broken rule the title comes in
+ * two parts, with the rule's number between them, and `section` is that of the standard.
  */
 export function explain(text, fault) {
   const lines = linesOf(text);
   if (fault.rule) {
     const values = brokenRule(lines, fault);
-    const [says, mend] = RULES[(values.isAbove && 'above') || (values.isLater && 'later') || fault.rule].map((it) =>
-      filled(it, values),
-    );
+    const says = filled(RULES[values.isAbove ? 'above' : fault.rule], values);
     const [number, where] = [sectionOf(fault.rule), ` is broken at ${placeOf(lines, fault)}`];
     return {
       title: `Rule ${fault.rule}${where}`,
@@ -249,20 +181,20 @@ export function explain(text, fault) {
       rule: fault.rule,
       section: { number, url: SECTIONS[number] },
       says,
-      mend,
       span: spanOfRule(lines, fault),
     };
   }
   const n = Math.min(fault.line, lines.length) - 1;
-  const [says, mend] = closerOf(lines, n, fault.code);
+  const says = closerOf(lines, n, fault.code);
   const at = spanInLine(lines, n, fault.code);
   const [start] = span(lines, n);
   const what = fault.code === 32 ? whatIs(lines[n].line, at.map((it) => it - start)) : '';
   const alike = [30, 31, 32].includes(fault.code) ? lookalikeIn(text.slice(...at)) : undefined;
   const title = `Line ${fault.line}${what}`;
-  if (!alike) return { title, says, mend, span: at };
-  const more = `“${alike.letter}” looks like ${alike.meant}, and is another sign (${alike.code}).`;
-  return { title, says: more, mend: `Write ${alike.meant}.`, span: at };
+  if (!alike) return { title, says, span: at };
+  return {
+    title, says: `“${alike.letter}” looks like ${alike.meant}, and is another sign (${alike.code}).`, span: at,
+  };
 }
 
 /** Why a message, a datagram or a set-up was refused. */

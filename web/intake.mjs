@@ -1,7 +1,7 @@
 // What is opened, dropped or pasted: a pattern text with or without comments, a vector file, a protocol name, or a link
 // of this page. There is no DOM here.
 import { unhex, visible } from './bytes.mjs';
-import { textOfName } from './patterns.mjs';
+import { SUITE, textOfName } from './patterns.mjs';
 import { SAYS, hasSecret } from './secret.mjs';
 
 /** How many bytes a file may have that is opened. */
@@ -34,9 +34,9 @@ function ofName(word) {
   const parts = /^Noise_([A-Z][A-Z0-9]*(?:psk[0-8](?:\+psk[0-8])*)?)_([A-Za-z0-9/_]+)$/.exec(word);
   const text = parts && textOfName(parts[1]);
   if (!text) return undefined;
-  if (parts[2] === '25519_ChaChaPoly_SHA256') return { setup: { text }, says: 'The pattern of this name is taken.' };
+  if (parts[2] === SUITE) return { setup: { text }, says: 'The pattern of this name is taken.' };
   const says = `The suite ${visible(parts[2])} isn’t here: the pattern of this name is taken, `
-    + 'with 25519_ChaChaPoly_SHA256, which this library has alone.';
+    + `with ${SUITE}, which this library has alone.`;
   return { setup: { text }, says };
 }
 

@@ -43,11 +43,14 @@ export function textOf(base, places = []) {
   return lines.map((line) => `${line}\n`).join('');
 }
 
-export const protocolName = (section) => `Noise_${section}_25519_ChaChaPoly_SHA256`;
+/** The library's algorithms, as protocol names end. */
+export const SUITE = '25519_ChaChaPoly_SHA256';
+export const protocolName = (section) => `Noise_${section}_${SUITE}`;
+const NAME = new RegExp(`^(?:Noise_)?([A-Z][A-Z0-9]{0,7})((?:psk[0-8]\\+?)*)(?:_${SUITE})?$`);
 
 /** The text of a protocol name of a pattern of the standard, or undefined. */
 export function textOfName(name) {
-  const parts = /^(?:Noise_)?([A-Z][A-Z0-9]{0,7})((?:psk[0-8]\+?)*)(?:_25519_ChaChaPoly_SHA256)?$/.exec(name);
+  const parts = NAME.exec(name);
   if (!parts || !Object.hasOwn(TABLE, parts[1])) return undefined;
   const places = (parts[2].match(/\d/g) ?? []).map(Number);
   return places.every((place) => place < TABLE[parts[1]].split('|').length) ? textOf(parts[1], places) : undefined;

@@ -5,6 +5,7 @@
 import { encode, hex, hexOrDash, joined } from './bytes.mjs';
 import { rekeyed } from './chacha.mjs';
 import { OTHER, ROLES } from './party.mjs';
+import { protocolName } from './patterns.mjs';
 
 /** The number of the first message in these lines. */
 const FIRST = 1;
@@ -81,7 +82,7 @@ class Schedule {
       keys: undefined,
       nonces: { initiator: 0, responder: 0 },
     });
-    made.state = await Symmetric.named(`Noise_${section}_25519_ChaChaPoly_SHA256`);
+    made.state = await Symmetric.named(protocolName(section));
     made.#start('name', 'InitializeSymmetric');
     await made.state.mixHash(run.setup.prologue);
     made.#start('prologue', 'MixHash');

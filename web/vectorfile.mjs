@@ -2,6 +2,7 @@
 // those of the transport, and an end is the message of an empty payload.
 import { hex, hexOrDash } from './bytes.mjs';
 import { ROLES } from './party.mjs';
+import { protocolName } from './patterns.mjs';
 
 function stateLine(run, role) {
   const party = run[role];
@@ -24,7 +25,7 @@ export function vectorFile(run) {
   const { text, prologue, interval, isOwn } = run.setup;
   const { section, base } = run.plan;
   const lines = [
-    'vector 2', `protocol Noise_${section}_25519_ChaChaPoly_SHA256`,
+    'vector 2', `protocol ${protocolName(section)}`,
     ...(isOwn ? [text.trimEnd(), 'end'] : []),
     `prologue ${hexOrDash(prologue)}`, `interval ${interval}`, ...run.psks.map((psk) => `psk ${hex(psk)}`),
     ...ROLES.flatMap((role) => keysOf(run, role)), ...run.events,

@@ -2,7 +2,7 @@
 // X25519 gives is what the file says. checks/web compares the lines with those of `noise trace`. There is no DOM here.
 import { checkPattern } from '../bindings/js/check.mjs';
 import { hex, joined, unhex } from './bytes.mjs';
-import { FUNDAMENTAL, textOfName } from './patterns.mjs';
+import { FUNDAMENTAL, SUITE, textOfName } from './patterns.mjs';
 import { OTHER, ROLES } from './party.mjs';
 import { layout } from './plan.mjs';
 import { Run } from './run.mjs';
@@ -74,13 +74,14 @@ function keysOf(lines, role) {
   return { e: pairOf('e', e, how === 'xor', answers), s: pairOf('s', s, how === 'xor', answers) };
 }
 
+const PROTOCOL = new RegExp(`^protocol (Noise_([A-Z][A-Z0-9]{0,7})\\S*_${SUITE})$`);
 const EVENT = /^(?:(?:say|write|deliver|raw|seal|open|foreign) (?:initiator|responder) .*|datagrams \d+)$/;
 
 /** What a vector file says: the set-up, the parties’ keys, and the events. */
 export function readVector(text) {
   const lines = new Lines(text);
   lines.must(/^vector [12]$/);
-  const [, name, base] = lines.must(/^protocol (Noise_([A-Z][A-Z0-9]{0,7})\S*_25519_ChaChaPoly_SHA256)$/);
+  const [, name, base] = lines.must(PROTOCOL);
   let pattern = FUNDAMENTAL.includes(base) ? textOfName(name) : undefined;
   if (!pattern) {
     const from = lines.at;

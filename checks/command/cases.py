@@ -93,14 +93,15 @@ class Cases:
             self.run_text(f"{os.path.relpath(path, self.folder)}: {text}", command, bytes_of(text), status, told)
 
     def run_explained(self, path):
-        """Runs `explain` on the text of each row, of which a place and two sentences are said, or on a file with a line
-        that is changed."""
+        """Runs `explain` on the text of each row, of which a place, what is wrong and changes are said, or on a file
+        with a line that is changed."""
         command, status, name, rows = rows_of(path)
         if name:
             self.run_explained_lines(path, command, status, name, rows)
             return
-        for text, place, says, mends in rows:
-            expected = f"/dev/stdin:{place}: [..]\n  [..]\n  {says}\n  {mends}\nstatus: {status}\n"
+        for text, place, says, *changes in rows:
+            lines = "".join(f"  {it}\n" for it in (says, *changes))
+            expected = f"/dev/stdin:{place}: [..]\n  [..]\n{lines}status: {status}\n"
             self.expect(
                 f"{os.path.relpath(path, self.folder)}: {text}", expected,
                 run([command, "/dev/stdin"], given=bytes_of(text)),

@@ -47,7 +47,8 @@ def refused_reads(words, folder):
     for word in words[1:]:
         if os.path.exists(f"{folder}/{word}"):
             passed += os.path.getsize(f"{folder}/{word}")
-            told = "cannot read\n" if word == words[1] else f"fault {word}: cannot read\n"
+            line = "cannot read\n" if word == words[1] else f"fault {word}: cannot read\n"
+            told = f"{line}  {word}: reading it fails.\n"
             yield from ((size, told.encode()) for size in range(first, passed + 1))
             first = passed + 1
 

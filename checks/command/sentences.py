@@ -8,7 +8,7 @@ from program import TOP
 
 STRING = re.compile(r"'((?:[^'\\\n]|\\.)*)'")
 LITERAL = re.compile(r'"((?:[^"\\]|\\.)*)"')
-TABLES = ("RULES", "MIXES", "FORMS", "CLOSER")
+TABLES = ("RULES", "FORMS", "CLOSER")
 
 
 def plain(text):
@@ -26,8 +26,7 @@ def of_the_page():
         )[1]
         joined = re.sub(r"'\n\s*\+ '", "", rows)  # a string may go on in the next line
         for sentence in STRING.findall(joined):
-            if sentence != "{mend}":  # one of MIXES
-                yield plain(sentence)
+            yield plain(sentence)
 
 
 def of_explain():

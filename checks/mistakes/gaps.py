@@ -1,10 +1,10 @@
 #!/usr/bin/env python3
 """Logs that lack lines: gaps.py PROGRAM [SEED].
 
-400 logs of right parties lack lines anywhere, end early, or have `?` for values: `noise compare` may say of none that
-it differs. 300 logs of parties with a mistake of the transport lack lines too: where a mistake is named, it is the one
-that was made. One of the mistakes is a log's alone: `n` after the message in place of before. It writes what failed,
-and a last line with the counts.
+400 logs of right parties lack lines anywhere, end early, or have `?` for values, and half of them are cut off in their
+last line: `noise compare` may say of none that it differs. 300 logs of parties with a mistake of the transport lack
+lines too: where a mistake is named, it is the one that was made. One of the mistakes is a log's alone: `n` after the
+message in place of before. It writes what failed, and a last line with the counts.
 """
 
 from __future__ import annotations
@@ -72,10 +72,11 @@ def in_other_form(draw: random.Random, line: str) -> str:
     return " ".join("?" if place > 6 and draw.random() < 0.1 else word for place, word in enumerate(words))
 
 
-def compared(program: str, folder: pathlib.Path, session: Session, events: list, log: list[str]) -> str:
-    """What `noise compare` prints of a log."""
+def compared(program: str, folder: pathlib.Path, session: Session, events: list, log: list[str], cut: int = 0) -> str:
+    """What `noise compare` prints of a log without so many bytes at its end."""
     log_path, file_path = folder / "yours.log", folder / "right.vector"
-    log_path.write_text("".join(line + "\n" for line in log))
+    text = "".join(line + "\n" for line in log)
+    log_path.write_text(text[: len(text) - cut])
     file_path.write_text(named.vector(program, session, events))
     command = [program, "compare", str(log_path), str(file_path)]
     return subprocess.run(command, stdout=subprocess.PIPE, stderr=subprocess.STDOUT, text=True, check=False).stdout
@@ -97,9 +98,12 @@ def accused(program: str, draw: random.Random, folder: pathlib.Path) -> list[str
     for number in range(400):
         session, events, log = drawn(draw, "XX IK NN XXpsk3 KK NNpsk0 X", "", number)
         lines = [in_other_form(draw, line) for line in with_gaps(draw, log)]
-        said = compared(program, folder, session, events, lines)
+        ends = random.Random(number)
+        cut = ends.choice((1, 2, 3, ends.randint(4, len(lines[-1])))) if number % 2 and len(lines) > 1 else 0
+        said = compared(program, folder, session, events, lines, cut)
         if not said.startswith(("agrees in ", "ends before ")):
-            faults.append(f"a right log of {session.pattern}, interval {session.interval}, is accused:\n{said}")
+            place = f"{session.pattern}, interval {session.interval}, without {cut} bytes"
+            faults.append(f"a right log of {place} is accused:\n{said}")
     return faults
 
 

@@ -372,7 +372,8 @@ class Party:
     def read_key(self, token: str, data: bytes) -> None:
         if token == "e":
             self.remote["e"] = data
-            self.mix_ephemeral(data, self.mistake != "read-ephemeral-not-hashed")
+            hashed = self.own.e.public if self.mistake == "own-ephemeral-hashed" else data
+            self.mix_ephemeral(hashed, self.mistake != "read-ephemeral-not-hashed")
         elif self.mistake == "static-in-clear" or (self.mistake == "tag-without-key" and self.cipher.key is None):
             self.remote["s"] = data[:32]
             self.mix_hash(data)

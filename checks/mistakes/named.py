@@ -1,5 +1,5 @@
 #!/usr/bin/env python3
-"""Puts 67 mistakes into an implementation of its own (mistaken.py), and looks for each with `noise compare` and the log
+"""Puts 68 mistakes into an implementation of its own (mistaken.py), and looks for each with `noise compare` and the log
 that DEBUGGING.md asks for.
 
     named.py PROGRAM [SEED]
@@ -100,6 +100,7 @@ CASES = {
     "payload-before-static": Case("XX", "are left out, or come later", ("initiator", "both")),
     "nonce-zero-each-message": Case("XX XXpsk3", "n is 0 here"),
     "pre-message-of-own-key": Case("IK X", "MixHash takes another public key of the file", ("initiator",)),
+    "own-ephemeral-hashed": Case("NN XX IK", "MixHash takes another public key of the file"),
     "prologue-as-digits": Case("NN XX IK", "MixHash takes the hex digits as text", prologue=b"abc"),
     "open-earlier-hash": Case("NN XX IK", "h is that of an earlier step"),
     "split-inputs-exchanged": Case("NN XX", "Split's HKDF has its inputs exchanged"),

@@ -13,7 +13,7 @@ import tempfile
 
 ROOT = pathlib.Path(__file__).resolve().parent.parent.parent
 PARTS = ("src", "specs", "proofs")
-FUNCTION = re.compile(r"^( *)(?:pub(?:\([^)]*\))? )?(?:unsafe )?(?:extern \"C\" )?fn (\w+)", re.MULTILINE)
+FUNCTION = re.compile(r"^( *)(?:pub(?:\([^)]*\))? )?(?:const )?(?:unsafe )?(?:extern \"C\" )?fn (\w+)", re.MULTILINE)
 IMPL = re.compile(r"^impl(?:<[^{]*?>)? (?:(?:\w+::)*(\w+)(?:<[^{]*?>)? for )?(?:\w+::)*(\w+)", re.MULTILINE)
 GOAL = re.compile(r"^note: (src/[\w/]+\.rt):(\d+):\d+: (.*(?:not proved|did not prove).*)$", re.MULTILINE)
 

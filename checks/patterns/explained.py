@@ -155,8 +155,9 @@ class Run:
         names = set(self.mixed) | ({"psk" if self.count == 1 else "psks"} if self.count else set())
         pairs = [set(parties_of(it)) for it in self.mixed]
         own = {it for it in self.chosen if it[0] == chooser}
-        parts = sorted((it for it in least(pairs) if it <= own), key=len) if (chooser, "e") in own else []
-        part = [sorted({"e", *(key for _, key in it)}) for it in parts[:1]] if pairs else []
+        sent = {"e"} if (chooser, "e") in own else set()
+        parts = sorted((it for it in least(pairs) if it <= own), key=len)
+        part = [sorted(sent | {key for _, key in it}) for it in parts[:1]] if pairs else []
         self.says("key", what, names or {"nothing"}, least(pairs) if pairs else None, part)
 
     def origin(self, writer, has_tag):
@@ -236,8 +237,8 @@ def ways(text):
 
 def key_fact(what, mixed, text):
     found = re.fullmatch(
-        r"Enough: ([^.;]*)(?:; and in each case the psks?)?\.(?: Whoever takes the \w+'s part needs only (an e|an e "
-        r"and an s) of its own(?: and the psks?)?\.)?",
+        r"Enough: ([^.;]*)(?:; and in each case the psks?)?\.(?: Whoever takes the \w+'s part needs only "
+        r"(an e|an s|an e and an s) of its own(?: and the psks?)?\.)?",
         text,
     )
     is_none = text.startswith("No DH") or re.fullmatch(r"Enough: the psks? alone\.", text)

@@ -70,6 +70,9 @@ const FORMS = [
   (line) => line, (line) => line, (line) => line.toUpperCase().replace('TRACE', 'trace'),
   (line) => `2026-01-02 debug: ${line}`, (line) => line.replaceAll(' ', '\t').replace('\t', ' '), (line) => `${line}\r`,
   (line) => line.replace(/ ([0-9a-f]{64}) /g, ' 0x$1 '), (line) => line.replace(/ ([0-9a-f]{64}) /g, " b'$1' "),
+  (line) => `TRACE noise: ${line}`, (line) => line.replace(/ - (\d+)$/, ' None 00$1'),
+  (line) => line.replace(/ - (\d+)$/, ` ${'0'.repeat(64)} $1`),
+  (line) => line.replace(/ [0-9a-f]{64} (\d+)$/, isDrawn(1, 20) ? ' nil $1' : ' $&'),
 ];
 
 /** A log made of right lines: lines lack, are unsaid, differ, change places, or are no lines of a schedule. */
@@ -92,7 +95,8 @@ function drawnLog(lines) {
     log = isDrawn(1, 2) ? late : log;
   }
   const form = FORMS[next(FORMS.length)];
-  return log.map((line) => `${form(line)}\n`).join('');
+  const text = log.map((line) => `${form(line)}\n`).join('');
+  return isDrawn(1, 4) ? text.slice(0, text.length - 1 - next(100)) : text;
 }
 
 /** A party that logs n after the message. */
@@ -106,10 +110,12 @@ function commanded(log, path) {
   const ran = spawnSync(program, ['compare', '-', path], { input: log, encoding: 'utf8' });
   if (ran.status === 2) return { fault: ran.stderr.trim().replace(/^fault -: /, '') };
   const all = ran.stdout.trimEnd().split('\n');
-  const passed = /^lines passed over: (\d+)$/.exec(all.at(-1));
+  const passed = /^lines passed over: (\d+)$/m.exec(ran.stdout);
+  const cut = all.find((line) => line.startsWith('the last line, '));
   const rest = all.slice(1).findIndex((line) => !/^(?:right|yours|lines of Split compared:) /.test(line));
-  const text = all.slice(0, rest < 0 ? undefined : rest + 1).filter((line) => !line.startsWith('lines passed over'));
-  return { text, skipped: passed ? Number(passed[1]) : 0, status: ran.status };
+  const text = all.slice(0, rest < 0 ? undefined : rest + 1)
+    .filter((line) => !/^(?:lines passed over|the last line, )/.test(line));
+  return { text, skipped: passed ? Number(passed[1]) : 0, cut, status: ran.status };
 }
 
 await load();
@@ -118,10 +124,10 @@ const met = { agrees: 0, ends: 0, differs: 0, fault: 0 };
 for (let n = 0; n < 500; n += 1) {
   const { name, path, lines } = all[n % all.length];
   const log = drawnLog(lines);
-  const { fault, finding, text, skipped } = compareLog(log, rightLines(lines));
+  const { fault, finding, text, skipped, cut } = compareLog(log, rightLines(lines));
   const said = commanded(log, path);
   assert.equal(fault, said.fault, `${name}: ${log}`);
-  if (!fault) assert.deepEqual({ text, skipped, status: Number(finding !== 'agrees') }, said, `${name}: ${log}`);
+  if (!fault) assert.deepEqual({ text, skipped, cut, status: Number(finding !== 'agrees') }, said, `${name}: ${log}`);
   met[finding ?? 'fault'] += 1;
 }
 for (const [finding, count] of Object.entries(met)) assert.ok(count >= 15, `${finding}: ${count} logs`);

@@ -1,7 +1,7 @@
 // The page and `noise explain` say the same of a pattern's tokens: explained.mjs PROGRAM. Of each pattern of the
 // standard, without and with psks, and of valid ones that are drawn at random, the command's lines have to be those
 // that the page's rows come to, and each sentence of the page has to occur. Of patterns that break rules both have to
-// tell the same faults.
+// tell the same faults, and of these and of mistyped ones both have to correct the same.
 import assert from 'node:assert/strict';
 import { spawnSync } from 'node:child_process';
 import { mkdtempSync, rmSync, writeFileSync } from 'node:fs';
@@ -14,6 +14,8 @@ import { explain } from '../../web/faults.mjs';
 import {
   MEANING, SENTENCES, UNJUDGED, againWords, keyWords, mixedWords, rowsOf, unmixedOf, writerWords,
 } from '../../web/facts.mjs';
+import { saidOf as rowsOfChanges } from '../../web/changes.mjs';
+import { correctionOf } from '../../web/mends.mjs';
 import { DEFERRED, FUNDAMENTAL, textOf } from '../../web/patterns.mjs';
 import { layout } from '../../web/plan.mjs';
 import { faultsOf } from '../../web/reading.mjs';
@@ -109,13 +111,61 @@ function ofTheStandard() {
   });
 }
 
-/** The faults of a pattern that breaks rules, below its place and the line with the caret. */
-function faultLines(text) {
-  const told = faultsOf(text, checkPattern(text)).map((fault) => explain(text, fault));
-  return plain(
-    told.flatMap(({ title, says, mend }) => [`${title}.`, says, mend]).map((line) => `  ${line}\n`).join(''),
-  );
+/** What the command says first of several changes, which the page makes itself. */
+const ORDER = 'Make these changes one after another, each on the text that the one before leaves.';
+
+/** The lines of the changes that correct a text. */
+function changeLines(text) {
+  const changes = correctionOf(text, checkPattern(text)) ?? [];
+  const lines = [...(changes.length > 1 ? [ORDER] : []), ...rowsOfChanges(changes)];
+  return plain(lines.map((line) => `  ${line}\n`).join(''));
 }
+
+/** The faults of a pattern that breaks rules, and after the first the changes, below its place and the caret. */
+function faultLines(text) {
+  const [first, ...others] = faultsOf(text, checkPattern(text)).map((fault) => {
+    const { title, says } = explain(text, fault);
+    return plain(`  ${title}.\n  ${says}\n`);
+  });
+  return [first, changeLines(text), ...others].join('');
+}
+
+/** A text with one or two lines as one mistypes them. */
+function mistyped(text, pick) {
+  const lines = text.split('\n').slice(0, -1);
+  const slips = [
+    (line) => line.replaceAll(', ', ','), (line) => line.toUpperCase(), (line) => line.toLowerCase(),
+    (line) => `${line} `, (line) => `${line} # a note`, (line) => line.replace(/^ +|:$/g, ''),
+    (line) => `\t${line.trim()}`,
+    (line) => line.replace(/->|<-/, (it) => (it === '->' ? '<-' : '->')), (line) => `${line}, x`, () => '',
+    (line) => `${line}\n${line}`, (line) => line.replace(/(?:psk\d)?:$/, 'psk1:'), (line) => line.replace(':', '(s):'),
+    (line) => line.replace(/->/, '=>'), (line) => line.replace(/(?<=, )[a-z]+/, 'psk'), () => '  ...',
+  ];
+  for (let n = pick([1, 1, 2]); n > 0; n -= 1) {
+    const at = pick(lines.map((_, place) => place));
+    lines[at] = pick(slips)(lines[at]);
+  }
+  return lines.map((line) => `${line}\n`).join('');
+}
+
+/** Wrong texts of valid patterns. */
+function mistypedOf(texts, count) {
+  const next = numbers(99);
+  const pick = (list) => list[next(list.length)];
+  const found = new Set();
+  while (found.size < count) {
+    const text = mistyped(pick(texts), pick);
+    const verdict = checkPattern(text);
+    if (!verdict.valid && !verdict.rule) found.add(text);
+  }
+  return [...found];
+}
+
+/** The lines of changes in what the command says. */
+const CHANGE = /^ {2}(?:Write line \d+ so: ".*"|Put in as line \d+: ".*"|Leave line \d+ out|End .* a line feed.*)\.$/;
+const changesIn = (said) =>
+  said.split('\n').slice(3).filter((line) => CHANGE.test(line) || line === `  ${ORDER}`).map((line) => `${line}\n`)
+    .join('');
 
 /** What the command says of each text, with this status. */
 function saidOf(texts, status) {
@@ -140,9 +190,11 @@ const wrong = drawn(300, ({ rule }) => rule);
 saidOf(wrong, 1).forEach(
   (said, n) => assert.equal(said.split('\n').slice(3).join('\n'), faultLines(wrong[n]), wrong[n]),
 );
+const forms = mistypedOf(texts, 300);
+saidOf(forms, 2).forEach((said, n) => assert.equal(changesIn(said), changeLines(forms[n]), JSON.stringify(forms[n])));
 const missing = Object.keys(SENTENCES).filter((name) => !met.has(name));
 assert.deepEqual(missing, [], 'sentences of the page that no pattern has');
 console.log(
   `web: noise explain says of ${texts.length} patterns what the page says, in its ${met.size} sentences, `
-    + `and tells the faults of ${wrong.length} others`,
+    + `tells the faults of ${wrong.length} others, and corrects these and ${forms.length} mistyped ones the same`,
 );

@@ -75,6 +75,10 @@ test('who can compute the key at each encrypted s and payload', () => {
     /Whoever takes the responder’s part needs only an e and an s of its own\.$/,
   );
   assert.doesNotMatch(keyOf('XK', 'Message 3, s'), /part/);
+  assert.equal(
+    keyOf('MINE:\n  -> s\n  <- e, se\n  -> e, ee\n', 'Message 2, payload'),
+    'The initiator’s s, or the responder’s e. Whoever takes the initiator’s part needs only an s of its own.',
+  );
   assert.equal(keyOf('IX', 'Message 1, s'), 'In the clear: everybody sees it.');
   assert.equal(keyOf('NN', 'Message 1, payload'), 'In the clear: everybody sees it.');
   assert.equal(keyOf(textOf('NN', [0]), 'Message 1, payload'), 'The psk alone.');
@@ -225,8 +229,8 @@ test('no correction takes a psk away, or makes a message a key known before', ()
 function saidOf(text) {
   const verdict = checkPattern(text);
   assert.equal(verdict.valid, false, text);
-  const { title, says, mend, span } = explain(text, verdict);
-  return { title, says, mend, marked: text.slice(...span), offers: mendsOf(text, verdict) };
+  const { title, says, span } = explain(text, verdict);
+  return { title, says, marked: text.slice(...span), offers: mendsOf(text, verdict) };
 }
 
 test('a forgotten “...” is named, and offered', () => {
@@ -238,7 +242,8 @@ test('a forgotten “...” is named, and offered', () => {
     assert.equal(offers[0].text, mended);
     assert.equal(checkPattern(mended).valid, true);
   }
-  assert.match(saidOf('MINE:\n  -> e\n  -> e, ee\n').mend, /Turn the arrow around/);
+  const [{ label }] = saidOf('MINE:\n  -> e\n  -> e, ee\n').offers;
+  assert.equal(label, 'Write line 3 so: “  <- e, ee”.');
 });
 
 test('rule 1 names the key that lacks', () => {
@@ -275,7 +280,10 @@ test('what the editor can mend it offers to', () => {
     ['MINE:\n  <- s\n  -> s\n  ...\n  -> e, es, ss\n', 'MINE:\n  -> s\n  <- s\n  ...\n  -> e, es, ss\n'],
   ]) assert.equal(saidOf(text).offers[0]?.text, mended, JSON.stringify(text));
   assert.equal(saidOf('MINE:\n  -> e \n').marked, ' ');
-  assert.deepEqual(saidOf('MINE:\n  -> e, foo\n').offers, []);
+  assert.deepEqual(saidOf('MINE:\n  -> e, foo\n').offers, [
+    { label: 'Write line 2 so: “  -> e”.', text: 'MINE:\n  -> e\n' },
+  ]);
+  assert.deepEqual(saidOf('NN:\n  -> e, foo\n').offers, []);
 });
 
 test('texts of others: names, arrows alone and letters that look alike go in one mend', () => {
@@ -297,7 +305,7 @@ test('texts of others: names, arrows alone and letters that look alike go in one
   const { says, marked } = saidOf('MINE:\n  -> e, \u0435\u0435\n');
   assert.equal(marked, '\u0435\u0435');
   assert.equal(says, '“\u0435” looks like e, and is another sign (U+0435).');
-  assert.deepEqual(saidOf('MINE:\n  -> e, \u00e9\n').offers, []);
+  assert.deepEqual(saidOf('NN:\n  -> e, \u00e9\n').offers, []);
   assert.ok(!saidOf('MINE\n').offers.some(({ label }) => label.startsWith('Take the pattern')));
 });
 
@@ -321,12 +329,12 @@ test('an offer is right, or its fault is further on', () => {
 test('a missing DH is mixed where both its keys are known', () => {
   const mends = (text) => mendsOf(text, checkPattern(text)).map((it) => [it.label, it.text]);
   const nk = 'MINE:\n  <- s\n  ...\n  -> e, es\n';
-  assert.deepEqual(mends(`${nk}  <- e\n`), [['Mix ee in message 2, after e', `${nk}  <- e, ee\n`]]);
+  assert.deepEqual(mends(`${nk}  <- e\n`), [['Write line 5 so: “  <- e, ee”.', `${nk}  <- e, ee\n`]]);
   assert.deepEqual(mends('MINE:\n  -> e\n  <- e, s, es\n  -> s, se\n'), [
-    ['Mix ee in message 2, after e', 'MINE:\n  -> e\n  <- e, ee, s, es\n  -> s, se\n'],
+    ['Write line 3 so: “  <- e, ee, s, es”.', 'MINE:\n  -> e\n  <- e, ee, s, es\n  -> s, se\n'],
   ]);
   assert.deepEqual(mends('MINEpsk2:\n  -> e\n  <- s, es, psk\n'), [
-    ['Let the responder send e, and mix ee after it', 'MINEpsk2:\n  -> e\n  <- e, ee, s, es, psk\n'],
+    ['Write line 3 so: “  <- e, ee, s, es, psk”.', 'MINEpsk2:\n  -> e\n  <- e, ee, s, es, psk\n'],
   ]);
 });
 
@@ -341,11 +349,13 @@ test('each pattern without one of its DHs has an offer that works', () => {
   }
 });
 
-/** How many messages, and tokens of the message, are left from a broken rule on, by the verdict alone. */
+/** How many bytes are left from a broken rule on, by the verdict alone. */
 function leftBehind(text, { message, token }) {
   const lines = text.split('\n').slice(0, -1);
-  const messages = lines.slice(lines.indexOf('  ...') + 1 || 1).map((line) => line.slice(5).split(', '));
-  return message > messages.length ? 0 : (messages.length - message) * 100 + messages[message - 1].length - token;
+  const n = (lines.indexOf('  ...') + 1 || 1) + message - 1;
+  return n < lines.length
+    ? [lines[n].slice(5).split(', ').slice(token).join(', '), ...lines.slice(n + 1)].join('\n').length
+    : 0;
 }
 
 test('after an offer for a broken rule the text is valid, or less of it is left from its fault on', () => {

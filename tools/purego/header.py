@@ -1,11 +1,16 @@
 """Reads the calls of include/noise.h that Go makes, and how Go writes each: bindings/go/internal/library/calls.go."""
 import os
 import re
+import sys
 from collections import namedtuple
 
 from failure import Failure
 
 ROOT = os.path.dirname(os.path.dirname(os.path.dirname(os.path.realpath(__file__))))
+sys.path.insert(0, f"{ROOT}/bindings")
+# pylint: disable-next=wrong-import-position
+import prototypes
+
 HEADER, DECLARED = "include/noise.h", "bindings/go/internal/library/calls.go"
 
 # A call: its name in C and in Go, its parameters, its result in Go. A parameter has its name and type in Go, and
@@ -19,22 +24,14 @@ def text_of(file):
         return it.read()
 
 
-def constants():
-    """The parameters `const` of each call of the header, by their places."""
-    text = re.sub(r"/\*.*?\*/", " ", text_of(HEADER), flags=re.S)
-    found = {}
-    for name, params in re.findall(r"\b(noise_\w+)\(([^;{()]*)\)[\sA-Z_]*(?:\([\d, ]*\)\s*)?[,;]", text):
-        found[name] = [it.strip().startswith("const ") for it in params.split(",")]
-    return found
-
-
 def calls():
     """The calls that Go makes."""
-    const, made = constants(), []
+    const = {it.name: [one.is_const for one in it.parameters] for it in prototypes.calls()}
+    made = []
     form = r"// \w+ is (noise_\w+)\.\n//\n//go:noescape\nfunc (\w+)\((.*)\) (\w+)\n"
     for c_name, name, params, result in re.findall(form, text_of(DECLARED)):
         pairs = [it.split(" ") for it in params.split(", ")] if params else []
-        if c_name not in const or (pairs and len(pairs) != len(const[c_name])):
+        if c_name not in const or len(pairs) != len(const[c_name]):
             raise Failure(f"{HEADER} and {DECLARED} have other parameters of {c_name}")
         made.append(Call(c_name, name, [Param(*it, is_const) for it, is_const in zip(pairs, const[c_name])], result))
     if not made:

@@ -5,7 +5,6 @@ import (
 	"bytes"
 	"context"
 	"crypto/rand"
-	"encoding/binary"
 	"errors"
 	"fmt"
 	"io"
@@ -14,91 +13,12 @@ import (
 	"testing"
 	"time"
 
+	"example.org/flynnpeer"
 	"example.org/yulimosar/noise"
 	flynn "github.com/flynn/noise"
 )
 
-var patterns = []flynn.HandshakePattern{
-	flynn.HandshakeN, flynn.HandshakeK, flynn.HandshakeX,
-	flynn.HandshakeNN, flynn.HandshakeNK, flynn.HandshakeNX,
-	flynn.HandshakeKN, flynn.HandshakeKK, flynn.HandshakeKX,
-	flynn.HandshakeXN, flynn.HandshakeXK, flynn.HandshakeXX,
-	flynn.HandshakeIN, flynn.HandshakeIK, flynn.HandshakeIX,
-}
-
-var suite = flynn.NewCipherSuite(flynn.DH25519, flynn.CipherChaChaPoly, flynn.HashSHA256)
-
-// theirs is a party of flynn's: frames round its messages, and the sums of what passed.
-type theirs struct {
-	net.Conn
-	state   *flynn.HandshakeState
-	ciphers [2]*flynn.CipherState // of the initiator, of the responder
-}
-
-func (e *theirs) frame() ([]byte, error) {
-	var head [2]byte
-	if _, err := io.ReadFull(e, head[:]); err != nil {
-		return nil, err
-	}
-	message := make([]byte, binary.BigEndian.Uint16(head[:]))
-	_, err := io.ReadFull(e, message)
-	return message, err
-}
-
-func (e *theirs) put(message []byte) error {
-	_, err := e.Write(append([]byte{byte(len(message) >> 8), byte(len(message))}, message...))
-	return err
-}
-
-func (e *theirs) handshake(initiator bool, count int) error {
-	for i := 0; i < count; i++ {
-		var err error
-		var message []byte
-		if initiator == (i%2 == 0) {
-			if message, e.ciphers[0], e.ciphers[1], err = e.state.WriteMessage(nil, []byte("theirs")); err == nil {
-				err = e.put(message)
-			}
-		} else if message, err = e.frame(); err == nil {
-			_, e.ciphers[0], e.ciphers[1], err = e.state.ReadMessage(nil, message)
-		}
-		if err != nil {
-			return err
-		}
-	}
-	return nil
-}
-
-// send and take pass a megabyte, in messages of several lengths.
-func (e *theirs) send(all []byte, cipher *flynn.CipherState) error {
-	for size := 1; len(all) > 0; size = size*3%60000 + 1 {
-		if size > len(all) {
-			size = len(all)
-		}
-		message, err := cipher.Encrypt(nil, nil, all[:size])
-		if err != nil {
-			return err
-		}
-		if err := e.put(message); err != nil {
-			return err
-		}
-		all = all[size:]
-	}
-	return nil
-}
-
-func (e *theirs) take(count int, cipher *flynn.CipherState) ([]byte, error) {
-	var all []byte
-	for len(all) < count {
-		message, err := e.frame()
-		if err != nil {
-			return nil, err
-		}
-		if all, err = cipher.Decrypt(all, nil, message); err != nil {
-			return nil, err
-		}
-	}
-	return all, nil
-}
+var patterns, suite = flynnpeer.Patterns, flynnpeer.Suite
 
 func TestFlynn(t *testing.T) {
 	for _, pattern := range patterns {
@@ -109,44 +29,35 @@ func TestFlynn(t *testing.T) {
 					name = fmt.Sprintf("%spsk%d", name, place)
 				}
 				t.Run(fmt.Sprintf("%s/%v", name, initiator), func(t *testing.T) {
-					live(t, pattern, name, place, initiator)
+					live(t, name, initiator)
 				})
 			}
 		}
 	}
 }
 
-func live(t *testing.T, pattern flynn.HandshakePattern, name string, place int, initiator bool) {
+func live(t *testing.T, name string, initiator bool) {
 	own, err := noise.GenerateKeyPair()
 	must(t, err)
 	other, err := suite.GenerateKeypair(rand.Reader)
 	must(t, err)
-	public, theirKey := own.Public(), noise.PublicKey{}
+	public, theirKey, psk := own.Public(), noise.PublicKey{}, pskOf(7)
 	copy(theirKey[:], other.Public)
 	config := &noise.Config{Pattern: name, Prologue: []byte("live"), Static: own, InsecureAcceptAnyKey: true}
-	them := flynn.Config{
-		CipherSuite:   suite,
-		Pattern:       pattern,
-		Prologue:      []byte("live"),
-		Initiator:     !initiator,
-		StaticKeypair: other,
+	them, err := flynnpeer.Config(name, !initiator, other, public[:], psk[:])
+	must(t, err)
+	if strings.Contains(name, "psk") {
+		config.PSKs = []noise.PSK{psk}
 	}
-	if place >= 0 {
-		them.PresharedKey, them.PresharedKeyPlacement = bytes.Repeat([]byte{7}, 32), place
-		config.PSKs = []noise.PSK{pskOf(7)}
-	}
-	before, after := pattern.InitiatorPreMessages, pattern.ResponderPreMessages
+	before := them.Pattern.InitiatorPreMessages
 	if initiator {
-		before, after = after, before
+		before = them.Pattern.ResponderPreMessages
 	}
 	if len(before) > 0 {
 		config.PeerStatic = &theirKey
 	}
-	if len(after) > 0 {
-		them.PeerStatic = public[:]
-	}
 	a, b := tcp(t)
-	run(t, a, b, config, them, initiator, len(pattern.Messages))
+	run(t, a, b, config, them)
 }
 
 // choosing are patterns in which a server may choose the psk by the client's key.
@@ -197,62 +108,54 @@ func TestFlynnPSKOfEachPeer(t *testing.T) {
 		for i, client := range keys[:2] {
 			t.Run(fmt.Sprintf("%s/%d", name, i), func(t *testing.T) {
 				secret, public, server, psk := client.Secret(), client.Public(), keys[2].Public(), pskOfClient(i)
-				base, place, _ := strings.Cut(name, "psk")
-				them := flynn.Config{
-					CipherSuite:           suite,
-					Pattern:               flynn.HandshakeXX,
-					Prologue:              []byte("live"),
-					Initiator:             true,
-					StaticKeypair:         flynn.DHKey{Private: secret[:], Public: public[:]},
-					PresharedKey:          psk[:],
-					PresharedKeyPlacement: int(place[0] - '0'),
-				}
-				if base == "IK" {
-					them.Pattern, them.PeerStatic = flynn.HandshakeIK, server[:]
-				}
+				own := flynn.DHKey{Private: secret[:], Public: public[:]}
+				them, err := flynnpeer.Config(name, true, own, server[:], psk[:])
+				must(t, err)
 				a, b := tcp(t)
-				run(t, a, b, chooser(keys[2], name, keys[:2]), them, false, len(them.Pattern.Messages))
+				run(t, a, b, chooser(keys[2], name, keys[:2]), them)
 			})
 		}
 	}
 }
 
-func run(t *testing.T, a, b net.Conn, config *noise.Config, them flynn.Config, initiator bool, count int) {
-	make, mine, yours := noise.Server, 1, 0
-	if initiator {
-		make, mine, yours = noise.Client, 0, 1
+func run(t *testing.T, a, b net.Conn, config *noise.Config, them flynn.Config) {
+	open := noise.Client
+	if them.Initiator {
+		open = noise.Server
 	}
-	c, err := make(a, config)
+	c, err := open(a, config)
 	must(t, err)
 	defer c.Close()
-	state, err := flynn.NewHandshakeState(them)
-	must(t, err)
-	end := &theirs{Conn: b, state: state}
-	failed := goes(func() error { return end.handshake(!initiator, count) })
+	var end *flynnpeer.Channel
+	failed := goes(func() (err error) {
+		end, err = flynnpeer.Open(b, them, "theirs")
+		return err
+	})
 	must(t, c.Handshake())
 	must(t, <-failed)
-	if got := c.ConnectionState(); !bytes.Equal(got.HandshakeHash[:], state.ChannelBinding()) {
+	if got := c.ConnectionState(); !bytes.Equal(got.HandshakeHash[:], end.State.ChannelBinding()) {
 		t.Fatal("the hashes differ")
 	}
-	megabyte := bytes.Repeat([]byte("0123456789abcdef"), 1<<16)
-	if count > 1 || initiator {
+	megabyte, oneWay := bytes.Repeat([]byte("0123456789abcdef"), 1<<16), len(them.Pattern.Messages) == 1
+	if !oneWay || !them.Initiator {
 		failed = goes(func() error { _, err := c.Write(megabyte); return err })
-		got, err := end.take(len(megabyte), end.ciphers[mine])
-		must(t, err)
+		mustCome(t, end, megabyte)
 		must(t, <-failed)
-		if !bytes.Equal(got, megabyte) {
-			t.Fatal("other bytes came at flynn's end")
-		}
 	}
-	if count > 1 || !initiator {
-		failed = goes(func() error { return end.send(megabyte, end.ciphers[yours]) })
-		got := bytes.Repeat([]byte{0}, len(megabyte))
-		_, err := io.ReadFull(c, got)
-		must(t, err)
+	if !oneWay || them.Initiator {
+		failed = goes(func() error { return end.WriteAll(megabyte) })
+		mustCome(t, c, megabyte)
 		must(t, <-failed)
-		if !bytes.Equal(got, megabyte) {
-			t.Fatal("other bytes came from flynn's end")
-		}
+	}
+}
+
+func mustCome(t *testing.T, r io.Reader, want []byte) {
+	t.Helper()
+	got := make([]byte, len(want))
+	_, err := io.ReadFull(r, got)
+	must(t, err)
+	if !bytes.Equal(got, want) {
+		t.Fatal("other bytes came")
 	}
 }
 

@@ -1,4 +1,5 @@
-// What include/noise.h declares, and the calls of it: all `unsafe` of this crate is here.
+// The structs of include/noise.h, and the calls of it, whose prototypes bindings/make-declarations writes: all `unsafe`
+// of this crate is here.
 //
 // Each call is sound since the types ensure what the header asks of a caller. Pointers come from references and slices:
 // none is NULL, each leads to as many bytes as its count says, and one that isn't const comes from `&mut`, so no other
@@ -132,7 +133,7 @@ macro_rules! calls {
                         stringify!($name)
                     )
                 )]
-                fn $name($($argument: $type),*) -> $answer;
+                pub(super) fn $name($($argument: $type),*) -> $answer;
             )*
         }
     };
@@ -200,10 +201,6 @@ macro_rules! structs {
             }
         )*
 
-        calls! {
-            $(fn $size_in_c() -> usize;)*
-        }
-
         fn has_sizes() -> bool {
             // SAFETY: these take nothing.
             unsafe { true $(&& $size_in_c() == size_of::<$name>())* }
@@ -222,122 +219,8 @@ structs! {
     Cipher SIZE_OF_CIPHER noise_cipher_size;
 }
 
-calls! {
-    fn noise_version() -> u32;
-    fn noise_pattern(
-        pattern: *const u8,
-        pattern_len: usize,
-        info: *mut PatternInfo,
-        result: *mut PatternResult,
-    ) -> u32;
-    fn noise_start(
-        h: *mut Handshake,
-        pattern: *const u8,
-        pattern_len: usize,
-        prologue: *const u8,
-        prologue_len: usize,
-        setup: *const Setup,
-    ) -> u32;
-    fn noise_answer(h: *mut Handshake, of_static: u8, remote: *const u8, dh_result: *const u8) -> u32;
-    fn noise_unset_psk(h: *mut Handshake) -> u32;
-    fn noise_set_psk(h: *mut Handshake, psk: *const u8) -> u32;
-    fn noise_write(
-        h: *mut Handshake,
-        payload: *const u8,
-        payload_len: usize,
-        out: *mut u8,
-        out_len: usize,
-        result: *mut CallResult,
-    ) -> u32;
-    fn noise_read(h: *mut Handshake, message: *mut u8, message_len: usize, result: *mut CallResult) -> u32;
-    fn noise_try_read(h: *mut Handshake, message: *mut u8, message_len: usize, result: *mut CallResult) -> u32;
-    fn noise_message_len(h: *const Handshake, payload_len: usize, len: *mut usize) -> u32;
-    fn noise_hash(h: *const Handshake, hash: *mut u8) -> u32;
-    fn noise_remote_static(h: *const Handshake, key: *mut Key) -> u32;
-    fn noise_stage(h: *const Handshake, result: *mut Stage) -> u32;
-    fn noise_frame_message(buffer: *mut u8, buffer_len: usize, message_len: usize, result: *mut StreamResult) -> u32;
-    fn noise_frame_find(buffer: *const u8, buffer_len: usize, result: *mut StreamResult) -> u32;
-    fn noise_finish_stream(h: *mut Handshake, interval: u64, s: *mut StreamSender, r: *mut StreamReceiver) -> u32;
-    fn noise_stream_write(
-        s: *mut StreamSender,
-        payload: *const u8,
-        payload_len: usize,
-        out: *mut u8,
-        out_len: usize,
-        result: *mut StreamResult,
-    ) -> u32;
-    fn noise_stream_end(s: *mut StreamSender, out: *mut u8, out_len: usize, result: *mut StreamResult) -> u32;
-    fn noise_stream_read(r: *mut StreamReceiver, buffer: *mut u8, buffer_len: usize, result: *mut StreamResult) -> u32;
-    fn noise_stream_is_cut(r: *const StreamReceiver, left: usize) -> u32;
-    fn noise_finish(h: *mut Handshake, interval: u64, sender: *mut Sender, receiver: *mut Receiver) -> u32;
-    fn noise_seal(
-        s: *mut Sender,
-        payload: *const u8,
-        payload_len: usize,
-        out: *mut u8,
-        out_len: usize,
-        result: *mut CallResult,
-    ) -> u32;
-    fn noise_seal_in_place(
-        s: *mut Sender,
-        buffer: *mut u8,
-        buffer_len: usize,
-        payload_len: usize,
-        result: *mut CallResult,
-    ) -> u32;
-    fn noise_open(r: *mut Receiver, message: *mut u8, message_len: usize, result: *mut CallResult) -> u32;
-    fn noise_sender_nonce(s: *const Sender, nonce: *mut u64) -> u32;
-    fn noise_receiver_nonce(r: *const Receiver, nonce: *mut u64) -> u32;
-    fn noise_finish_datagrams(
-        h: *mut Handshake,
-        window: u32,
-        sender: *mut DatagramSender,
-        receiver: *mut DatagramReceiver,
-    ) -> u32;
-    fn noise_datagram_seal(
-        s: *mut DatagramSender,
-        payload: *const u8,
-        payload_len: usize,
-        out: *mut u8,
-        out_len: usize,
-        result: *mut CallResult,
-    ) -> u32;
-    fn noise_datagram_seal_in_place(
-        s: *mut DatagramSender,
-        buffer: *mut u8,
-        buffer_len: usize,
-        payload_len: usize,
-        result: *mut CallResult,
-    ) -> u32;
-    fn noise_datagram_open(
-        r: *mut DatagramReceiver,
-        datagram: *mut u8,
-        datagram_len: usize,
-        result: *mut CallResult,
-    ) -> u32;
-    fn noise_datagram_sender_nonce(s: *const DatagramSender, nonce: *mut u64) -> u32;
-    fn noise_finish_ciphers(h: *mut Handshake, send: *mut Cipher, receive: *mut Cipher) -> u32;
-    fn noise_cipher_encrypt(
-        c: *mut Cipher,
-        ad: *const u8,
-        ad_len: usize,
-        buffer: *mut u8,
-        buffer_len: usize,
-        text_len: usize,
-        result: *mut CallResult,
-    ) -> u32;
-    fn noise_cipher_decrypt(
-        c: *mut Cipher,
-        ad: *const u8,
-        ad_len: usize,
-        message: *mut u8,
-        message_len: usize,
-        result: *mut CallResult,
-    ) -> u32;
-    fn noise_cipher_rekey(c: *mut Cipher) -> u32;
-    fn noise_cipher_nonce(c: *const Cipher, nonce: *mut u64) -> u32;
-    fn noise_cipher_set_nonce(c: *mut Cipher, nonce: u64) -> u32;
-}
+mod prototypes;
+use prototypes::*;
 
 impl Key {
     pub(crate) fn of(bytes: Option<[u8; KEY_LEN]>) -> Key {

@@ -2,13 +2,19 @@
 //! command does is `noise_tool`'s. Here are the words of the command line and the files of the system.
 #![tactic(auto)]
 
+mod hints;
+mod seen;
+
 ghost use Rattle.std.specs.Prelude.{◌≡◌, true, IfErr, None};
 ghost use Rattle.noise_lines.specs.Faults.{status_of};
 
+use hints::{VERSION_ONE, lines_below};
+use noise_lines::write;
 use noise_tool::{
     Fault, LineFault, NamedFiles, Order, System, chosen, line_status, next_commands, perform,
     read_file, report_fault,
 };
+use seen::{Seen, Watched};
 use std::alloc::Global;
 use std::cell::Cell;
 use std::env;
@@ -31,14 +37,34 @@ fn main(rt: HostRuntime) -> ExitCode {
         to: rt.stderr(),
         closed: &closed,
     };
+    let seen = Seen::nothing(rt.alloc());
     let files = NamedFiles {
-        system: &Opened { rt: &rt },
+        system: &Opened {
+            rt: &rt,
+            seen: &seen,
+        },
     };
     let status = match BufWriter::new(rt.alloc(), output) {
         Ok(mut out) => perform(rt.alloc(), &order, &files, &mut out, &mut errors),
         Err(_) => ends_with(&rt, Fault::Memory),
     };
+    if status != 0 {
+        say_more(rt.alloc(), &order, &seen, status, &mut errors);
+    }
     ExitCode::from(status)
+}
+
+// Writes the lines below that of a fault, if memory is at hand.
+fn say_more(alloc: Global, order: &Order, seen: &Seen, status: u8, errors: &mut Errors<'_>) {
+    if let Order::Test(_) = order
+        && status < 3
+        && seen.has_version_one()
+    {
+        let _ = write(VERSION_ONE, errors);
+    }
+    if let Ok(lines) = lines_below(alloc, order, seen, status) {
+        let _ = write(&lines, errors);
+    }
 }
 
 // What the command line asks for; where it is nothing, what is wrong is printed, and this is the exit status.
@@ -65,6 +91,7 @@ fn words(rt: &HostRuntime) -> io::Result<Vec<String>> {
 #[derive(Clone, Copy)]
 struct Opened<'a> {
     rt: &'a HostRuntime,
+    seen: &'a Seen,
 }
 
 impl System for Opened<'_> {
@@ -75,21 +102,49 @@ impl System for Opened<'_> {
     ghost input = { λ _. None };
 
     fn read_file(&self, alloc: Global, name: &str) -> Result<Vec<u8>, Fault> {
-        read_file(alloc, &mut open(self.rt, name)?)
+        let mut file = Watched {
+            from: open(self.rt, name, self.seen)?,
+            failed: None,
+        };
+        let text = read_file(alloc, &mut file);
+        note(alloc, name, self.seen, &text, file.failed);
+        text
     }
 
     fn read_input(&self, alloc: Global) -> Result<Vec<u8>, Fault> {
-        read_file(alloc, &mut self.rt.stdin())
+        let text = read_file(alloc, &mut self.rt.stdin());
+        note(alloc, "-", self.seen, &text, None);
+        text
     }
 }
 
-fn open(rt: &HostRuntime, name: &str) -> Result<File, Fault>
+fn open(rt: &HostRuntime, name: &str, seen: &Seen) -> Result<File, Fault>
     ensures { IfErr result (λ fault. status_of fault ≡ 3) }
 {
     match File::open(rt, name) {
         Ok(file) => Ok(file),
         Err(error) if error.kind() == ErrorKind::OutOfMemory => Err(Fault::Memory),
-        Err(_) => Err(Fault::Unreadable),
+        Err(error) => {
+            seen.note_unread(rt.alloc(), name, error.kind());
+            Err(Fault::Unreadable)
+        }
+    }
+}
+
+// Notes what comes of reading a file.
+fn note(
+    alloc: Global,
+    name: &str,
+    seen: &Seen,
+    text: &Result<Vec<u8>, Fault>,
+    failed: Option<ErrorKind>,
+) {
+    match text {
+        Ok(text) => seen.note_text(text),
+        Err(Fault::Unreadable) => {
+            seen.note_unread(alloc, name, failed.unwrap_or(ErrorKind::Other));
+        }
+        Err(_) => {}
     }
 }
 

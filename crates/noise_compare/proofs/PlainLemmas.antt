@@ -1,14 +1,14 @@
--- Where the first `trace ` of a line is.
-use Rattle.std.proofs.Common.{◌≡◌, ℕ, zero, suc, ◌+◌, ◌<◌, List, [], ◌∷◌, arith, codes, drop, false, length, refl}
-use Rattle.noise_compare.specs.Plain.{begins, from_trace}
+-- Where the last place of a line is at which a key schedule's line begins.
+use Rattle.std.proofs.Common.{◌≡◌, ℕ, zero, suc, ◌+◌, ◌<◌, List, [], ◌∷◌, arith, drop, length, refl}
+use Rattle.noise_compare.specs.Plain.{last_place_or, place_or}
 
-next_place : (text : List ℕ) (i : ℕ) → i < length text → begins (drop i text) (codes "trace ") ≡ false
-    → from_trace (drop i text) ≡ from_trace (drop (suc i) text)
-next_place [] i h e = absurd (omega arith)
-next_place (b ∷ rest) zero h e = rw e refl
-next_place (b ∷ rest) (suc i) h e = next_place rest i (omega arith) e
+next_place : (text found : List ℕ) (i : ℕ) → i < length text
+    → last_place_or found (drop i text) ≡ last_place_or (place_or (drop i text) found) (drop (suc i) text)
+next_place [] found i h = absurd (omega arith)
+next_place (b ∷ rest) found zero h = refl
+next_place (b ∷ rest) found (suc i) h = next_place rest found i (omega arith)
 
--- a place that doesn't begin with it is passed over
-pub passed_place : (text : List ℕ) (i j : ℕ) → i < length text → j ≡ suc i → begins (drop i text) (codes "trace ") ≡ false
-    → from_trace (drop i text) ≡ from_trace (drop j text)
-passed_place text i j h ej e = rw ej (next_place text i h e)
+-- a place that is looked at is the last so far, or leaves that as it is
+pub passed_place : (text found new : List ℕ) (i j : ℕ) → i < length text → j ≡ suc i → new ≡ place_or (drop i text) found
+    → last_place_or found (drop i text) ≡ last_place_or new (drop j text)
+passed_place text found new i j h ej e = rw (ej, e) (next_place text found i h)

@@ -1,8 +1,9 @@
 -- What is said of the likely mistakes.
 use Rattle.std.specs.Prelude.{◌≡◌, ℕ, ◌==◌, ◌&&◌, ◌||◌, Bool, true, false, not, List, [], ◌∷◌, ◌++◌, Option, Some, None, codes, count_by, drop, find, flat_map, if◌then◌else◌, length, take}
 use Rattle.std.specs.Str.{bytes_eq}
-use Rattle.noise_compare.specs.Finding.{found_mistakes, is_right, refusing_mistakes, tried_mistakes}
+use Rattle.noise_compare.specs.Finding.{found_mistakes, is_right, refusing_mistakes}
 use Rattle.noise_compare.specs.Sentences.{sentence}
+use Rattle.noise_compare.specs.Shown.{shown_text}
 use Rattle.noise_compare.specs.Situations.{IsSituation}
 use Rattle.noise_compare.specs.declared.facts.Facts.{Facts}
 use Rattle.noise_compare.specs.declared.mistake.Mistake.{Mistake}
@@ -11,7 +12,8 @@ use Rattle.noise_compare.specs.declared.state.Logged.{Logged}
 use Rattle.noise_compare.specs.Lines.{is_of_place, is_same_word, word_at, words_in}
 use Rattle.noise_compare.specs.Report.{ended, place_text, value_text}
 use Rattle.noise_compare.specs.Steps.{count_before}
-use Rattle.noise_compare.specs.Values.{AreLogged, has_bytes, is_text, items_of, kind_in, logged_word, word_number}
+use Rattle.noise_compare.specs.Values.{AreLogged, has_bytes, is_text, items_of, kind_in, logged_word}
+use Rattle.noise_compare.specs.Words.{word_number}
 use Rattle.noise_compare.specs.States.{state_fits}
 use Rattle.std.specs.Option.{is_some}
 use Rattle.noise_compare.specs.declared.line.Line.{Line}
@@ -20,26 +22,22 @@ use Rattle.noise_compare.specs.declared.line.Line.{Line}
 unfoldable pub sentences : List Mistake → List ℕ
 sentences mistakes = flat_map (λ mistake. ended (sentence mistake)) mistakes
 
--- likewise, each line after four spaces
-abbrev pub indented : Mistake → List ℕ
-indented mistake = codes "    " ++ ended (sentence mistake)
-
-unfoldable pub indented_sentences : List Mistake → List ℕ
-indented_sentences mistakes = flat_map indented mistakes
-
--- The mistakes that give the logged values; where there is none, those that were tried at this step.
-abbrev pub mistakes_text : Situation → List Mistake → List ℕ
-mistakes_text at [] = ended (codes "none of the mistakes that are tried gives your values")
-    ++ (ended (codes "tried, and excluded:") ++ indented_sentences (tried_mistakes at))
-mistakes_text at (mistake ∷ []) = ended (codes "the mistake that gives your values:") ++ sentences (mistake ∷ [])
-mistakes_text at (mistake ∷ (other ∷ more)) =
+-- The mistakes that give the logged values; where there is none, what the values show.
+abbrev pub mistakes_text : Situation → Logged → List Mistake → List ℕ
+mistakes_text at logged [] = ended (codes "none of the mistakes that are tried gives your values") ++ shown_text at logged
+mistakes_text at logged (mistake ∷ []) = ended (codes "the mistake that gives your values:") ++ sentences (mistake ∷ [])
+mistakes_text at logged (mistake ∷ (other ∷ more)) =
     ended (codes "each of these mistakes gives your values:") ++ sentences (mistake ∷ other ∷ more)
+
+-- what no log shows
+abbrev pub refusing_inputs_text : List ℕ
+refusing_inputs_text = codes "or it decrypts with another key than k, or with other associated data than h: log the key and the associated data that your AEAD takes"
 
 -- the mistakes with which a party refuses what is right
 abbrev pub refusing_text : List Mistake → List ℕ
 refusing_text mistakes =
     ended (codes "if your end refused this message, and got the bytes that are right here, each of these mistakes does it:")
-    ++ (sentences mistakes ++ (ended (codes "or it decrypts with another key than k: log the key that your AEAD takes")
+    ++ (sentences mistakes ++ (ended refusing_inputs_text
     ++ ended (codes "or the AEAD itself: try RFC 8439, 2.8.2")))
 
 -- ---- lines that the log lacks
@@ -127,7 +125,7 @@ hashed_text = ended (codes "only the bytes differ, and h is that of the right on
 
 abbrev pub wrong_text : Bool → Situation → Logged → Line → Line → List ℕ
 wrong_text gap at logged line expected = if is_hashed at logged then hashed_text
-    else bytes_text line expected ++ (if gap then gap_text else mistakes_text at (found_mistakes at logged))
+    else bytes_text line expected ++ (if gap then gap_text else mistakes_text at logged (found_mistakes at logged))
 
 -- no mistake where the values are right, nor where lines of the place are passed over
 abbrev pub advice_text : Bool → Situation → Logged → Line → Line → List ℕ

@@ -42,7 +42,7 @@ prologue_mistakes = Hash hash.LeftOut ∷ Hash hash.LengthInFront ∷ Hash hash.
 
 abbrev pub ephemeral_mistakes : List Mistake
 ephemeral_mistakes = Hash hash.LeftOut ∷ Hash hash.LengthInFront ∷ Hash hash.LengthMixed ∷ Hash hash.DataFirst
-    ∷ Hash hash.KeyLeftOut ∷ Hash hash.KeyMixed ∷ Hash hash.StepsLeftOut ∷ []
+    ∷ Hash hash.KeyLeftOut ∷ Hash hash.KeyMixed ∷ Hash hash.OtherKey ∷ Hash hash.StepsLeftOut ∷ []
 
 abbrev pub agreement_mistakes : List Mistake
 agreement_mistakes = Secret secret.InputsExchanged ∷ Secret secret.OutputsExchanged ∷ Secret secret.Reversed

@@ -1,9 +1,12 @@
 pub mod Advice
 pub mod Cut
 pub mod Differences
+pub mod Equations
 pub mod Finding
 pub mod Findings
+pub mod Holding
 pub mod Keys
+pub mod Known
 pub mod Lines
 pub mod Mixing
 pub mod Plain
@@ -11,9 +14,11 @@ pub mod Reading
 pub mod Report
 pub mod Secrets
 pub mod Sentences
+pub mod Shown
 pub mod Situations
 pub mod States
 pub mod Steps
 pub mod Texts
 pub mod Values
 pub mod Walk
+pub mod Words

@@ -2,6 +2,7 @@
 use Rattle.std.specs.Prelude.{ℕ, ◌==◌, Bool, ◌&&◌, ◌||◌, List, [], codes, map, slice_get, unwrap_or}
 use Rattle.std.specs.List.{slice_split}
 use Rattle.std.specs.Str.{bytes_eq}
+use Rattle.noise_compare.specs.Words.{is_same_in_form}
 use Rattle.noise_compare.specs.declared.line.Line.{Line}
 
 -- the words between spaces
@@ -27,10 +28,11 @@ is_of_place logged right = bytes_eq (word_at (words_in right) 1) (word_at (words
     && bytes_eq (word_at (words_in right) 2) (word_at (words_in logged) 2)
     && bytes_eq (word_at (words_in right) 4) (word_at (words_in logged) 4)
 
--- the logged line has this word of the right one, or `?` for a word that was not logged
+-- the logged line has this word of the right one, in any of its forms, or `?` for a word that was not logged
 abbrev pub is_same_word : Line → Line → ℕ → Bool
 is_same_word logged right i = bytes_eq (word_at (words_in logged) i) (codes "?")
     || bytes_eq (word_at (words_in right) i) (word_at (words_in logged) i)
+    || is_same_in_form i (word_at (words_in right) i) (word_at (words_in logged) i)
 
 -- the bytes, the hash, the chaining key, the key and the nonce
 unfoldable pub has_values : Line → Line → Bool

@@ -18,22 +18,46 @@ begins text front = nat_le (length front) (length text) && bytes_eq (take (lengt
 abbrev pub without : List ℕ → List ℕ → List ℕ
 without word front = if begins word front then drop (length front) word else word
 
--- from the first `trace ` on
-abbrev pub from_trace : List ℕ → List ℕ
-from_trace [] = []
-from_trace (b ∷ rest) = if begins (b ∷ rest) (codes "trace ") then b ∷ rest else from_trace rest
-
 -- a word without `b'`, `0x` and quotes (39)
+abbrev pub bare_word : List ℕ → List ℕ
+bare_word word = filter (λ b. not (b == 39)) (without (without word (codes "b'")) (codes "0x"))
+
+-- a word for no bytes
+unfoldable pub is_none : List ℕ → Bool
+is_none word = bytes_eq word (codes "none") || bytes_eq word (codes "null") || bytes_eq word (codes "nil")
+    || bytes_eq word (codes "(none)")
+
+-- it stands for `-`
 abbrev pub plain_word : List ℕ → List ℕ
-plain_word word = filter (λ b. not (b == 39)) (without (without word (codes "b'")) (codes "0x"))
+plain_word word = if is_none (bare_word word) then codes "-" else bare_word word
 
 -- a line with a further word, after a space if it isn't the first; what stands between two spaces is none
 abbrev pub add_word : List ℕ → List ℕ → List ℕ
 add_word line word = if length word == 0 then line
     else (if length line == 0 then plain_word word else line ++ 32 ∷ plain_word word)
 
+-- a line of plain words, with single spaces
+abbrev pub plain_words : List ℕ → List ℕ
+plain_words text = fold add_word [] (slice_split (λ b. b == 32) (spaced text))
+
+unfoldable pub begins_schedule : List ℕ → Bool
+begins_schedule text = begins text (codes "trace initiator ") || begins text (codes "trace responder ")
+
+-- this text, if it begins as a line of a key schedule, or else another
+abbrev pub place_or : List ℕ → List ℕ → List ℕ
+place_or here other = if begins_schedule here then here else other
+
+-- from the last such place on, or this
+abbrev pub last_place_or : List ℕ → List ℕ → List ℕ
+last_place_or found [] = found
+last_place_or found (b ∷ rest) = last_place_or (place_or (b ∷ rest) found) rest
+
+-- from the last `trace initiator ` or `trace responder ` on
+abbrev pub from_trace : List ℕ → List ℕ
+from_trace text = last_place_or [] text
+
 abbrev pub plain_line : List ℕ → List ℕ
-plain_line text = fold add_word [] (slice_split (λ b. b == 32) (from_trace (spaced text)))
+plain_line text = from_trace (plain_words text)
 
 -- each line of a text, with LF after it
 abbrev pub plain_text : List ℕ → List ℕ

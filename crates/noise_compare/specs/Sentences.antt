@@ -31,7 +31,7 @@ hash_sentence hash.KeyLeftOut =
     codes "MixKey of e is left out: with a psk it follows MixHash at each e, written, read or of a pre-message (9.2)"
 hash_sentence hash.KeyMixed = codes "MixKey of e is called: only a pattern with a psk has it (9.2)"
 hash_sentence hash.OtherKey =
-    codes "MixHash takes another public key of the file: at responder-s both parties hash the responder's (5.3)"
+    codes "MixHash takes another public key of the file: both parties hash the e that is sent, and at responder-s the responder's (5.3)"
 hash_sentence hash.HexDigits = codes "MixHash takes the hex digits as text: it takes the bytes"
 hash_sentence hash.StepsLeftOut = codes "the steps for which your log has no line here are left out, or come later"
 

@@ -1,7 +1,8 @@
 -- The step of a right line, by the facts of its run and the right lines before it.
-use Rattle.std.specs.Prelude.{◌≡◌, ℕ, ◌-◌, ◌==◌, ◌++◌, Bool, not, List, [], Option, codes, find, if◌then◌else◌, option_map, replicate, slice_get, take, unwrap_or}
+use Rattle.std.specs.Prelude.{◌≡◌, ◌⊎◌, ◌≤◌, ℕ, ◌-◌, ◌==◌, ◌++◌, Bool, not, List, [], Option, Some, None, codes, find, if◌then◌else◌, length, option_map, replicate, slice_get, take, unwrap_or}
 use Rattle.std.specs.Str.{bytes_eq}
 use Rattle.sha2.specs.Sha256.{sha256}
+use Rattle.noise_aead.specs.Sealing.{nonce_of, sealed}
 use Rattle.noise_kdf.specs.Hkdf.{first_output}
 use Rattle.noise_compare.specs.Lines.{word_at, words_in}
 use Rattle.noise_compare.specs.Steps.{hashes_in, last_state, states_before, transport_keys}
@@ -52,8 +53,26 @@ data_of facts expected before after bytes = if bytes_eq (word_at (words_in expec
     else (if bytes_eq (word_at (words_in expected) 2) (codes "start")
     then public_among facts.publics.items before after else bytes)
 
--- This is the step of a right line: what it is, the states before and after it, its bytes, its DH result or psk, the
--- hashes before it, the keys of the transport, and what the file has. The log's party has the right lines up to a place.
+-- the text is encrypted to these bytes, under a key and the state before the step (5.1)
+abbrev pub IsOpened : List ℕ → State → List ℕ → List ℕ → Type 0
+IsOpened key before bytes text = bytes ≡ sealed key (nonce_of before.nonce) before.hash text
+
+-- Without a key the text of bytes is they themselves. With one it is what is encrypted to them, if something is; no
+-- message has more than 65535 of them.
+abbrev pub IsWholeText : Option (List ℕ) → State → List ℕ → List ℕ → Type 0
+IsWholeText None before bytes text = text ≡ bytes
+IsWholeText (Some key) before bytes text = IsOpened key before bytes text
+    ⊎ ((text ≡ bytes) × (length bytes ≤ 65535 → (other : List ℕ) → IsOpened key before bytes other → ⊥))
+
+-- the text of a step's bytes, and no more of it than a message has
+pub record IsTextOf (before : State) (bytes text : List ℕ) : Type 0 where
+  pub whole : List ℕ
+  pub whole_is : IsWholeText before.key before bytes whole
+  pub text_is : text ≡ take 65535 whole
+
+-- This is the step of a right line: what it is, the states before and after it, its bytes and their text, its DH result
+-- or psk, the hashes before it, the keys of the transport, and what the file has. The log's party has the right lines up
+-- to a place.
 pub record IsSituation (facts : Facts) (right : List Line) (left : ℕ) (expected : Line) (at : Situation) : Type 0 where
   pub kind : at.kind ≡ kind_in expected
   pub before : at.before ≡ last_state (states_before right expected) (state_in expected)
@@ -62,6 +81,8 @@ pub record IsSituation (facts : Facts) (right : List Line) (left : ℕ) (expecte
   pub bytes : at.bytes.now ≡ word_bytes (word_at (words_in expected) 7)
   pub data_is : at.data.now ≡ take 65535 (data_of facts expected (last_state (states_before right expected) (state_in expected))
       (state_in expected) (word_bytes (word_at (words_in expected) 7)))
+  pub text : IsTextOf (last_state (states_before right expected) (state_in expected))
+      (word_bytes (word_at (words_in expected) 7)) at.text.now
   pub secret : at.secret ≡ secret_of facts (kind_in expected)
       (last_state (states_before right expected) (state_in expected)) (state_in expected)
   pub secrets : at.secrets.now ≡ secrets_of facts (kind_in expected)

@@ -1,5 +1,5 @@
 -- The values that the words of a line stand for.
-use Rattle.std.specs.Prelude.{◌≡◌, ℕ, ◌+◌, ◌-◌, ◌*◌, ◌==◌, ◌&&◌, ◌||◌, Bool, true, false, not, List, [], Option, Some, None, Result, Ok, Err, Vec, codes, fold, if◌then◌else◌, length, nat_le, option_map, replicate, unwrap_or}
+use Rattle.std.specs.Prelude.{◌≡◌, ℕ, ◌||◌, Bool, true, false, not, List, [], Option, Some, None, Result, Ok, Err, Vec, codes, if◌then◌else◌, option_map, replicate, unwrap_or}
 use Rattle.std.specs.Global.{Global}
 use Rattle.std.specs.Str.{bytes_eq}
 use Rattle.hex.specs.Hex.{decode_of, decode_sized}
@@ -9,6 +9,7 @@ use Rattle.noise_compare.specs.declared.state.Kind.TheVariants as kind
 use Rattle.noise_compare.specs.declared.state.Logged.{Logged}
 use Rattle.noise_compare.specs.declared.state.State.{State}
 use Rattle.noise_compare.specs.Lines.{word_at, words_in}
+use Rattle.noise_compare.specs.Words.{is_zero_for_none, word_number}
 use Rattle.noise_compare.specs.declared.line.Line.{Line}
 
 abbrev pub decoded_or : List ℕ → Result (List ℕ) FromHexError → List ℕ
@@ -23,37 +24,23 @@ word_bytes word = if bytes_eq word (codes "-") then [] else decoded_or word (dec
 abbrev pub word_array : List ℕ → List ℕ
 word_array word = decoded_or (replicate 32 0) (decode_sized word 32)
 
--- a number with a further decimal digit (48 is `0`), if 8 bytes hold it
-unfoldable pub add_digit : Option ℕ → ℕ → Option ℕ
-add_digit None digit = None
-add_digit (Some n) digit =
-    if nat_le 48 digit && nat_le digit 57 && nat_le (n * 10 + (digit - 48)) 0xffff_ffff_ffff_ffff
-    then Some (n * 10 + (digit - 48)) else None
-
-abbrev pub word_number : List ℕ → Option ℕ
-word_number word = if length word == 0 then None else fold add_digit (Some 0) word
-
 -- ---- a logged line
-
--- a word for no bytes
-unfoldable pub is_none : List ℕ → Bool
-is_none word = bytes_eq word (codes "-") || bytes_eq word (codes "none") || bytes_eq word (codes "null")
-    || bytes_eq word (codes "nil") || bytes_eq word (codes "(none)")
 
 abbrev pub decoded : Result (List ℕ) FromHexError → Option (List ℕ)
 decoded (Ok bytes) = Some bytes
 decoded (Err e) = None
+
+-- the word for no bytes
+unfoldable pub is_none : List ℕ → Bool
+is_none word = bytes_eq word (codes "-")
 
 -- `?` was not logged, nor is what isn't hex digits compared
 abbrev pub logged_word : List ℕ → Option (List ℕ)
 logged_word word = if is_none word then Some [] else decoded (decode_of word)
 
 -- nor are 32 zero bytes where there is no key
-abbrev pub zero_digits : List ℕ
-zero_digits = codes "0000000000000000000000000000000000000000000000000000000000000000"
-
 abbrev pub logged_key : List ℕ → List ℕ → Option (List ℕ)
-logged_key right word = if bytes_eq right (codes "-") && bytes_eq word zero_digits then None else logged_word word
+logged_key right word = if is_zero_for_none right word then None else logged_word word
 
 -- nor is `-` where each line of a handshake has a value; where the right word is `-` there is none, and any is passed over
 abbrev pub logged_if_any : List ℕ → List ℕ → Option (List ℕ)

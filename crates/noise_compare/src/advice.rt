@@ -1,17 +1,20 @@
 //! What is said of the likely mistakes.
 
 ghost use Rattle.std.specs.Prelude.{◌≡◌, ◌++◌, IfOk, OnOk, codes};
-ghost use Rattle.noise_compare.specs.Finding.{found_mistakes, tried_mistakes};
-ghost use Rattle.noise_compare.specs.Advice.{IsAdvice, advice_text, bytes_text, form_text, gap_text, has_known, has_other_bytes, has_state, hashed_text, is_hashed, is_known, is_known_number, unknown_text, wrong_text, indented, indented_sentences, lacks_state, lacks_value, mistakes_text, refusing_text, sentences};
+ghost use Rattle.noise_compare.specs.Finding.{found_mistakes};
+ghost use Rattle.noise_compare.specs.Advice.{IsAdvice, advice_text, bytes_text, form_text, gap_text, has_known, has_other_bytes, has_state, hashed_text, is_hashed, is_known, is_known_number, unknown_text, wrong_text, lacks_state, lacks_value, mistakes_text, refusing_text, sentences};
 ghost use Rattle.noise_compare.specs.Report.{ended};
+ghost use Rattle.noise_compare.specs.Shown.{shown_text};
 
-use crate::finding::{is_right, mistakes, tried_mistakes};
+use crate::finding::{is_right, mistakes};
 use crate::line::Line;
 use crate::mistake::Mistake;
 use crate::mistake_sentences::sentence;
 use crate::report::push_line;
+use crate::shown::push_shown;
 use crate::state::{Logged, Situation};
-use crate::values::{has_bytes, logged_in, number_in};
+use crate::values::{has_bytes, logged_in};
+use crate::words::number_in;
 use std::alloc::{AllocError, Global};
 
 /// Appends what is said of a logged line at this step, which is that of the right line `expected`.
@@ -207,25 +210,46 @@ fn push_found(
     text: &mut Vec<u8>,
 ) -> Result<(), AllocError>
     ensures { OnOk result (text.new.items
-        ≡ text.old.items ++ mistakes_text at.now (found_mistakes at.now logged.now)) }
+        ≡ text.old.items ++ mistakes_text at.now logged.now (found_mistakes at.now logged.now)) }
 {
     let found = mistakes(alloc, at, logged)?;
-    push_mistakes(alloc, at, &found, text)
+    push_mistakes(alloc, at, logged, &found, text)
 }
 
 fn push_mistakes(
     alloc: Global,
     at: &Situation<'_>,
+    logged: &Logged,
     found: &[Mistake],
     text: &mut Vec<u8>,
 ) -> Result<(), AllocError>
-    ensures { OnOk result (text.new.items ≡ text.old.items ++ mistakes_text at.now found.now) }
+    ensures { OnOk result (text.new.items ≡ text.old.items ++ mistakes_text at.now logged.now found.now) }
 {
     match found {
-        [] => push_excluded(&tried_mistakes(alloc, at)?, text),
+        [] => push_unnamed(
+            alloc,
+            "none of the mistakes that are tried gives your values",
+            at,
+            logged,
+            text,
+        ),
         [_] => push_headed("the mistake that gives your values:", found, text),
         [_, _, ..] => push_headed("each of these mistakes gives your values:", found, text),
     }
+}
+
+// Appends this line, and what the logged values show.
+fn push_unnamed(
+    alloc: Global,
+    head: &str,
+    at: &Situation<'_>,
+    logged: &Logged,
+    text: &mut Vec<u8>,
+) -> Result<(), AllocError>
+    ensures { OnOk result (text.new.items ≡ text.old.items ++ (ended head.now ++ shown_text at.now logged.now)) }
+{
+    push_line(head, text)?;
+    push_shown(alloc, at, logged, text)
 }
 
 /// Appends what is said of the mistakes with which a party refuses what is right.
@@ -238,41 +262,10 @@ pub(crate) fn push_refusing(found: &[Mistake], text: &mut Vec<u8>) -> Result<(),
         text,
     )?;
     push_line(
-        "or it decrypts with another key than k: log the key that your AEAD takes",
+        "or it decrypts with another key than k, or with other associated data than h: log the key and the associated data that your AEAD takes",
         text,
     )?;
     push_line("or the AEAD itself: try RFC 8439, 2.8.2", text)
-}
-
-// That none of these mistakes gives the logged values.
-fn push_excluded(tried: &[Mistake], text: &mut Vec<u8>) -> Result<(), AllocError>
-    ensures { OnOk result (text.new.items ≡ text.old.items
-        ++ (ended (codes "none of the mistakes that are tried gives your values")
-        ++ (ended (codes "tried, and excluded:") ++ indented_sentences tried.now))) }
-{
-    push_line(
-        "none of the mistakes that are tried gives your values",
-        text,
-    )?;
-    push_line("tried, and excluded:", text)?;
-    push_indented(tried, text)
-}
-
-#[tactic(auto, unfolding(crate::specs::Advice::indented_sentences))]
-fn push_indented(mistakes: &[Mistake], text: &mut Vec<u8>) -> Result<(), AllocError>
-    ensures { OnOk result (text.new.items ≡ text.old.items ++ indented_sentences mistakes.now) }
-{
-    for mistake in mistakes {
-        push_one_indented(*mistake, text)?;
-    }
-    Ok(())
-}
-
-fn push_one_indented(mistake: Mistake, text: &mut Vec<u8>) -> Result<(), AllocError>
-    ensures { OnOk result (text.new.items ≡ text.old.items ++ indented mistake) }
-{
-    text.extend_from_slice(b"    ".as_slice())?;
-    push_line(sentence(mistake), text)
 }
 
 fn push_headed(head: &str, mistakes: &[Mistake], text: &mut Vec<u8>) -> Result<(), AllocError>

@@ -166,13 +166,14 @@ static DATA: [Mistake; 6] = [
     Mistake::Hash(HashMistake::StepsLeftOut),
 ];
 
-static EPHEMERAL: [Mistake; 7] = [
+static EPHEMERAL: [Mistake; 8] = [
     Mistake::Hash(HashMistake::LeftOut),
     Mistake::Hash(HashMistake::LengthInFront),
     Mistake::Hash(HashMistake::LengthMixed),
     Mistake::Hash(HashMistake::DataFirst),
     Mistake::Hash(HashMistake::KeyLeftOut),
     Mistake::Hash(HashMistake::KeyMixed),
+    Mistake::Hash(HashMistake::OtherKey),
     Mistake::Hash(HashMistake::StepsLeftOut),
 ];
 

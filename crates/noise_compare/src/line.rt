@@ -5,6 +5,7 @@ ghost use Rattle.std.specs.List.{slice_split};
 ghost use Rattle.std.specs.Str.{bytes_eq};
 ghost use Rattle.noise_compare.specs.Lines.{has_values, is_of_place, is_of_schedule, is_same_word, word_at, words_in, line_words};
 
+use crate::words::is_same_in_form;
 use std::alloc::{AllocError, Global};
 
 /// A line of a key schedule, in the words of `trace`: `trace`, role, part, number, name, call, place and bytes in the
@@ -62,11 +63,13 @@ impl<'a> Line<'a> {
             && self.word(4) == logged.word(4)
     }
 
-    /// Whether a logged line has this word, or `?` in its place.
+    /// Whether a logged line has this word, in any of its forms, or `?` in its place.
     pub fn is_same(&self, logged: &Line<'_>, place: usize) -> bool
         ensures { result ≡ is_same_word logged.now self.now place }
     {
-        logged.word(place) == b"?".as_slice() || self.word(place) == logged.word(place)
+        logged.word(place) == b"?".as_slice()
+            || self.word(place) == logged.word(place)
+            || is_same_in_form(place, self.word(place), logged.word(place))
     }
 
     /// Whether its bytes, hash, chaining key, key and nonce are those of a logged line.

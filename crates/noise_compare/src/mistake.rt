@@ -28,7 +28,7 @@ pub enum HashMistake {
     KeyLeftOut,
     /// At `e`, of a pre-message too: MixKey is called where the pattern has no psk.
     KeyMixed,
-    /// At a static key of a pre-message: MixHash takes another public key of the file.
+    /// At `e`, and at a static key of a pre-message: MixHash takes another public key of the file.
     OtherKey,
     /// At the prologue: MixHash takes its hex digits as text.
     HexDigits,

@@ -53,7 +53,8 @@ fn hash_sentence(mistake: HashMistake) -> &'static str
         }
         HashMistake::KeyMixed => "MixKey of e is called: only a pattern with a psk has it (9.2)",
         HashMistake::OtherKey => {
-            "MixHash takes another public key of the file: at responder-s both parties hash the responder's (5.3)"
+            "MixHash takes another public key of the file: both parties hash the e that is sent, \
+                and at responder-s the responder's (5.3)"
         }
         HashMistake::HexDigits => "MixHash takes the hex digits as text: it takes the bytes",
         HashMistake::StepsLeftOut => {

@@ -1,9 +1,10 @@
 //! The step of a right line, with what comes before it.
 
-ghost use Rattle.std.specs.Prelude.{◌≡◌, ◌≤◌, ◌++◌, IfOk, find, length, option_copied, take, vec_len};
+ghost use Rattle.std.specs.Prelude.{◌≡◌, ◌≤◌, ◌++◌, ℕ, List, Some, IfNone, IfOk, IfSome, find, length, option_copied, take, vec_len};
 ghost use Rattle.sha2.specs.Sha256.{sha256};
+ghost use Rattle.noise_aead.specs.Sealing.{sealed};
 ghost use Rattle.noise_compare.specs.Lines.{word_at, words_in};
-ghost use Rattle.noise_compare.specs.Situations.{IsSituation, agreed_state, data_of, gives_chaining_key, gives_hash, public_among, secret_among, secret_of, secrets_of};
+ghost use Rattle.noise_compare.specs.Situations.{IsOpened, IsSituation, IsTextOf, IsWholeText, agreed_state, data_of, gives_chaining_key, gives_hash, public_among, secret_among, secret_of, secrets_of};
 ghost use Rattle.noise_compare.specs.Steps.{hashes_in, last_state, states_before, transport_keys};
 ghost use Rattle.noise_compare.specs.Values.{kind_in, state_in, word_bytes};
 
@@ -13,6 +14,7 @@ use crate::mixing::mixed;
 use crate::state::{Kind, Situation, State};
 use crate::steps::{hashes_in, last_state, states_before, transport_keys};
 use crate::values::{bytes_in, kind_in, state_in};
+use noise_aead::laws::length_of_sealed;
 use noise_aead::{nonce, open_in_place};
 use noise_kdf::expand2;
 use std::alloc::{AllocError, Global};
@@ -52,6 +54,8 @@ impl Parts {
         ensures data_is { IfOk result (λ parts. parts.data.items ≡ take 65535 (data_of facts.now expected.now
             (last_state (states_before right.now expected.now) (state_in expected.now)) (state_in expected.now)
             (word_bytes (word_at (words_in expected.now) 7)))) }
+        ensures text { IfOk result (λ parts. IsTextOf (last_state (states_before right.now expected.now)
+            (state_in expected.now)) (word_bytes (word_at (words_in expected.now) 7)) parts.text.items) }
         ensures secret { IfOk result (λ parts. parts.secret ≡ secret_of facts.now (kind_in expected.now)
             (last_state (states_before right.now expected.now) (state_in expected.now)) (state_in expected.now)) }
         ensures hashes { IfOk result (λ parts. parts.hashes.items ≡ hashes_in (states_before right.now expected.now)) }
@@ -89,6 +93,7 @@ impl Parts {
         ensures right { result.right ≡ self.now.right }
         ensures bytes { result.bytes.now ≡ self.now.bytes.items }
         ensures data_is { result.data.now ≡ self.now.data.items }
+        ensures text_is { result.text.now ≡ self.now.text.items }
         ensures secret { result.secret ≡ self.now.secret }
         ensures secrets { result.secrets.now ≡ secrets_of facts.now self.now.kind }
         ensures name { result.name.now ≡ facts.now.name.items }
@@ -196,31 +201,102 @@ fn gives_hash(before: &State, after: &State, key: &[u8; 32]) -> bool
     hash.as_slice() == after.hash.as_slice()
 }
 
-// Likewise of the text.
+// Likewise of the text of a step's bytes.
 fn short_text(alloc: Global, before: &State, bytes: &[u8]) -> Result<Vec<u8>, AllocError>
-    ensures { IfOk result (λ v. vec_len v ≤ 65535) }
+    ensures text { IfOk result (λ v. IsTextOf before.now bytes.now v.items) }
+    ensures short { IfOk result (λ v. vec_len v ≤ 65535) }
 {
-    let mut text = text_of(alloc, before, bytes)?;
+    let mut text = text_of(alloc, &before.key, before, bytes)?;
     text.truncate(65535);
     Ok(text)
 }
 
-// The plain text of bytes, or the bytes where they aren't encrypted.
-fn text_of(alloc: Global, before: &State, bytes: &[u8]) -> Result<Vec<u8>, AllocError> {
+// The text of bytes, or the bytes where they aren't encrypted.
+fn text_of(
+    alloc: Global,
+    key: &Option<[u8; 32]>,
+    before: &State,
+    bytes: &[u8],
+) -> Result<Vec<u8>, AllocError>
+    ensures { IfOk result (λ v. IsWholeText key.now before.now bytes.now v.items) }
+{
+    match key {
+        Some(key) => text_under(alloc, key, before, bytes),
+        None => Vec::from_slice(alloc, bytes),
+    }
+}
+
+fn text_under(
+    alloc: Global,
+    key: &[u8; 32],
+    before: &State,
+    bytes: &[u8],
+) -> Result<Vec<u8>, AllocError>
+    ensures { IfOk result (λ v. IsWholeText (Some key.now) before.now bytes.now v.items) }
+{
     let whole = Vec::from_slice(alloc, bytes)?;
-    let Some(key) = before.key else {
-        return Ok(whole);
-    };
-    let end = bytes.len().saturating_sub(16);
-    if bytes.len() - end != 16 || bytes.len() > 65535 {
+    let len = bytes.len();
+    if len > 65535 {
         return Ok(whole);
     }
-    let mut text = Vec::from_slice(alloc, &bytes[..end])?;
+    let found = opened(alloc, key, before, bytes)?;
+    match found {
+        Some(text) => Ok(text),
+        None => Ok(whole),
+    }
+}
+
+// What is encrypted to these bytes, if something is.
+fn opened(
+    alloc: Global,
+    key: &[u8; 32],
+    before: &State,
+    bytes: &[u8],
+) -> Result<Option<Vec<u8>>, AllocError>
+    requires few { length bytes.now ≤ 65535 }
+    ensures opened { IfOk result
+        (λ found. IfSome found (λ text. IsOpened key.now before.now bytes.now text.items)) }
+    ensures none { IfOk result
+        (λ found. IfNone found ((text : List ℕ) → IsOpened key.now before.now bytes.now text → ⊥)) }
+{
+    let len = bytes.len();
+    if len < 16 {
+        length_of_sealed();
+        return Ok(None);
+    }
+    let end = len - 16;
     let mut tag = [0; 16];
     tag.copy_from_slice(&bytes[end..]);
-    match open_in_place(&key, &nonce(before.nonce), &before.hash, &mut text, &tag) {
-        Ok(()) => Ok(text),
-        Err(_) => Ok(whole),
+    opened_by(
+        alloc,
+        key,
+        &nonce(before.nonce),
+        &before.hash,
+        &bytes[..end],
+        &tag,
+    )
+}
+
+// What is encrypted to these bytes with this tag, if something is.
+fn opened_by(
+    alloc: Global,
+    key: &[u8; 32],
+    nonce: &[u8; 12],
+    ad: &[u8],
+    front: &[u8],
+    tag: &[u8; 16],
+) -> Result<Option<Vec<u8>>, AllocError>
+    requires ad_fits { length ad.now ≤ 65535 }
+    requires front_fits { length front.now ≤ 65535 }
+    ensures opened { IfOk result (λ found. IfSome found
+        (λ text. front.now ++ tag.now ≡ sealed key.now nonce.now ad.now text.items)) }
+    ensures none { IfOk result (λ found. IfNone found
+        ((text : List ℕ) → front.now ++ tag.now ≡ sealed key.now nonce.now ad.now text → ⊥)) }
+{
+    let mut text = Vec::from_slice(alloc, front)?;
+    match open_in_place(key, nonce, ad, &mut text, tag) {
+        Ok(()) => Ok(Some(text)),
+        Err(_) => Ok(None),
     }
 }
 

@@ -2,13 +2,13 @@
 
 ghost use Rattle.std.specs.Prelude.{◌≡◌, ◌≤◌, ◌==◌, ◌&&◌, ◌++◌, not, IfOk, OnOk, count_by, drop, length, map, slice_range};
 ghost use Rattle.std.specs.List.{filter, slice_split};
-ghost use Rattle.noise_compare.specs.Plain.{add_word, begins, from_trace, is_written, skipped_line, skipped_text, plain_byte, plain_line, plain_text, plain_word, spaced, without, written_lines};
+ghost use Rattle.noise_compare.specs.Plain.{add_word, bare_word, begins, begins_schedule, from_trace, is_none, is_written, place_or, skipped_line, skipped_text, plain_byte, plain_line, plain_text, plain_word, plain_words, spaced, without, written_lines};
 
 use crate::line::parts;
 use std::alloc::{AllocError, Global};
 
-/// The lines of a log, each as `trace` prints it: from its word `trace` on, with single spaces, in lower case, and
-/// without `0x` and the quotes of `b'..'`.
+/// The lines of a log, each as `trace` prints it: from the last `trace initiator` or `trace responder` on, with single
+/// spaces, in lower case, without `0x` and the quotes of `b'..'`, and with `-` for `none`, `null`, `nil` and `(none)`.
 pub fn plain_text(alloc: Global, text: &[u8]) -> Result<Vec<u8>, AllocError>
     ensures { IfOk result (λ plain. plain.items ≡ plain_text text.now) }
 {
@@ -26,8 +26,16 @@ pub fn plain_text(alloc: Global, text: &[u8]) -> Result<Vec<u8>, AllocError>
 pub(crate) fn plain_line(alloc: Global, text: &[u8]) -> Result<Vec<u8>, AllocError>
     ensures { IfOk result (λ line. line.items ≡ plain_line text.now) }
 {
+    let line = plain_words(alloc, text)?;
+    Vec::from_slice(alloc, from_trace(&line))
+}
+
+// A line of plain words, with single spaces.
+fn plain_words(alloc: Global, text: &[u8]) -> Result<Vec<u8>, AllocError>
+    ensures { IfOk result (λ line. line.items ≡ plain_words text.now) }
+{
     let text = spaced(alloc, text)?;
-    let words = parts(alloc, from_trace(&text), b' ')?;
+    let words = parts(alloc, &text, b' ')?;
     let mut line = Vec::new(alloc);
     for word in words.iter() {
         add_word(alloc, *word, &mut line)?;
@@ -35,8 +43,8 @@ pub(crate) fn plain_line(alloc: Global, text: &[u8]) -> Result<Vec<u8>, AllocErr
     Ok(line)
 }
 
-// The text in lower case, with spaces for tabs and carriage returns, and full stops for bytes that aren't printed.
-fn spaced(alloc: Global, text: &[u8]) -> Result<Vec<u8>, AllocError>
+/// The text in lower case, with spaces for tabs and carriage returns, and full stops for bytes that aren't printed.
+pub(crate) fn spaced(alloc: Global, text: &[u8]) -> Result<Vec<u8>, AllocError>
     ensures { IfOk result (λ v. v.items ≡ spaced text.now) }
 {
     text.iter().map(|b| plain_byte(*b)).collect(alloc)
@@ -54,23 +62,31 @@ fn plain_byte(b: u8) -> u8
     }
 }
 
-// The text from `trace ` on, or nothing where it has none.
+// The text from the last `trace initiator ` or `trace responder ` on, or nothing where it has none.
 fn from_trace(text: &[u8]) -> &[u8]
     ensures { result.now ≡ from_trace text.now }
 {
+    let mut found: &[u8] = &[];
     for i in 0..text.len() {
-        if begins_at(text, i, b"trace ") {
-            return &text[i..];
-        }
+        found = place_or(text, i, found);
     }
-    &[]
+    found
 }
 
-fn begins_at(text: &[u8], i: usize, front: &[u8]) -> bool
+// The text from this place on, if a line of a key schedule begins there, or else this.
+fn place_or<'a>(text: &'a [u8], i: usize, found: &'a [u8]) -> &'a [u8]
     requires within { i ≤ length text.now }
-    ensures value { result ≡ begins (drop i text.now) front.now }
+    ensures value { result.now ≡ place_or (drop i text.now) found.now }
 {
-    begins(&text[i..], front)
+    let here = &text[i..];
+    if begins_schedule(here) { here } else { found }
+}
+
+#[tactic(auto, unfolding(crate::specs::Plain::begins_schedule))]
+fn begins_schedule(text: &[u8]) -> bool
+    ensures { result ≡ begins_schedule text.now }
+{
+    begins(text, b"trace initiator ") || begins(text, b"trace responder ")
 }
 
 fn begins(text: &[u8], front: &[u8]) -> bool
@@ -102,9 +118,30 @@ fn add_word(alloc: Global, word: &[u8], line: &mut Vec<u8>) -> Result<(), AllocE
     line.extend_from_slice(&plain)
 }
 
-// A word without `b'`, `0x` and quotes.
+// A word without `b'`, `0x` and quotes, and `-` for one that stands for no bytes.
 fn plain_word(alloc: Global, word: &[u8]) -> Result<Vec<u8>, AllocError>
     ensures { IfOk result (λ v. v.items ≡ plain_word word.now) }
+{
+    let bare = bare_word(alloc, word)?;
+    if is_none(&bare) {
+        return Vec::from_slice(alloc, b"-".as_slice());
+    }
+    Ok(bare)
+}
+
+#[tactic(auto, unfolding(crate::specs::Plain::is_none))]
+fn is_none(word: &[u8]) -> bool
+    ensures { result ≡ is_none word.now }
+{
+    word == b"none".as_slice()
+        || word == b"null".as_slice()
+        || word == b"nil".as_slice()
+        || word == b"(none)".as_slice()
+}
+
+// A word without `b'`, `0x` and quotes.
+fn bare_word(alloc: Global, word: &[u8]) -> Result<Vec<u8>, AllocError>
+    ensures { IfOk result (λ v. v.items ≡ bare_word word.now) }
 {
     let bare = without(without(word, b"b'"), b"0x");
     bare.iter().copied().filter(|b| *b != 39).collect(alloc)

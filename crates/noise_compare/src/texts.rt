@@ -286,7 +286,7 @@ fn bytes_fit(at: &Situation<'_>, logged: &Logged, bytes: &[u8]) -> bool
     logged.fits(bytes, &hashed(at, bytes))
 }
 
-fn without_tag(bytes: &[u8]) -> &[u8]
+pub(crate) fn without_tag(bytes: &[u8]) -> &[u8]
     ensures { result.now ≡ without_tag bytes.now }
 {
     let end = bytes.len().saturating_sub(16);

@@ -2,15 +2,13 @@
 
 ghost use Rattle.std.specs.Prelude.{◌≡◌, IfOk};
 ghost use Rattle.noise_compare.specs.Lines.{word_at, words_in};
-ghost use Rattle.noise_compare.specs.Values.{AreLogged, add_digit, agreement_or_text, has_bytes, is_none, is_text, items_of, kind_by, kind_in, logged_bytes, logged_if_any, logged_key, logged_word, start_kind, state_in, token_kind, transport_kind, word_array, word_bytes, word_key, word_number};
+ghost use Rattle.noise_compare.specs.Values.{AreLogged, agreement_or_text, has_bytes, is_none, is_text, items_of, kind_by, kind_in, logged_bytes, logged_if_any, logged_key, logged_word, start_kind, state_in, token_kind, transport_kind, word_array, word_bytes, word_key};
 
 use crate::line::Line;
 use crate::state::{Kind, Logged, State};
+use crate::words::{is_zero_for_none, number_in};
 use hex::FromHexError;
 use std::alloc::{AllocError, Global};
-
-/// A key of zeros.
-const ZERO_DIGITS: &[u8; 64] = b"0000000000000000000000000000000000000000000000000000000000000000";
 
 /// The bytes of a word of hex digits, and none of `-`; of any other word the word's own.
 pub(crate) fn bytes_in(alloc: Global, word: &[u8]) -> Result<Vec<u8>, AllocError>
@@ -51,23 +49,19 @@ pub(crate) fn logged_in(alloc: Global, word: &[u8]) -> Result<Option<Vec<u8>>, A
     }
 }
 
-/// Whether it is a word for no bytes.
+// Whether it is the word for no bytes.
 #[tactic(auto, unfolding(crate::specs::Values::is_none))]
-pub(crate) fn is_none(word: &[u8]) -> bool
+fn is_none(word: &[u8]) -> bool
     ensures { result ≡ is_none word.now }
 {
     word == b"-".as_slice()
-        || word == b"none".as_slice()
-        || word == b"null".as_slice()
-        || word == b"nil".as_slice()
-        || word == b"(none)".as_slice()
 }
 
 // Likewise of a key, where this is the right one: 32 zero bytes may stand for none.
 fn logged_key(alloc: Global, right: &[u8], word: &[u8]) -> Result<Option<Vec<u8>>, AllocError>
     ensures { IfOk result (λ value. items_of value ≡ logged_key right.now word.now) }
 {
-    if right == b"-".as_slice() && word == ZERO_DIGITS.as_slice() {
+    if is_zero_for_none(right, word) {
         Ok(None)
     } else {
         logged_in(alloc, word)
@@ -112,40 +106,6 @@ pub(crate) fn is_text(kind: Kind) -> bool
     ensures { result ≡ is_text kind }
 {
     matches!(kind, Kind::Text)
-}
-
-pub(crate) fn number_in(word: &[u8]) -> Option<u64>
-    ensures { result ≡ word_number word.now }
-{
-    if word.len() == 0 {
-        return None;
-    }
-    let mut number = Some(0);
-    for digit in word {
-        number = add_digit(number, *digit);
-    }
-    number
-}
-
-// A number with a further digit, if 8 bytes hold it.
-#[tactic(auto, unfolding(crate::specs::Values::add_digit))]
-fn add_digit(number: Option<u64>, digit: u8) -> Option<u64>
-    ensures { result ≡ add_digit number digit }
-{
-    match number {
-        None => None,
-        Some(number) => {
-            if digit < 48 || 57 < digit {
-                return None;
-            }
-            let next = u128::from(number) * 10 + u128::from(digit - 48);
-            if next <= 0xffff_ffff_ffff_ffff {
-                Some(next as u64)
-            } else {
-                None
-            }
-        }
-    }
 }
 
 /// The state of a right line.

@@ -1,19 +1,25 @@
 -- What explanations say.
 use Rattle.std.proofs.Common.{◌≡◌, ◌∙◌, ◌≤◌, ap, inl, inr, subst, sym, ℕ, List, ◌++◌, append_assoc, arith}
-use Rattle.std.specs.Prelude.{IfOk, Result, Ok, Err}
+use Rattle.std.specs.Prelude.{IfOk, IsTrue, Result, Ok, Err, [], flat_map}
+use Rattle.std.specs.List.{list_all}
 use Rattle.std.specs.declared.alloc.AllocError.{AllocError}
+use Rattle.noise_lines.specs.Faults.{status_of}
 use Rattle.noise_lines.specs.Output.{IsCheckFault}
+use Rattle.noise_lines.specs.PrintedWords.{is_printed_byte}
+use Rattle.noise_lines.specs.declared.faults.Fault.{Fault}
 use Rattle.noise_lines.specs.declared.faults.Fault.TheVariants.{Rule, Text}
 use Rattle.noise_names.specs.declared.faults.RuleFault.{RuleFault}
 use Rattle.noise_names.specs.declared.faults.TextFault.{TextFault}
 use Rattle.noise_names.specs.Plan.{Plan}
 use Rattle.noise_names.specs.Text.{Spells}
 use Rattle.noise_names.specs.Validity.{IsValid}
-use Rattle.noise_explain.specs.Explained.{AreTwo, IsExplained, SaysWrong}
+use Rattle.noise_explain.specs.Corrections.{AreCorrection, IsFirst}
+use Rattle.noise_explain.specs.Explained.{IsExplained, IsRuleTold, IsTextTold, IsTold, SaysWrong}
 use Rattle.noise_explain.specs.Facts.{facts_text}
 use Rattle.noise_explain.specs.Positions.{IsColumn, line_at}
 use Rattle.noise_explain.specs.RulePlaces.{IsRulePlace}
-use Rattle.noise_explain.specs.Shown.{caret_text, right_head, wrong_head}
+use Rattle.noise_explain.specs.RuleWords.{rule_lines}
+use Rattle.noise_explain.specs.Shown.{caret_text, right_head, sentence_line, wrong_head}
 use Rattle.noise_explain.specs.declared.explanation.Explained.{Explained}
 use Rattle.noise_explain.specs.declared.position.Position.{Position}
 
@@ -41,33 +47,55 @@ wrong-said name text (Err e) said = tt
 whole : (items head caret line_caret told : List ℕ) → items ≡ (head ++ caret) ++ told → caret ≡ line_caret → items ≡ head ++ (line_caret ++ told)
 whole items head caret line_caret told is same = is ∙ append_assoc head caret told ∙ ap (λ (t : List ℕ). head ++ (t ++ told)) same
 
-pub text-wrong : (name text line : List ℕ) (fault : TextFault) (position : Position) (e : Explained) (caret told : List ℕ) → IsCheckFault text (Text fault)
-    → position.line ≡ fault.line → line ≡ line_at text fault.line → IsColumn fault.kind fault.line line position.column → e.status ≡ 2
-    → e.text.items ≡ (wrong_head name position (Text fault) ++ caret) ++ told → caret ≡ caret_text line position.column
-    → ((two rest : List ℕ) × AreTwo two × (told ≡ two ++ rest)) → SaysWrong name text e
-text-wrong name text line fault position e caret told wrong number line_is column status is caret_is two = record {
-  fault = Text fault;
+-- ---- the first fault of a text, and where it stands
+
+pub text-first : (text line : List ℕ) (fault : TextFault) (position : Position) → IsCheckFault text (Text fault) → position.line ≡ fault.line
+    → line ≡ line_at text fault.line → IsColumn fault.kind fault.line line position.column → IsFirst text (Text fault) position
+text-first text line fault position wrong number line_is column = record {
   wrong = wrong;
-  position = position;
   at = (number, subst (λ (l : List ℕ). IsColumn fault.kind fault.line l position.column) line_is column);
-  status_is = status;
-  told = told;
-  is_told = two;
-  text_is = whole e.text.items (wrong_head name position (Text fault)) caret _ told is
-      (caret_is ∙ ap (λ (l : List ℕ). caret_text l position.column) (line_is ∙ ap (line_at text) (sym number)));
 }
 
-pub rule-wrong : (name text line : List ℕ) (p : Plan) (fault : RuleFault) (position : Position) (e : Explained) (caret told : List ℕ) → Spells text p
-    → IsCheckFault text (Rule fault) → IsRulePlace p fault position → e.status ≡ 1
-    → e.text.items ≡ (wrong_head name position (Rule fault) ++ caret) ++ told → caret ≡ caret_text line position.column → line ≡ line_at text position.line
-    → SaysWrong name text e
-rule-wrong name text line p fault position e caret told spells wrong at status is caret_is line_is = record {
-  fault = Rule fault;
-  wrong = wrong;
+pub rule-first : (text : List ℕ) (p : Plan) (fault : RuleFault) (position : Position) → Spells text p → IsCheckFault text (Rule fault)
+    → IsRulePlace p fault position → IsFirst text (Rule fault) position
+rule-first text p fault position spells wrong place = record { wrong = wrong; at = (p, spells, place) }
+
+-- such a fault is told
+pub fault-said : (name text line : List ℕ) (fault : Fault) (position : Position) (e : Explained) (caret told : List ℕ) → IsFirst text fault position
+    → e.status ≡ status_of fault → e.text.items ≡ (wrong_head name position fault ++ caret) ++ told → caret ≡ caret_text line position.column
+    → line ≡ line_at text position.line → IsTold text fault told → SaysWrong name text e
+fault-said name text line fault position e caret told first status is caret_is line_is is_told = record {
+  fault = fault;
+  wrong = first.wrong;
   position = position;
-  at = (p, spells, at);
+  at = first.at;
   status_is = status;
   told = told;
-  is_told = tt;
-  text_is = whole e.text.items (wrong_head name position (Rule fault)) caret _ told is (caret_is ∙ ap (λ (l : List ℕ). caret_text l position.column) line_is);
+  is_told = is_told;
+  text_is = whole e.text.items (wrong_head name position fault) caret _ told is (caret_is ∙ ap (λ (l : List ℕ). caret_text l position.column) line_is);
 }
+
+-- what is wrong, what corrects it, and what follows
+pub text-told : (text says found rows more one two items : List ℕ) → IsTrue (list_all is_printed_byte says) → AreCorrection text found → rows ≡ found
+    → one ≡ [] ++ sentence_line says → two ≡ one ++ rows → items ≡ two ++ more → IsTextTold text items
+text-told text says found rows more one two items printed correct rows_is one_is two_is items_is = record {
+  says = says;
+  says_is = printed;
+  rows = rows;
+  correct = subst (AreCorrection text) (sym rows_is) correct;
+  more = more;
+  told_is = items_is ∙ ap (λ (t : List ℕ). t ++ more) (two_is ∙ ap (λ (t : List ℕ). t ++ rows) one_is) ∙ append_assoc (sentence_line says) rows more;
+}
+
+pub rule-told : (text found rows one two items : List ℕ) (p : Plan) (fault : RuleFault) (others : List RuleFault) → Spells text p → AreCorrection text found
+    → rows ≡ found → one ≡ rule_lines p fault → two ≡ one ++ rows → items ≡ two ++ flat_map (rule_lines p) others → IsRuleTold text fault items
+rule-told text found rows one two items p fault others spells correct rows_is one_is two_is items_is =
+    let more : List ℕ = flat_map (rule_lines p) others in
+    record {
+      p = p;
+      spells = spells;
+      rows = rows;
+      correct = subst (AreCorrection text) (sym rows_is) correct;
+      others = others;
+      told_is = items_is ∙ ap (λ (t : List ℕ). t ++ more) (two_is ∙ ap (λ (t : List ℕ). t ++ rows) one_is) ∙ append_assoc (rule_lines p fault) rows more;
+    }

@@ -1,7 +1,9 @@
+pub mod CorrectionLemmas
 pub mod CountLemmas
 pub mod ExplainedLemmas
 pub mod FactLemmas
 pub mod FileLemmas
+pub mod FixLemmas
 pub mod FrameLemmas
 pub mod KeyLineLemmas
 pub mod PositionLemmas

@@ -1,6 +1,6 @@
 -- What is appended, line by line.
 use Rattle.std.proofs.Common.{◌≡◌, ◌∙◌, refl, sym, ap, ℕ, ◌+◌, Bool, true, false, cond, eqb, List, [], ◌∷◌, ◌++◌, length, codes, append_assoc, arith, Result, Ok, Err, OnOk}
-use Rattle.std.specs.Prelude.{if◌then◌else◌, is_ok}
+use Rattle.std.specs.Prelude.{IfOk, if◌then◌else◌, is_ok}
 use Rattle.std.proofs.lemmas.Bool.Decides.{nat_tests}
 use Rattle.noise_names.specs.declared.token.Role.TheVariants.{Initiator, Responder}
 use Rattle.noise_names.specs.declared.token.Token.{Token}
@@ -45,6 +45,12 @@ seven old n1 n2 n3 n4 n5 n6 n7 a b c d e f g e1 e2 e3 e4 e5 e6 e7 =
 pub on-ok : {T E : Type 0} (r : Result T E) (n a b x : List ℕ) → n ≡ (if is_ok r then a else b) → (n ≡ a → n ≡ x) → OnOk r (n ≡ x)
 on-ok (Ok u) n a b x h f = f h
 on-ok (Err e) n a b x h f = tt
+
+-- a text in other words
+pub same-text : {T E : Type 0} (bytes_of : T → List ℕ) (r : Result T E) (had wanted : List ℕ) → IfOk r (λ s. bytes_of s ≡ had) → had ≡ wanted
+    → IfOk r (λ s. bytes_of s ≡ wanted)
+same-text bytes_of (Ok s) had wanted is same = is ∙ same
+same-text bytes_of (Err e) had wanted is same = tt
 
 -- the lines before the psks
 pub head-pushed : (given : List Given) (p : Plan) (old n1 n2 n3 n4 n5 n6 n7 a b e f : List ℕ) → a ≡ codes "vector 1\nprotocol " → b ≡ name_bytes (name_of p)

@@ -1,6 +1,7 @@
 -- What an explanation of a text says.
-use Rattle.std.specs.Prelude.{⊤, ◌≡◌, ◌⊎◌, ℕ, List, ◌++◌, IsTrue}
+use Rattle.std.specs.Prelude.{◌≡◌, ◌⊎◌, ℕ, List, ◌++◌, IsTrue, flat_map}
 use Rattle.std.specs.List.{list_all}
+use Rattle.noise_names.specs.declared.faults.RuleFault.{RuleFault}
 use Rattle.noise_names.specs.Plan.{Plan}
 use Rattle.noise_names.specs.Text.{Spells}
 use Rattle.noise_names.specs.Validity.{IsValid}
@@ -9,9 +10,11 @@ use Rattle.noise_lines.specs.Output.{IsCheckFault}
 use Rattle.noise_lines.specs.PrintedWords.{is_printed_byte}
 use Rattle.noise_lines.specs.declared.faults.Fault.{Fault}
 use Rattle.noise_lines.specs.declared.faults.Fault.TheVariants.{Rule, Text, TooLong}
+use Rattle.noise_explain.specs.Corrections.{AreCorrection}
 use Rattle.noise_explain.specs.Facts.{facts_text}
-use Rattle.noise_explain.specs.Positions.{IsColumn, line_at}
-use Rattle.noise_explain.specs.RulePlaces.{IsRulePlace}
+use Rattle.noise_explain.specs.FaultPlaces.{IsAt}
+use Rattle.noise_explain.specs.Positions.{line_at}
+use Rattle.noise_explain.specs.RuleWords.{rule_lines}
 use Rattle.noise_explain.specs.Shown.{caret_text, right_head, sentence_line, unread_head, wrong_head}
 use Rattle.noise_explain.specs.declared.explanation.Explained.{Explained}
 use Rattle.noise_explain.specs.declared.position.Position.{Position}
@@ -30,19 +33,31 @@ pub record AreTwo (text : List ℕ) : Type 0 where
   pub mends_is : IsTrue (list_all is_printed_byte mends)
   pub text_is : text ≡ sentence_line says ++ sentence_line mends
 
--- what is said of a fault that reading finds begins with what is wrong and what mends it; other faults may follow
-abbrev pub IsTold : Fault → List ℕ → Type 0
-IsTold (Text fault) told = (two rest : List ℕ) × AreTwo two × (told ≡ two ++ rest)
-IsTold fault told = ⊤
+-- What is said of a fault of this text. Of one that reading finds: what is wrong; of a broken rule: the place, and what
+-- is wrong there. Then come the changes that correct it, where some do, a line each. Other faults may follow, of rules
+-- each in the same two lines.
+pub record IsTextTold (text told : List ℕ) : Type 0 where
+  pub says : List ℕ
+  pub says_is : IsTrue (list_all is_printed_byte says)
+  pub rows : List ℕ
+  pub correct : AreCorrection text rows
+  pub more : List ℕ
+  pub told_is : told ≡ sentence_line says ++ (rows ++ more)
+
+pub record IsRuleTold (text : List ℕ) (fault : RuleFault) (told : List ℕ) : Type 0 where
+  pub p : Plan
+  pub spells : Spells text p
+  pub rows : List ℕ
+  pub correct : AreCorrection text rows
+  pub others : List RuleFault
+  pub told_is : told ≡ rule_lines p fault ++ (rows ++ flat_map (rule_lines p) others)
+
+abbrev pub IsTold : List ℕ → Fault → List ℕ → Type 0
+IsTold text (Text fault) told = IsTextTold text told
+IsTold text (Rule fault) told = IsRuleTold text fault told
+IsTold text fault told = ⊥
 
 -- ---- the whole
-
--- a fault of a pattern text stands at this position of it
-abbrev pub IsAt : List ℕ → Fault → Position → Type 0
-IsAt text (Text fault) position =
-    (position.line ≡ fault.line) × IsColumn fault.kind fault.line (line_at text fault.line) position.column
-IsAt text (Rule fault) position = (p : Plan) × Spells text p × IsRulePlace p fault position
-IsAt text fault position = ⊥
 
 -- the text is that of a valid pattern, and is reported as such, with all that follows from its tokens
 pub record SaysRight (name text : List ℕ) (e : Explained) : Type 0 where
@@ -60,7 +75,7 @@ pub record SaysWrong (name text : List ℕ) (e : Explained) : Type 0 where
   pub at : IsAt text fault position
   pub status_is : e.status ≡ status_of fault
   pub told : List ℕ
-  pub is_told : IsTold fault told
+  pub is_told : IsTold text fault told
   pub text_is : e.text.items
       ≡ wrong_head name position fault ++ (caret_text (line_at text position.line) position.column ++ told)
 

@@ -95,6 +95,7 @@ own_text party keys q =
 unfoldable pub part_text : Role → Part → Psks → List ℕ
 part_text party parts.Neither q = []
 part_text party parts.Ephemeral q = own_text party (codes "an e") q
+part_text party parts.Static q = own_text party (codes "an s") q
 part_text party parts.Both q = own_text party (codes "an e and an s") q
 
 unfoldable pub without_dh : Psks → List ℕ

@@ -1,13 +1,17 @@
+pub mod Corrections
 pub mod Explained
 pub mod FactLines
 pub mod Facts
+pub mod FaultPlaces
 pub mod FactWords
+pub mod Fixed
 pub mod FramePieces
 pub mod KeyLines
 pub mod MixedKeys
 pub mod Parties
 pub mod Positions
 pub mod RulePlaces
+pub mod RuleWords
 pub mod RunCounts
 pub mod Shown
 pub mod Slips

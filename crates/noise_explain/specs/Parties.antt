@@ -11,7 +11,7 @@ use Rattle.noise_explain.specs.MixedKeys.{are_enough, tokens_after}
 use Rattle.noise_explain.specs.declared.mixed.Keys.{Keys}
 use Rattle.noise_explain.specs.declared.mixed.Mixed.{Mixed}
 use Rattle.noise_explain.specs.declared.parties.Part.{Part}
-use Rattle.noise_explain.specs.declared.parties.Part.TheVariants.{Neither, Ephemeral, Both}
+use Rattle.noise_explain.specs.declared.parties.Part.TheVariants.{Neither, Ephemeral, Static, Both}
 
 abbrev pub has_token : Token → List Token → Bool
 has_token t tokens = list_any (λ u. same_token u t) tokens
@@ -41,10 +41,18 @@ keys_of Initiator has_s =
 keys_of Responder has_s =
     record { initiator_e = false; initiator_s = false; responder_e = true; responder_s = has_s }
 
--- the fewest keys of its own choice that are enough for these DHs
+-- its static key alone
+abbrev pub static_of : Role → Keys
+static_of Initiator =
+    record { initiator_e = false; initiator_s = true; responder_e = false; responder_s = false }
+static_of Responder =
+    record { initiator_e = false; initiator_s = false; responder_e = false; responder_s = true }
+
+-- the fewest keys of its own choice that are enough for these DHs; an e that it sends is one of them
 abbrev pub own_part : Plan → Role → ℕ → Mixed → Part
 own_part p party k m =
-    if not (chooses p party E k) then Neither
+    if not (chooses p party E k)
+    then (if chooses p party S k && are_enough m (static_of party) then Static else Neither)
     else (if are_enough m (keys_of party false) then Ephemeral
     else (if chooses p party S k && are_enough m (keys_of party true) then Both
     else Neither))

@@ -20,9 +20,13 @@ abbrev pub repeated : (List ℕ → List ℕ) → ℕ → List ℕ → List ℕ
 repeated step zero text = text
 repeated step (suc n) text = repeated step n (step text)
 
--- the line of this number, from 1, without its line feed; empty where the text has fewer lines
+-- the text from the line of this number on, from 1; empty where the text has fewer lines
+abbrev pub from_line : ℕ → List ℕ → List ℕ
+from_line number text = repeated after_line (number - 1) text
+
+-- the line of this number, without its line feed
 abbrev pub line_at : List ℕ → ℕ → List ℕ
-line_at text number = first_line (repeated after_line (number - 1) text)
+line_at text number = first_line (from_line number text)
 
 -- ---- the column of a fault of a pattern text
 

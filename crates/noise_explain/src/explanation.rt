@@ -1,23 +1,29 @@
 //! What is said of a text.
 
-ghost use Rattle.std.specs.Prelude.{◌≡◌, ◌≤◌, ◌++◌, ℕ, List, IfOk};
+ghost use Rattle.std.specs.Prelude.{◌≡◌, ◌≤◌, ◌++◌, List, IfOk, flat_map};
 ghost use Rattle.noise_lines.specs.Output.{IsCheckFault};
 ghost use Rattle.noise_lines.specs.declared.faults.Fault.TheVariants.{Rule, Text};
 ghost use Rattle.noise_names.specs.Text.{Spells};
-ghost use Rattle.noise_explain.specs.Explained.{AreTwo, IsExplained, SaysLong, SaysWrong};
+ghost use Rattle.noise_explain.specs.Corrections.{AreCorrection, IsFirst};
+ghost use Rattle.noise_explain.specs.Explained.{AreTwo, IsExplained, IsRuleTold, IsTextTold, SaysLong, SaysWrong};
 ghost use Rattle.noise_explain.specs.Facts.{facts_text};
+ghost use Rattle.noise_explain.specs.RuleWords.{rule_lines};
 ghost use Rattle.noise_explain.specs.Shown.{right_head};
+ghost use Rattle.noise_names.specs.declared.faults.RuleFault.{RuleFault};
 
 use crate::advice::Advice;
 use crate::all_rules::other_rules;
-use crate::column::column_of;
+use crate::change::push_changes;
 use crate::excerpt::{caret_lines, push_sentence, right_head, unread_head, wrong_head};
 use crate::facts::fact_lines;
+use crate::judged::{Correction, Found, chosen, text_position};
 use crate::other_lines::other_lines;
 use crate::position::{Position, line_at};
+use crate::rule_changes::rule_candidates;
 use crate::rule_place::rule_place;
-use crate::rule_sentences::rule_sentences;
+use crate::rule_sentences::{fault_words, place_words};
 use crate::text_advice::fault_advice;
+use crate::text_changes::text_candidates;
 use noise_lines::Fault;
 use noise_names::{Pattern, RuleFault, TextFault, ValidPattern};
 use std::alloc::{AllocError, Global};
@@ -32,7 +38,8 @@ pub struct Explained {
 }
 
 /// Explains a pattern text, from the file of this name: a valid pattern by its messages and what follows from its
-/// tokens; else the fault that `check` reports, with its line and its column, and what would mend it.
+/// tokens; else the fault that `check` reports, with its line and its column, and changes that correct it, if some of
+/// those that are tried do.
 pub fn explain(alloc: Global, name: &str, text: &[u8]) -> Result<Explained, AllocError>
     ensures explained { IfOk result (IsExplained name.now text.now) }
     ensures bound { IfOk result (λ e. e.status ≤ 2) }
@@ -100,14 +107,14 @@ fn explain_text(
     ensures said { IfOk result (SaysWrong name.now text.now) }
     ensures bound { IfOk result (λ e. e.status ≤ 2) }
 {
-    let line = line_at(text, fault.line);
-    let position = Position {
-        line: fault.line,
-        column: column_of(fault.kind, fault.line, line),
-    };
+    let position = text_position(text, fault);
     let mut reported = wrong_head(alloc, name, position, Fault::Text(fault))?;
-    reported.extend_from_slice(&caret_lines(alloc, line, position.column)?)?;
-    reported.extend_from_slice(&told_lines(alloc, text, fault, position.column)?)?;
+    reported.extend_from_slice(&caret_lines(
+        alloc,
+        line_at(text, position.line),
+        position.column,
+    )?)?;
+    reported.extend_from_slice(&told_lines(alloc, text, fault, position)?)?;
     Ok(Explained {
         text: reported,
         status: 2,
@@ -134,29 +141,97 @@ fn explain_rule(
         line_at(text, position.line),
         position.column,
     )?)?;
-    reported.extend_from_slice(&all_rule_lines(alloc, pattern, fault)?)?;
+    reported.extend_from_slice(&all_rule_lines(alloc, text, pattern, fault, position)?)?;
     Ok(Explained {
         text: reported,
         status: 1,
     })
 }
 
-// What is wrong with a text at this fault, whose line has this column, and then with its later lines.
+// What is wrong with a text at this fault, what corrects it, and what is wrong with its later lines.
 fn told_lines(
     alloc: Global,
     text: &[u8],
     fault: TextFault,
-    column: usize,
+    position: Position,
 ) -> Result<Vec<u8>, AllocError>
-    ensures { IfOk result (λ told. (two rest : List ℕ) × AreTwo two × (told.items ≡ two ++ rest)) }
+    requires first { IsFirst text.now (Text fault) position }
+    ensures told { IfOk result (λ told. IsTextTold text.now told.items) }
 {
-    let advice = fault_advice(text, fault, column);
-    let mut said = advice_lines(alloc, advice)?;
+    let advice = fault_advice(text, fault, position.column);
+    let mut said = Vec::new(alloc);
+    push_sentence(advice.says(), &mut said)?;
+    let found = Found {
+        fault: Fault::Text(fault),
+        position,
+    };
+    let candidates = if advice == Advice::VectorHeading {
+        Vec::new(alloc)
+    } else {
+        text_candidates(alloc, text, fault, position.column)?
+    };
+    said.extend_from_slice(&correction_lines(alloc, text, found, candidates)?)?;
     said.extend_from_slice(&other_lines(alloc, text, fault.line, advice)?)?;
     Ok(said)
 }
 
-// What is wrong with a text, and what mends it.
+// The same of a rule, and then of the others that are broken.
+fn all_rule_lines(
+    alloc: Global,
+    text: &[u8],
+    pattern: &Pattern,
+    fault: RuleFault,
+    position: Position,
+) -> Result<Vec<u8>, AllocError>
+    requires first { IsFirst text.now (Rule fault) position }
+    requires spells { Spells text.now pattern.now }
+    ensures told { IfOk result (λ told. IsRuleTold text.now fault told.items) }
+{
+    let mut said = rule_lines(alloc, pattern, fault)?;
+    let found = Found {
+        fault: Fault::Rule(fault),
+        position,
+    };
+    let candidates = rule_candidates(alloc, pattern, fault)?;
+    said.extend_from_slice(&correction_lines(alloc, text, found, candidates)?)?;
+    said.extend_from_slice(&other_rule_lines(alloc, pattern, fault)?)?;
+    Ok(said)
+}
+
+// What corrects a text with this first fault, by one of these, if one does.
+fn correction_lines(
+    alloc: Global,
+    text: &[u8],
+    found: Found,
+    candidates: Vec<Correction>,
+) -> Result<Vec<u8>, AllocError>
+    requires first { IsFirst text.now found.fault found.position }
+    ensures correct { IfOk result (λ rows. AreCorrection text.now rows.items) }
+{
+    let mut rows = Vec::new(alloc);
+    if let Some(correction) = chosen(alloc, text, found, candidates)? {
+        push_changes(alloc, &correction.changes, &mut rows)?;
+    }
+    Ok(rows)
+}
+
+fn other_rule_lines(
+    alloc: Global,
+    pattern: &Pattern,
+    fault: RuleFault,
+) -> Result<Vec<u8>, AllocError>
+    ensures { IfOk result
+        (λ text. (others : List RuleFault) × (text.items ≡ flat_map (rule_lines pattern.now) others)) }
+{
+    let others = other_rules(alloc, pattern, fault)?;
+    let mut text = Vec::new(alloc);
+    for other in &others {
+        text.extend_from_slice(&rule_lines(alloc, pattern, *other)?)?;
+    }
+    Ok(text)
+}
+
+// What is wrong with a file, and what mends it.
 fn advice_lines(alloc: Global, advice: Advice) -> Result<Vec<u8>, AllocError>
     ensures { IfOk result (λ text. AreTwo text.items) }
 {
@@ -166,29 +241,12 @@ fn advice_lines(alloc: Global, advice: Advice) -> Result<Vec<u8>, AllocError>
     Ok(text)
 }
 
-// The same of a rule, and then of the others that are broken.
-fn all_rule_lines(
-    alloc: Global,
-    pattern: &Pattern,
-    fault: RuleFault,
-) -> Result<Vec<u8>, AllocError> {
-    let mut text = rule_lines(alloc, pattern, fault)?;
-    for other in &other_rules(alloc, pattern, fault)? {
-        text.extend_from_slice(&rule_lines(alloc, pattern, *other)?)?;
-    }
-    Ok(text)
-}
-
-/// Which rule is broken where, what is wrong there, and what mends it.
-pub fn rule_lines(
-    alloc: Global,
-    pattern: &Pattern,
-    fault: RuleFault,
-) -> Result<Vec<u8>, AllocError> {
-    let sentences = rule_sentences(alloc, pattern, fault)?;
+/// Which rule is broken where, and what is wrong there.
+pub fn rule_lines(alloc: Global, pattern: &Pattern, fault: RuleFault) -> Result<Vec<u8>, AllocError>
+    ensures { IfOk result (λ text. text.items ≡ rule_lines pattern.now fault) }
+{
     let mut text = Vec::new(alloc);
-    push_sentence(sentences.place.as_str(), &mut text)?;
-    push_sentence(sentences.says.as_str(), &mut text)?;
-    push_sentence(sentences.mends.as_str(), &mut text)?;
+    push_sentence(place_words(alloc, pattern, fault)?.as_str(), &mut text)?;
+    push_sentence(fault_words(alloc, pattern, fault)?.as_str(), &mut text)?;
     Ok(text)
 }

@@ -251,6 +251,7 @@ fn push_part(party: Role, part: Part, psks: Psks, text: &mut Vec<u8>) -> Result<
     match part {
         Part::Neither => Ok(()),
         Part::Ephemeral => push_own(party, "an e", psks, text),
+        Part::Static => push_own(party, "an s", psks, text),
         Part::Both => push_own(party, "an e and an s", psks, text),
     }
 }

@@ -2,6 +2,7 @@
 
 ghost use Rattle.std.specs.Prelude.{◌≡◌, ◌-◌, [], slice_get, unwrap_or};
 ghost use Rattle.noise_explain.specs.FramePieces.{sender_of};
+ghost use Rattle.noise_explain.specs.RuleWords.{dh_keys};
 
 use crate::rule_place::tokens_at;
 use noise_names::{Message, Pattern, Role, Token};
@@ -32,7 +33,9 @@ pub(crate) fn sender_of(message: usize) -> Role
 }
 
 // The initiator's key of a DH, and the responder's. Other tokens have none.
-pub(crate) fn keys_of(dh: Token) -> (Token, Token) {
+pub(crate) fn keys_of(dh: Token) -> (Token, Token)
+    ensures { result ≡ dh_keys dh }
+{
     match dh {
         Token::Es => (Token::E, Token::S),
         Token::Se => (Token::S, Token::E),

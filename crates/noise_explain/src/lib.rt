@@ -1,11 +1,13 @@
 //! What a pattern text or a vector file says and what is wrong with it, in sentences: where the fault stands, and what
-//! would mend it. Also the vector file that a pattern needs, with a placeholder for each key, or what a file gives for
+//! corrects it. Also the vector file that a pattern needs, with a placeholder for each key, or what a file gives for
 //! it.
 #![tactic(auto)]
 
 mod advice;
 mod all_rules;
+mod block_changes;
 mod block_sentences;
+mod change;
 mod choice;
 mod column;
 mod difference;
@@ -15,7 +17,9 @@ mod expected_forms;
 mod explanation;
 mod fact_words;
 mod facts;
+mod fixing;
 mod frame_piece;
+mod judged;
 mod key_lines;
 mod keys;
 mod known;
@@ -30,6 +34,7 @@ mod parties;
 mod piece_lines;
 mod places;
 mod position;
+mod rule_changes;
 mod rule_place;
 mod rule_sentences;
 mod run_counts;
@@ -40,6 +45,8 @@ mod shapes;
 mod state_part;
 mod text;
 mod text_advice;
+mod text_changes;
+mod tidy;
 mod values;
 mod vector_explanation;
 mod word_sentences;
@@ -49,6 +56,7 @@ pub use difference::difference_line;
 pub use excerpt::unread_head;
 pub use expected::wrong_line_text;
 pub use explanation::{Explained, explain, explain_long};
+pub use fixing::fixed;
 pub use key_lines::{KeyFileFault, LineFault, read_given};
 pub use run_counts::{Act, RunCounts};
 pub use text::template;

@@ -3,7 +3,7 @@
 ghost use Rattle.std.specs.Prelude.{◌≡◌, fold};
 ghost use Rattle.noise_explain.specs.FactWords.{has_dh, has_psks, psks_word};
 ghost use Rattle.noise_explain.specs.MixedKeys.{add_token, are_enough, are_least, mixed_before, nothing, one_more};
-ghost use Rattle.noise_explain.specs.Parties.{keys_of, without_e};
+ghost use Rattle.noise_explain.specs.Parties.{keys_of, static_of, without_e};
 
 use crate::rule_place::tokens_at;
 use noise_names::{Pattern, Role, Token};
@@ -83,6 +83,26 @@ impl Keys {
                 initiator_s: false,
                 responder_e: true,
                 responder_s: has_s,
+            },
+        }
+    }
+
+    // The static key of a party.
+    pub fn static_of(party: Role) -> Keys
+        ensures { result ≡ static_of party }
+    {
+        match party {
+            Role::Initiator => Keys {
+                initiator_e: false,
+                initiator_s: true,
+                responder_e: false,
+                responder_s: false,
+            },
+            Role::Responder => Keys {
+                initiator_e: false,
+                initiator_s: false,
+                responder_e: false,
+                responder_s: true,
             },
         }
     }

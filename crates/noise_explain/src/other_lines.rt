@@ -2,7 +2,7 @@
 
 use crate::advice::Advice;
 use crate::column::{after_arrow, column_of, piece_column};
-use crate::excerpt::{push_number, push_sentence};
+use crate::excerpt::push_number;
 use crate::position::{after_line, line_at};
 use crate::text_advice::fault_advice;
 use noise_names::{TextFault, TextFaultKind, Token};
@@ -11,8 +11,8 @@ use std::alloc::{AllocError, Global};
 // How many lines are read after the first wrong one: a pattern has at most 12.
 const MOST: usize = 40;
 
-// What is wrong with each later line that can't be read alone, and what mends it. What was said of the first one isn't
-// said again, and nothing is where all lines are indented, or are those of a vector file.
+// What is wrong with each later line that can't be read alone. What was said of the first one isn't said again, and
+// nothing is where all lines are indented, or are those of a vector file.
 pub(crate) fn other_lines(
     alloc: Global,
     text: &[u8],
@@ -64,7 +64,7 @@ fn push_line(
     said.extend_from_slice(b": ".as_slice())?;
     said.extend_from_slice(advice.says().as_bytes())?;
     said.push(b'\n')?;
-    push_sentence(advice.mends(), said)
+    Ok(())
 }
 
 // What is wrong with a line of tokens, whatever stands around it.

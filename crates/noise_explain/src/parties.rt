@@ -1,8 +1,10 @@
 //! What a party has sent, and what somebody who takes its part has to have.
 
-ghost use Rattle.std.specs.Prelude.{◌≡◌, ◌&&◌};
+ghost use Rattle.std.specs.Prelude.{◌≡◌, ◌&&◌, take};
+ghost use Rattle.noise_names.specs.Plan.{pre_of};
 ghost use Rattle.noise_names.specs.Tokens.{same_role};
 ghost use Rattle.noise_explain.specs.MixedKeys.{tokens_after};
+ghost use Rattle.noise_explain.specs.RuleWords.{is_known};
 ghost use Rattle.noise_explain.specs.Parties.{chooses, has_sent, has_token, is_fresh, is_mixed, is_unmixed, own_part, sender_after};
 
 use crate::mixed::{Keys, Mixed};
@@ -62,6 +64,51 @@ pub(crate) fn chooses(pattern: &Pattern, party: Role, key: Token, passed: usize)
     !pattern.pre(party).contains(&key) && has_sent(pattern, party, key, passed)
 }
 
+// Whether a party's key is known before a place: after so many messages, and so many tokens of the next one.
+pub(crate) fn is_known(
+    pattern: &Pattern,
+    party: Role,
+    key: Token,
+    passed: usize,
+    count: usize,
+) -> bool
+    ensures { result ≡ is_known pattern.now party key passed count }
+{
+    is_named(pattern, party, key)
+        || has_sent(pattern, party, key, passed)
+        || sends_in_front(pattern, party, key, passed, count)
+}
+
+// Whether a party's key is known before the first message.
+pub(crate) fn is_named(pattern: &Pattern, party: Role, key: Token) -> bool
+    ensures { result ≡ has_token key (pre_of party pattern.now) }
+{
+    pattern.pre(party).contains(&key)
+}
+
+// Whether a party sends this key among the first tokens of the message after so many.
+fn sends_in_front(pattern: &Pattern, party: Role, key: Token, passed: usize, count: usize) -> bool
+    ensures { result
+        ≡ (same_role (sender_after passed) party && has_token key (take count (tokens_after pattern.now passed))) }
+{
+    is_same(sender_after(passed), party) && has_key_in_front(pattern, key, passed, count)
+}
+
+// Whether this key is among the first tokens of the message after so many.
+fn has_key_in_front(pattern: &Pattern, key: Token, passed: usize, count: usize) -> bool
+    ensures { result ≡ has_token key (take count (tokens_after pattern.now passed)) }
+{
+    front(tokens_at(pattern.messages(), passed), count).contains(&key)
+}
+
+// The first tokens of a list, so many where it has more.
+fn front(tokens: &[Token], count: usize) -> &[Token]
+    ensures { result.now ≡ take count tokens.now }
+{
+    let (front, _) = tokens.split_at(count.min(tokens.len()));
+    front
+}
+
 // Whether a party has put in an ephemeral key.
 pub(crate) fn is_fresh(pattern: &Pattern, party: Role, passed: usize) -> bool
     ensures { result ≡ is_fresh pattern.now party passed }
@@ -74,6 +121,7 @@ pub(crate) fn is_fresh(pattern: &Pattern, party: Role, passed: usize) -> bool
 pub(crate) enum Part {
     Neither,
     Ephemeral,
+    Static,
     Both,
 }
 
@@ -81,11 +129,16 @@ pub(crate) enum Part {
 pub(crate) fn own_part(pattern: &Pattern, party: Role, passed: usize, mixed: Mixed) -> Part
     ensures { result ≡ own_part pattern.now party passed mixed }
 {
+    let has_s = chooses(pattern, party, Token::S, passed);
     if !chooses(pattern, party, Token::E, passed) {
-        Part::Neither
+        if has_s && mixed.is_by(Keys::static_of(party)) {
+            Part::Static
+        } else {
+            Part::Neither
+        }
     } else if mixed.is_by(Keys::of(party, false)) {
         Part::Ephemeral
-    } else if chooses(pattern, party, Token::S, passed) && mixed.is_by(Keys::of(party, true)) {
+    } else if has_s && mixed.is_by(Keys::of(party, true)) {
         Part::Both
     } else {
         Part::Neither

@@ -2,7 +2,7 @@
 
 ghost use Rattle.std.specs.Prelude.{◌≡◌, ◌-◌, length};
 ghost use Rattle.noise_names.specs.WrongText.{first_line};
-ghost use Rattle.noise_explain.specs.Positions.{after_line, line_at};
+ghost use Rattle.noise_explain.specs.Positions.{after_line, from_line, line_at};
 
 /// A position in a text.
 #[derive(Clone, Copy, Debug, PartialEq, Eq)]
@@ -17,13 +17,20 @@ pub struct Position {
 pub fn line_at(text: &[u8], number: usize) -> &[u8]
     ensures { result.now ≡ line_at text.now number }
 {
+    first_line(from_line(text, number))
+}
+
+/// The text from the line of this number on. It is empty where the text has fewer lines.
+pub(crate) fn from_line(text: &[u8], number: usize) -> &[u8]
+    ensures { result.now ≡ from_line number text.now }
+{
     let mut rest = text;
     let mut left = number.saturating_sub(1);
     'lines: while left > 0 {
         rest = after_line(rest);
         left -= 1;
     }
-    first_line(rest)
+    rest
 }
 
 fn first_line(text: &[u8]) -> &[u8]

@@ -47,7 +47,7 @@ pub(crate) fn tokens_at(messages: &[Message], index: usize) -> &[Token]
 }
 
 // How many lines the pre-messages have, with the one after them.
-fn pre_line_count(pattern: &Pattern) -> usize
+pub(crate) fn pre_line_count(pattern: &Pattern) -> usize
     ensures lines { result ≡ line_feeds (pre_lines pattern.now.initiator pattern.now.responder) }
     ensures few { result ≤ 3 }
 {

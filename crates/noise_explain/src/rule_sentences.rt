@@ -1,207 +1,236 @@
 //! The sentences on broken rules.
 
-use crate::known::{Spot, is_by, key_spot, keys_of, mixed_spot, sender_of, token_at};
+ghost use Rattle.std.specs.Prelude.{◌≡◌, ◌-◌, IfOk, string_bytes};
+ghost use Rattle.noise_explain.specs.MixedKeys.{mixed_before};
+ghost use Rattle.noise_explain.specs.RuleWords.{dh_again, dh_missing, fresh_missing, fresh_words, key_again, key_missing, missing_key, payload_place, place_words, rule_sender, rule_token, token_place, token_words, transport_place, unfresh};
+
+use crate::known::{Spot, keys_of, sender_of, token_at};
+use crate::mixed::mixed_by;
+use crate::parties::{is_known, is_named};
 use noise_lines::{role_word, token_word};
 use noise_names::{Pattern, Role, RuleFault, Token};
 use std::alloc::{AllocError, Global};
 
-// What is wrong at a place, and what mends it.
-#[derive(Drop)]
-pub(crate) struct Sentences {
-    pub place: String,
-    pub says: String,
-    pub mends: String,
-}
-
 // What breaks a rule, who does it, and where.
 #[derive(Clone, Copy)]
-struct Broken {
-    rule: u8,
-    sender: Role,
-    token: Option<Token>,
-    spot: Spot,
+pub(crate) struct Broken {
+    pub rule: u8,
+    pub sender: Role,
+    pub token: Option<Token>,
+    pub spot: Spot,
 }
 
-pub(crate) fn rule_sentences(
-    alloc: Global,
-    pattern: &Pattern,
-    fault: RuleFault,
-) -> Result<Sentences, AllocError> {
-    let broken = broken_at(pattern, fault);
-    let place = place_words(alloc, broken, pattern.messages().len())?;
-    let (says, mends) = match broken.token {
-        Some(token) if broken.rule == 1 => key_missing(alloc, pattern, broken, token)?,
-        Some(token) if broken.rule == 2 => key_again(alloc, pattern, broken, token)?,
-        Some(token) if broken.rule == 3 => dh_again(alloc, token)?,
-        _ if broken.rule == 4 => dh_missing(alloc, pattern, broken)?,
-        _ => fresh_missing(alloc, broken.sender)?,
-    };
-    Ok(Sentences { place, says, mends })
-}
-
-fn broken_at(pattern: &Pattern, fault: RuleFault) -> Broken {
-    let spot = Spot {
-        message: usize::from(fault.message),
-        token: usize::from(fault.token),
-    };
-    let sender = if spot.message <= pattern.messages().len() {
-        sender_of(spot.message)
+// Which party breaks a rule.
+pub(crate) fn sender_at(pattern: &Pattern, fault: RuleFault) -> Role
+    ensures { result ≡ rule_sender pattern.now fault }
+{
+    if usize::from(fault.message) <= pattern.messages().len() {
+        sender_of(usize::from(fault.message))
     } else if fault.token == 0 {
         Role::Initiator
     } else {
         Role::Responder
-    };
-    Broken {
-        rule: fault.rule,
-        sender,
-        token: token_at(pattern.messages(), spot),
-        spot,
     }
 }
 
-fn place_words(alloc: Global, broken: Broken, count: usize) -> Result<String, AllocError> {
-    let rule = broken.rule;
-    let message = broken.spot.message;
-    let sender = role_word(broken.sender);
-    if let Some(token) = broken.token {
-        let word = token_word(token);
-        return format!(in alloc; "Rule {rule} is broken at message {message}, token {word}.");
+// The token that breaks a rule, if one stands at the place.
+pub(crate) fn token_of(pattern: &Pattern, fault: RuleFault) -> Option<Token>
+    ensures { result ≡ rule_token pattern.now fault }
+{
+    token_at(pattern.messages(), spot_of(fault))
+}
+
+fn spot_of(fault: RuleFault) -> Spot
+    ensures message { result.message ≡ fault.message }
+    ensures token { result.token ≡ fault.token }
+{
+    Spot {
+        message: usize::from(fault.message),
+        token: usize::from(fault.token),
     }
-    if message <= count {
-        format!(in alloc; "Rule {rule} is broken at the payload of message {message}.")
+}
+
+pub(crate) fn broken_at(pattern: &Pattern, fault: RuleFault) -> Broken {
+    Broken {
+        rule: fault.rule,
+        sender: sender_at(pattern, fault),
+        token: token_of(pattern, fault),
+        spot: spot_of(fault),
+    }
+}
+
+// Which rule is broken where.
+pub(crate) fn place_words(
+    alloc: Global,
+    pattern: &Pattern,
+    fault: RuleFault,
+) -> Result<String, AllocError>
+    ensures { IfOk result (λ text. string_bytes text ≡ place_words pattern.now fault (rule_token pattern.now fault)) }
+{
+    match token_of(pattern, fault) {
+        Some(token) => token_place(alloc, fault, token),
+        None if usize::from(fault.message) <= pattern.messages().len() => {
+            payload_place(alloc, fault)
+        }
+        None => transport_place(alloc, fault, sender_at(pattern, fault)),
+    }
+}
+
+fn token_place(alloc: Global, fault: RuleFault, token: Token) -> Result<String, AllocError>
+    ensures { IfOk result (λ text. string_bytes text ≡ token_place fault token) }
+{
+    let rule = fault.rule;
+    let message = fault.message;
+    let word = token_word(token);
+    format!(in alloc; "Rule {rule} is broken at message {message}, token {word}.")
+}
+
+fn payload_place(alloc: Global, fault: RuleFault) -> Result<String, AllocError>
+    ensures { IfOk result (λ text. string_bytes text ≡ payload_place fault) }
+{
+    let rule = fault.rule;
+    let message = fault.message;
+    format!(in alloc; "Rule {rule} is broken at the payload of message {message}.")
+}
+
+fn transport_place(alloc: Global, fault: RuleFault, role: Role) -> Result<String, AllocError>
+    ensures { IfOk result (λ text. string_bytes text ≡ transport_place fault role) }
+{
+    let rule = fault.rule;
+    let sender = role_word(role);
+    format!(in alloc; "Rule {rule} is broken at the first transport message of the {sender}.")
+}
+
+// What is wrong there.
+pub(crate) fn fault_words(
+    alloc: Global,
+    pattern: &Pattern,
+    fault: RuleFault,
+) -> Result<String, AllocError>
+    ensures { IfOk result (λ text. string_bytes text ≡ token_words pattern.now fault (rule_token pattern.now fault)) }
+{
+    match token_of(pattern, fault) {
+        Some(token) if fault.rule == 1 => {
+            key_missing(alloc, token, missing_key(pattern, fault, token))
+        }
+        Some(token) if fault.rule == 2 => {
+            key_again(alloc, pattern, sender_at(pattern, fault), token)
+        }
+        Some(token) if fault.rule == 3 => dh_again(alloc, token),
+        _ => fresh_words(alloc, pattern, fault),
+    }
+}
+
+// The same of rules 4 and 5, which need no token.
+fn fresh_words(alloc: Global, pattern: &Pattern, fault: RuleFault) -> Result<String, AllocError>
+    ensures { IfOk result (λ text. string_bytes text ≡ fresh_words pattern.now fault) }
+{
+    let sender = sender_at(pattern, fault);
+    if fault.rule == 4 {
+        dh_missing(alloc, sender, unfresh(pattern, fault))
     } else {
-        format!(in alloc; "Rule {rule} is broken at the first transport message of the {sender}.")
+        fresh_missing(alloc, sender)
     }
 }
 
 // Rule 1: a public key of a DH is missing.
-fn key_missing(
-    alloc: Global,
-    pattern: &Pattern,
-    broken: Broken,
-    dh: Token,
-) -> Result<(String, String), AllocError> {
-    let (first, second) = keys_of(dh);
-    let has_first = is_by(key_spot(pattern, Role::Initiator, first), broken.spot);
-    let (role, missing) = if has_first {
-        (Role::Responder, second)
-    } else {
-        (Role::Initiator, first)
-    };
+fn key_missing(alloc: Global, dh: Token, missing: (Role, Token)) -> Result<String, AllocError>
+    ensures { IfOk result (λ text. string_bytes text ≡ key_missing dh missing) }
+{
+    let (role, missing) = missing;
     let token = token_word(dh);
     let key = token_word(missing);
     let owner = role_word(role);
-    let says = format!(in alloc;
+    format!(in alloc;
         "{token} needs the {owner}'s {key}, which is neither sent before this place nor named above \"...\"."
-    )?;
-    // A key that comes in a later message stays in one.
-    let mends = if key_spot(pattern, role, missing).is_some() {
-        format!(in alloc; "Let the {owner} send {key} earlier, or mix {token} after it.")?
+    )
+}
+
+// Whose key a DH lacks, and which one.
+pub(crate) fn missing_key(pattern: &Pattern, fault: RuleFault, dh: Token) -> (Role, Token)
+    ensures { result ≡ missing_key pattern.now fault dh }
+{
+    let (first, second) = keys_of(dh);
+    let passed = usize::from(fault.message).saturating_sub(1);
+    if is_known(
+        pattern,
+        Role::Initiator,
+        first,
+        passed,
+        usize::from(fault.token),
+    ) {
+        (Role::Responder, second)
     } else {
-        format!(in alloc; "Let the {owner} send {key} earlier, or name it above \"...\".")?
-    };
-    Ok((says, mends))
+        (Role::Initiator, first)
+    }
 }
 
 // Rule 2: a key comes a second time.
-fn key_again(
-    alloc: Global,
-    pattern: &Pattern,
-    broken: Broken,
-    key: Token,
-) -> Result<(String, String), AllocError> {
-    let sender = role_word(broken.sender);
+fn key_again(alloc: Global, pattern: &Pattern, role: Role, key: Token) -> Result<String, AllocError>
+    ensures { IfOk result (λ text. string_bytes text ≡ key_again pattern.now role key) }
+{
+    let sender = role_word(role);
     let token = token_word(key);
-    if pattern.pre(broken.sender).contains(&key) {
-        let says = format!(in alloc; "The {sender}'s {token} is named above \"...\" already.")?;
-        return Ok((
-            says,
-            String::from_str(alloc, "Keep the one that is meant.")?,
-        ));
+    if is_named(pattern, role, key) {
+        format!(in alloc; "The {sender}'s {token} is named above \"...\" already.")
+    } else {
+        format!(in alloc; "The {sender} has sent {token} already.")
     }
-    let says = format!(in alloc; "The {sender} has sent {token} already.")?;
-    Ok((says, String::from_str(alloc, "Leave the second one out.")?))
 }
 
 // Rule 3: a DH comes a second time.
-fn dh_again(alloc: Global, dh: Token) -> Result<(String, String), AllocError> {
+fn dh_again(alloc: Global, dh: Token) -> Result<String, AllocError>
+    ensures { IfOk result (λ text. string_bytes text ≡ dh_again dh) }
+{
     let token = token_word(dh);
-    let says = format!(in alloc; "{token} is mixed in already, and adds nothing the second time.")?;
-    Ok((says, String::from_str(alloc, "Leave the second one out.")?))
+    format!(in alloc; "{token} is mixed in already, and adds nothing the second time.")
 }
 
 // Rule 4: a DH of the sender's ephemeral key is missing.
-fn dh_missing(
-    alloc: Global,
-    pattern: &Pattern,
-    broken: Broken,
-) -> Result<(String, String), AllocError> {
-    let (mixed, wanted) = unfresh(pattern, broken);
-    let sender = role_word(broken.sender);
+fn dh_missing(alloc: Global, role: Role, dhs: (Token, Token)) -> Result<String, AllocError>
+    ensures { IfOk result (λ text. string_bytes text ≡ dh_missing role dhs) }
+{
+    let (mixed, wanted) = dhs;
+    let sender = role_word(role);
     let after = token_word(mixed);
     let missing = token_word(wanted);
-    let says = format!(in alloc;
+    format!(in alloc;
         "The {sender} encrypts here, {after} is mixed in, and {missing} isn't: what it encrypts could depend on no \
          fresh key of its own."
-    )?;
-    Ok((says, mix_words(alloc, pattern, wanted)?))
+    )
 }
 
 // A DH of the sender's static key that is mixed, and the one of its ephemeral key that isn't.
-fn unfresh(pattern: &Pattern, broken: Broken) -> (Token, Token) {
-    let (mixed, wanted) = match broken.sender {
-        Role::Initiator => (Token::Se, Token::Ee),
-        Role::Responder => (Token::Es, Token::Ee),
-    };
-    let is_broken = is_by(mixed_spot(pattern, mixed), broken.spot)
-        && !is_by(mixed_spot(pattern, wanted), broken.spot);
-    if is_broken {
-        return (mixed, wanted);
-    }
-    match broken.sender {
-        Role::Initiator => (Token::Ss, Token::Es),
-        Role::Responder => (Token::Ss, Token::Se),
-    }
-}
-
-// Where a DH can be mixed: after the later one of its two keys.
-fn mix_words(alloc: Global, pattern: &Pattern, dh: Token) -> Result<String, AllocError> {
-    let (first, second) = keys_of(dh);
-    let Some(one) = key_spot(pattern, Role::Initiator, first) else {
-        return send_words(alloc, Role::Initiator, first, dh);
-    };
-    let Some(other) = key_spot(pattern, Role::Responder, second) else {
-        return send_words(alloc, Role::Responder, second, dh);
-    };
-    let later = if one.is_before(other) { other } else { one };
-    let message = later.message;
-    let word = token_word(dh);
-    let before = Spot {
-        message,
-        token: later.token.saturating_sub(1),
-    };
-    match token_at(pattern.messages(), before) {
-        Some(key) if later.token > 0 => {
-            let after = token_word(key);
-            format!(in alloc; "Mix {word} in message {message}, after {after}.")
+pub(crate) fn unfresh(pattern: &Pattern, fault: RuleFault) -> (Token, Token)
+    ensures { result ≡ unfresh (rule_sender pattern.now fault)
+        (mixed_before pattern.now (fault.message - 1) fault.token) }
+{
+    let passed = usize::from(fault.message).saturating_sub(1);
+    let mixed = mixed_by(pattern, passed, usize::from(fault.token));
+    match sender_at(pattern, fault) {
+        Role::Initiator => {
+            if mixed.se && !mixed.ee {
+                (Token::Se, Token::Ee)
+            } else {
+                (Token::Ss, Token::Es)
+            }
         }
-        _ => format!(in alloc; "Mix {word} in message {message}."),
+        Role::Responder => {
+            if mixed.es && !mixed.ee {
+                (Token::Es, Token::Ee)
+            } else {
+                (Token::Ss, Token::Se)
+            }
+        }
     }
-}
-
-fn send_words(alloc: Global, role: Role, key: Token, dh: Token) -> Result<String, AllocError> {
-    let owner = role_word(role);
-    let sent = token_word(key);
-    let word = token_word(dh);
-    format!(in alloc; "Let the {owner} send {sent}, and mix {word} after it.")
 }
 
 // Rule 5: a psk comes without an ephemeral key.
-fn fresh_missing(alloc: Global, role: Role) -> Result<(String, String), AllocError> {
+fn fresh_missing(alloc: Global, role: Role) -> Result<String, AllocError>
+    ensures { IfOk result (λ text. string_bytes text ≡ fresh_missing role) }
+{
     let sender = role_word(role);
-    let says = format!(in alloc;
+    format!(in alloc;
         "The {sender} encrypts here after psk, and has sent no e: the same key and nonce could come again."
-    )?;
-    let mends = format!(in alloc; "Let the {sender} send e before it.")?;
-    Ok((says, mends))
+    )
 }

@@ -167,7 +167,7 @@ fn has_dots(line: &[u8]) -> bool {
 }
 
 // Whether a line has a static key alone, or both keys of a party.
-fn is_keys(line: &[u8]) -> bool {
+pub(crate) fn is_keys(line: &[u8]) -> bool {
     let list = after_arrow(line);
     list == b"s".as_slice() || list == b"e, s".as_slice()
 }

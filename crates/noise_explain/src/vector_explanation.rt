@@ -4,6 +4,7 @@ ghost use Rattle.std.specs.Prelude.{◌≡◌, ◌++◌, IfOk, MatchOption, OnOk
 ghost use Rattle.noise_names.specs.Names.{name_bytes};
 ghost use Rattle.noise_explain.specs.VectorExplained.{IsPatternIn, LacksPattern, ReportsFault, ExplainsLine, ReportsVector, is_vector_text, vector_head, without_mark};
 
+use crate::block_changes::block_change_lines;
 use crate::block_sentences::{block_reported, ending_reported};
 use crate::excerpt::{caret_lines, push_sentence, unread_head, wrong_head};
 use crate::expected_forms::expected_form;
@@ -109,14 +110,18 @@ pub fn explain_start(
     })
 }
 
-// What is wrong with the file, and what mends it.
+// What is wrong with the file, and what mends it, or corrects its pattern.
 fn start_lines(
     alloc: Global,
     fault: Fault,
     pattern: Option<&Pattern>,
 ) -> Result<Vec<u8>, AllocError> {
     match (fault, pattern) {
-        (Fault::Rule(broken), Some(pattern)) => rule_lines(alloc, pattern, broken),
+        (Fault::Rule(broken), Some(pattern)) => {
+            let mut lines = rule_lines(alloc, pattern, broken)?;
+            lines.extend_from_slice(&block_change_lines(alloc, pattern, broken)?)?;
+            Ok(lines)
+        }
         (Fault::Setup(role, why), _) => setup_lines(alloc, role, why),
         (Fault::Place(_), _) => place_lines(alloc),
         _ => Ok(Vec::new(alloc)),

@@ -9,40 +9,40 @@ use Rattle.noise_tool.proofs.TestingLemmas.{after-prefix, kept-appends, reported
 use Rattle.noise_lines.specs.declared.faults.Fault.TheVariants as fault
 
 -- it is said of one file more
-said-of : (bytes_at : List ℕ → Option (List ℕ)) (unreadable : List ℕ → Bool) (names : List (List ℕ)) (name : List ℕ) (said : List Said) (x : Explained) → AreSaid bytes_at unreadable names said
-    → IsExplainedAt bytes_at unreadable name x → AreSaid bytes_at unreadable (names ++ name ∷ []) (said ++ record { name = name; explained = x } ∷ [])
-said-of bytes_at unreadable names name said x are right =
+said-of : (fixes : Bool) (bytes_at : List ℕ → Option (List ℕ)) (unreadable : List ℕ → Bool) (names : List (List ℕ)) (name : List ℕ) (said : List Said) (x : Explained) → AreSaid fixes bytes_at unreadable names said
+    → IsExplainedAt fixes bytes_at unreadable name x → AreSaid fixes bytes_at unreadable (names ++ name ∷ []) (said ++ record { name = name; explained = x } ∷ [])
+said-of fixes bytes_at unreadable names name said x are right =
     let this : Said = record { name = name; explained = x } in
     record {
       named = map_push (λ (s : Said). s.name) said this ∙ ap (λ (ns : List (List ℕ)). ns ++ name ∷ []) are.named;
-      right = All-push (λ (s : Said). IsExplainedAt bytes_at unreadable s.name s.explained) said this are.right right;
+      right = All-push (λ (s : Said). IsExplainedAt fixes bytes_at unreadable s.name s.explained) said this are.right right;
     }
 
 text-of : (said : List Said) (name : List ℕ) (x : Explained)
     → said_text said ++ x.text.items ≡ said_text (said ++ record { name = name; explained = x } ∷ [])
 text-of said name x = flat_map_more (λ (s : Said). s.explained.text.items) [] said (record { name = name; explained = x })
 
-pub said-more : (bytes_at : List ℕ → Option (List ℕ)) (unreadable : List ℕ → Bool) (names all : List (List ℕ)) (name : List ℕ) (a m e : Option (List ℕ)) (status next : ℕ) (x : Explained)
-    (text : List ℕ) → all ≡ names ++ name ∷ [] → HasExplained bytes_at unreadable names a m status → IsExplainedAt bytes_at unreadable name x → text ≡ x.text.items
-    → Appends m e text → next ≡ worse status x.status → HasExplained bytes_at unreadable all a e next
-said-more bytes_at unreadable names all name a m e status next x text all_is before right text_is written next_is =
+pub said-more : (fixes : Bool) (bytes_at : List ℕ → Option (List ℕ)) (unreadable : List ℕ → Bool) (names all : List (List ℕ)) (name : List ℕ) (a m e : Option (List ℕ)) (status next : ℕ) (x : Explained)
+    (text : List ℕ) → all ≡ names ++ name ∷ [] → HasExplained fixes bytes_at unreadable names a m status → IsExplainedAt fixes bytes_at unreadable name x → text ≡ x.text.items
+    → Appends m e text → next ≡ worse status x.status → HasExplained fixes bytes_at unreadable all a e next
+said-more fixes bytes_at unreadable names all name a m e status next x text all_is before right text_is written next_is =
     let this : Said = record { name = name; explained = x } in
     let printed : Appends a e (said_text before.said ++ text) = Appends-trans a m e (said_text before.said) text before.printed written in
-    subst (λ (ns : List (List ℕ)). HasExplained bytes_at unreadable ns a e next) (sym all_is) (record {
+    subst (λ (ns : List (List ℕ)). HasExplained fixes bytes_at unreadable ns a e next) (sym all_is) (record {
       said = before.said ++ this ∷ [];
-      are = said-of bytes_at unreadable names name before.said x before.are right;
+      are = said-of fixes bytes_at unreadable names name before.said x before.are right;
       printed = subst (λ (t : List ℕ). Appends a e t) (ap (λ (t : List ℕ). said_text before.said ++ t) text_is ∙ text-of before.said name x) printed;
       status_is = search (rules, fold-append);
     })
 
-pub said-kept : (bytes_at : List ℕ → Option (List ℕ)) (unreadable : List ℕ → Bool) (names : List (List ℕ)) (a m e : Option (List ℕ)) (status : ℕ) → HasExplained bytes_at unreadable names a m status
-    → Keeps m e → HasExplained bytes_at unreadable names a e status
-said-kept bytes_at unreadable names a m e status before kept = search kept-appends
+pub said-kept : (fixes : Bool) (bytes_at : List ℕ → Option (List ℕ)) (unreadable : List ℕ → Bool) (names : List (List ℕ)) (a m e : Option (List ℕ)) (status : ℕ) → HasExplained fixes bytes_at unreadable names a m status
+    → Keeps m e → HasExplained fixes bytes_at unreadable names a e status
+said-kept fixes bytes_at unreadable names a m e status before kept = search kept-appends
 
 -- all names are passed
-pub all-kept : (bytes_at : List ℕ → Option (List ℕ)) (unreadable : List ℕ → Bool) (names : List (String Global)) (i : ℕ) (a m e : Option (List ℕ)) (status : ℕ) → length names ≤ i
-    → HasExplained bytes_at unreadable (map string_bytes (take i names)) a m status → Keeps m e → HasExplained bytes_at unreadable (map string_bytes names) a e status
-all-kept bytes_at unreadable names i a m e status past before kept = search (rules, take_all)
+pub all-kept : (fixes : Bool) (bytes_at : List ℕ → Option (List ℕ)) (unreadable : List ℕ → Bool) (names : List (String Global)) (i : ℕ) (a m e : Option (List ℕ)) (status : ℕ) → length names ≤ i
+    → HasExplained fixes bytes_at unreadable (map string_bytes (take i names)) a m status → Keeps m e → HasExplained fixes bytes_at unreadable (map string_bytes names) a e status
+all-kept fixes bytes_at unreadable names i a m e status past before kept = search (rules, take_all)
 
 pub worse-few : (first second worst : ℕ) → first ≤ 2 → second ≤ 2 → worst ≡ worse first second → worst ≤ 2
 worse-few first second worst few few' is = at (nat_le first second) refl where
@@ -52,30 +52,30 @@ worse-few first second worst few few' is = at (nat_le first second) refl where
 
 -- ---- a prefix of what is said
 
-said-begun : (bytes_at : List ℕ → Option (List ℕ)) (unreadable : List ℕ → Bool) (names others all : List (List ℕ)) (a e : Option (List ℕ)) (status : ℕ) → names ++ others ≡ all
-    → HasExplained bytes_at unreadable names a e status → ExplainsPrefix bytes_at unreadable all a e
-said-begun bytes_at unreadable names others all a e status is before = search whole-prefix
+said-begun : (fixes : Bool) (bytes_at : List ℕ → Option (List ℕ)) (unreadable : List ℕ → Bool) (names others all : List (List ℕ)) (a e : Option (List ℕ)) (status : ℕ) → names ++ others ≡ all
+    → HasExplained fixes bytes_at unreadable names a e status → ExplainsPrefix fixes bytes_at unreadable all a e
+said-begun fixes bytes_at unreadable names others all a e status is before = search whole-prefix
 
 -- what is said of the next file has begun
-pub next-begun : (bytes_at : List ℕ → Option (List ℕ)) (unreadable : List ℕ → Bool) (names others all : List (List ℕ)) (name : List ℕ) (a m e : Option (List ℕ)) (status : ℕ) (x : Explained)
-    (text : List ℕ) → names ++ name ∷ others ≡ all → HasExplained bytes_at unreadable names a m status → IsExplainedAt bytes_at unreadable name x → text ≡ x.text.items
-    → AppendsPrefix m e text → ExplainsPrefix bytes_at unreadable all a e
-next-begun bytes_at unreadable names others all name a m e status x text is before right text_is grown =
+pub next-begun : (fixes : Bool) (bytes_at : List ℕ → Option (List ℕ)) (unreadable : List ℕ → Bool) (names others all : List (List ℕ)) (name : List ℕ) (a m e : Option (List ℕ)) (status : ℕ) (x : Explained)
+    (text : List ℕ) → names ++ name ∷ others ≡ all → HasExplained fixes bytes_at unreadable names a m status → IsExplainedAt fixes bytes_at unreadable name x → text ≡ x.text.items
+    → AppendsPrefix m e text → ExplainsPrefix fixes bytes_at unreadable all a e
+next-begun fixes bytes_at unreadable names others all name a m e status x text is before right text_is grown =
     let this : Said = record { name = name; explained = x } in
     record {
       first = names ++ name ∷ [];
       others = others;
       names_are = append_assoc names (name ∷ []) others ∙ is;
       said = before.said ++ this ∷ [];
-      are = said-of bytes_at unreadable names name before.said x before.are right;
+      are = said-of fixes bytes_at unreadable names name before.said x before.are right;
       grown = search (rules, text-of, after-prefix);
     }
 
 -- what is said of the files before one of them
-pub begun-at : (bytes_at : List ℕ → Option (List ℕ)) (unreadable : List ℕ → Bool) (names : List (String Global)) (i : ℕ) (a e : Option (List ℕ)) (status : ℕ)
-    → HasExplained bytes_at unreadable (map string_bytes (take i names)) a e status → ExplainsPrefix bytes_at unreadable (map string_bytes names) a e
-begun-at bytes_at unreadable names i a e status before =
-    said-begun bytes_at unreadable (map string_bytes (take i names)) (map string_bytes (drop i names)) (map string_bytes names) a e status
+pub begun-at : (fixes : Bool) (bytes_at : List ℕ → Option (List ℕ)) (unreadable : List ℕ → Bool) (names : List (String Global)) (i : ℕ) (a e : Option (List ℕ)) (status : ℕ)
+    → HasExplained fixes bytes_at unreadable (map string_bytes (take i names)) a e status → ExplainsPrefix fixes bytes_at unreadable (map string_bytes names) a e
+begun-at fixes bytes_at unreadable names i a e status before =
+    said-begun fixes bytes_at unreadable (map string_bytes (take i names)) (map string_bytes (drop i names)) (map string_bytes names) a e status
     (sym (map-append string_bytes (take i names) (drop i names)) ∙ ap (map string_bytes) (take-append-drop i names)) before
 
 -- ---- what is reported where the command ends
@@ -120,11 +120,11 @@ pub three-stops : (r : Result ℕ Fault) (A B : Type 0) → (A → B) → IfOk r
 three-stops (Ok status) A B f h = inr (f h)
 three-stops (Err why) A B f h = tt
 
-pub left-begun : {O : Type 0} (contents : O → Option (List ℕ)) (bytes_at : List ℕ → Option (List ℕ)) (unreadable : List ℕ → Bool) (names : List (List ℕ)) (a : Option (List ℕ))
-    (why : Fault) (middle new : O) → EndsTest why → LeavesOutput contents why middle new → ExplainsPrefix bytes_at unreadable names a (contents middle)
-    → ExplainsPrefix bytes_at unreadable names a (contents new)
-left-begun {O = O} contents bytes_at unreadable names a why middle new ends left begun =
-    subst (λ (o : O). ExplainsPrefix bytes_at unreadable names a (contents o)) (sym (reported-left contents why middle new ends left)) begun
+pub left-begun : {O : Type 0} (contents : O → Option (List ℕ)) (fixes : Bool) (bytes_at : List ℕ → Option (List ℕ)) (unreadable : List ℕ → Bool) (names : List (List ℕ)) (a : Option (List ℕ))
+    (why : Fault) (middle new : O) → EndsTest why → LeavesOutput contents why middle new → ExplainsPrefix fixes bytes_at unreadable names a (contents middle)
+    → ExplainsPrefix fixes bytes_at unreadable names a (contents new)
+left-begun {O = O} contents fixes bytes_at unreadable names a why middle new ends left begun =
+    subst (λ (o : O). ExplainsPrefix fixes bytes_at unreadable names a (contents o)) (sym (reported-left contents why middle new ends left)) begun
 
 -- ---- where the file can't be read, and its name may be that of a pattern
 

@@ -1,5 +1,5 @@
 -- What is said of vector files.
-use Rattle.std.proofs.Common.{◌≡◌, ◌∙◌, subst, true, inl, ℕ, List, Option, Some, None}
+use Rattle.std.proofs.Common.{◌≡◌, ◌∙◌, subst, true, inl, ℕ, Bool, List, Option, Some, None}
 use Rattle.std.specs.Prelude.{IfOk, Result, Ok, Err}
 use Rattle.noise_tool.proofs.Common.{IfSome, Fault, IsVectorFile, file_text, VectorFile, IsExplainedFile, IsExplainedRun, IsExplainedText, IsExplainedVector}
 use Rattle.noise_explain.specs.VectorExplained.{is_vector_text}
@@ -12,13 +12,13 @@ file-said name text file (Ok e) right is said = inl (record { file = file; right
 file-said name text file (Err why) right is said = tt
 
 -- by the first word
-pub vector-said : (name text : List ℕ) (r : Result Explained Fault) → is_vector_text text ≡ true → IfOk r (IsExplainedVector name text)
-    → IfOk r (IsExplainedText name text)
-vector-said name text (Ok e) is said = inl (is, said)
-vector-said name text (Err why) is said = tt
+pub vector-said : (fixes : Bool) (name text : List ℕ) (r : Result Explained Fault) → is_vector_text text ≡ true → IfOk r (IsExplainedVector name text)
+    → IfOk r (IsExplainedText fixes name text)
+vector-said fixes name text (Ok e) is said = inl (is, said)
+vector-said fixes name text (Err why) is said = tt
 
 -- of the bytes that are known
-pub bytes-said : (known : Option (List ℕ)) (name text items : List ℕ) (e : Explained) → text ≡ items → IfSome known (λ bytes. items ≡ bytes)
-    → IsExplainedText name text e → IsExplainedFile known name e
-bytes-said None name text items e is same said = tt
-bytes-said (Some bytes) name text items e is same said = inl (subst (λ (t : List ℕ). IsExplainedText name t e) (is ∙ same) said)
+pub bytes-said : (fixes : Bool) (known : Option (List ℕ)) (name text items : List ℕ) (e : Explained) → text ≡ items → IfSome known (λ bytes. items ≡ bytes)
+    → IsExplainedText fixes name text e → IsExplainedFile fixes known name e
+bytes-said fixes None name text items e is same said = tt
+bytes-said fixes (Some bytes) name text items e is same said = inl (subst (λ (t : List ℕ). IsExplainedText fixes name t e) (is ∙ same) said)

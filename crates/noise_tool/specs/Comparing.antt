@@ -1,7 +1,9 @@
 -- What `compare` prints of a log and of a vector file, and its exit status.
-use Rattle.std.specs.Prelude.{⊤, ◌≡◌, ◌⊎◌, ◌<◌, ◌≤◌, ℕ, ◌-◌, Bool, true, List, [], ◌++◌, Option, Some, IfSome, IsTrue, codes, decimal, flat_map, length, map, string_bytes}
+use Rattle.std.specs.Prelude.{⊤, ◌≡◌, ◌⊎◌, ◌<◌, ◌≤◌, ℕ, ◌-◌, Bool, true, false, List, [], ◌++◌, Option, Some, IfSome, IsTrue, codes, decimal, flat_map, length, map, string_bytes}
 use Rattle.std.specs.Io.KnownBytes.{Appends}
+use Rattle.noise_compare.specs.Cut.{cut_text, whole_lines}
 use Rattle.noise_compare.specs.Findings.{IsReport}
+use Rattle.noise_compare.specs.Known.{AreKnown}
 use Rattle.noise_compare.specs.Lines.{words_in, line_words}
 use Rattle.noise_compare.specs.Plain.{skipped_text, plain_text, written_lines}
 use Rattle.noise_compare.specs.Reading.{first_wrong, schedule_lines, views}
@@ -20,6 +22,7 @@ use Rattle.noise_vectors.specs.VectorText.{file_text}
 use Rattle.noise_vectors.specs.declared.vector.AllowedEvents.TheVariants.{Any}
 use Rattle.noise_vectors.specs.declared.vector.VectorFile.{VectorFile}
 use Rattle.noise_words.specs.declared.orders.Compared.{Compared}
+use Rattle.noise_tool.specs.FileFacts.{AreFactsOfText}
 use Rattle.noise_tool.specs.Selection.{all_lines}
 use Rattle.noise_tool.specs.Performing.{IsRunFault}
 use Rattle.noise_tool.specs.Testing.{EndsTest, is_input}
@@ -53,17 +56,27 @@ finding_status Agrees = 0
 finding_status Ends = 1
 finding_status Differs = 1
 
--- This is the report on the log of this text, by the key schedule of the file of this text and facts of its run. It ends
--- with the number of the log's lines that were passed over.
-pub record Compares (log file : List ℕ) (report : LogReport) : Type 0 where
+-- where they are wanted, the mistakes that are known at the step of the first difference
+abbrev pub IsListed : Bool → Facts → List Line → List Line → List ℕ → Type 0
+IsListed true facts right logged text = AreKnown facts right logged text
+IsListed false facts right logged text = text ≡ []
+
+-- This is the report on the whole lines of the log of this text, by the key schedule of the file of this text and its
+-- facts. Then it has the number of the log's lines that were passed over, that its last line is cut off, and the
+-- mistakes that are known, if all are wanted.
+pub record Compares (all : Bool) (log file : List ℕ) (report : LogReport) : Type 0 where
   pub logged : List Line
-  pub logged_are : views logged ≡ schedule_lines (plain_text log)
+  pub logged_are : views logged ≡ schedule_lines (plain_text (whole_lines log))
   pub right : List Line
   pub right_are : IsScheduleOf file right
   pub facts : Facts
+  pub facts_are : AreFactsOfText file facts
   pub compared : List ℕ
   pub reported : IsReport facts right logged report.finding compared
-  pub text_is : report.text.items ≡ compared ++ skipped_text (written_lines log - length logged)
+  pub known : List ℕ
+  pub listed : IsListed all facts right logged known
+  pub text_is : report.text.items
+      ≡ ((compared ++ skipped_text (written_lines (whole_lines log) - length logged)) ++ cut_text log) ++ known
 
 abbrev pub IfMade : Comparison → (LogReport → Type 0) → Type 0
 IfMade (Made report) P = P report
@@ -79,9 +92,9 @@ IfUnread _ P = ⊤
 
 -- the log and the file were compared, where their texts are known: the output grew by the report on them, and the
 -- status is that of what was found
-pub record IsCompared (log file : Option (List ℕ)) (before after : Option (List ℕ)) (status : ℕ) : Type 0 where
+pub record IsCompared (all : Bool) (log file : Option (List ℕ)) (before after : Option (List ℕ)) (status : ℕ) : Type 0 where
   pub report : LogReport
-  pub compares : IfSome log (λ l. IfSome file (λ f. Compares l f report))
+  pub compares : IfSome log (λ l. IfSome file (λ f. Compares all l f report))
   pub printed : Appends before after report.text.items
   pub status_is : status ≡ finding_status report.finding
 
@@ -89,13 +102,13 @@ pub record IsCompared (log file : Option (List ℕ)) (before after : Option (Lis
 abbrev pub ComparesFiles : {E : Type 0} → Compared → (List ℕ → Option (List ℕ)) → Option (List ℕ) → Option (List ℕ)
     → E → E → ℕ → Type 0
 ComparesFiles names bytes_at before after err err_after status =
-    IsCompared (bytes_at (string_bytes names.log)) (bytes_at (string_bytes names.file)) before after status
+    IsCompared names.all (bytes_at (string_bytes names.log)) (bytes_at (string_bytes names.file)) before after status
     × (err_after ≡ err)
 
 -- the output grew by a prefix of the report on them
-pub record ComparesPrefix (log file : Option (List ℕ)) (before after : Option (List ℕ)) : Type 0 where
+pub record ComparesPrefix (all : Bool) (log file : Option (List ℕ)) (before after : Option (List ℕ)) : Type 0 where
   pub report : LogReport
-  pub compares : IfSome log (λ l. IfSome file (λ f. Compares l f report))
+  pub compares : IfSome log (λ l. IfSome file (λ f. Compares all l f report))
   pub grown : AppendsPrefix before after report.text.items
 
 -- ---- a log that isn't compared
@@ -106,8 +119,8 @@ NamesInputTwice names = (is_input (string_bytes names.log) ≡ true) × (is_inpu
 
 -- why it isn't, by its text
 abbrev pub IsWrongLog : List ℕ → Uncompared → Type 0
-IsWrongLog log NoLine = schedule_lines (plain_text log) ≡ []
-IsWrongLog log (WrongLine number) = first_wrong (plain_text log) ≡ Some number
+IsWrongLog log NoLine = schedule_lines (plain_text (whole_lines log)) ≡ []
+IsWrongLog log (WrongLine number) = first_wrong (plain_text (whole_lines log)) ≡ Some number
 IsWrongLog log LongLog = 4194304 < length log
 IsWrongLog log _ = ⊥
 

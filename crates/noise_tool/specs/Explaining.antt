@@ -1,8 +1,9 @@
 -- What `explain` prints of files, and its exit status.
-use Rattle.std.specs.Prelude.{◌≡◌, ◌⊎◌, ◌<◌, ℕ, Bool, List, ◌++◌, Option, IfSome, IsFalse, IsTrue, flat_map, fold, length, map, nat_le, if◌then◌else◌}
+use Rattle.std.specs.Prelude.{◌≡◌, ◌⊎◌, ◌<◌, ℕ, Bool, true, false, List, ◌++◌, Option, IfSome, IsFalse, IsTrue, flat_map, fold, length, map, nat_le, if◌then◌else◌}
 use Rattle.std.specs.List.{All, Contains}
 use Rattle.std.specs.Io.KnownBytes.{Appends}
 use Rattle.noise_explain.specs.Explained.{IsExplained, SaysLong}
+use Rattle.noise_explain.specs.Fixed.{IsFixed}
 use Rattle.noise_explain.specs.Shown.{unread_head}
 use Rattle.noise_explain.specs.declared.explanation.Explained.{Explained}
 use Rattle.noise_explain.specs.VectorExplained.{ReportsFault, ExplainsLine, ReportsVector, is_vector_text}
@@ -52,27 +53,32 @@ pub record SaysWrongLine (name text : List ℕ) (e : Explained) : Type 0 where
 abbrev pub IsExplainedVector : List ℕ → List ℕ → Explained → Type 0
 IsExplainedVector name text e = SaysFile name text e ⊎ SaysWrongLine name text e
 
+-- what is said of the text of a pattern; or the text with the changes that correct it, where that is asked for
+abbrev pub IsExplainedPattern : Bool → List ℕ → List ℕ → Explained → Type 0
+IsExplainedPattern true name text e = IsFixed text e
+IsExplainedPattern false name text e = IsExplained name text e
+
 -- what is said of a text, by whether it is taken as that of a vector file
-abbrev pub IsExplainedText : List ℕ → List ℕ → Explained → Type 0
-IsExplainedText name text e =
+abbrev pub IsExplainedText : Bool → List ℕ → List ℕ → Explained → Type 0
+IsExplainedText fixes name text e =
     (IsTrue (is_vector_text text) × IsExplainedVector name text e) ⊎ (IsFalse (is_vector_text text)
-    × IsExplained name text e)
+    × IsExplainedPattern fixes name text e)
 
 -- what is said of the file of this name, where its bytes are known
-abbrev pub IsExplainedFile : Option (List ℕ) → List ℕ → Explained → Type 0
-IsExplainedFile known name e =
-    IfSome known (λ text. IsExplainedText name text e ⊎ ((4194304 < length text) × SaysLong name e))
+abbrev pub IsExplainedFile : Bool → Option (List ℕ) → List ℕ → Explained → Type 0
+IsExplainedFile fixes known name e =
+    IfSome known (λ text. IsExplainedText fixes name text e ⊎ ((4194304 < length text) × SaysLong name e))
 
 -- what is said of the pattern of this name
-pub record SaysNamed (name : List ℕ) (e : Explained) : Type 0 where
+pub record SaysNamed (fixes : Bool) (name : List ℕ) (e : Explained) : Type 0 where
   pub text : List ℕ
   pub named : NamesText name text
-  pub said : IsExplained name text e
+  pub said : IsExplainedPattern fixes name text e
 
 -- of the file of a name, or, where it may be that this can't be read, of the pattern of that name
-abbrev pub IsExplainedAt : (List ℕ → Option (List ℕ)) → (List ℕ → Bool) → List ℕ → Explained → Type 0
-IsExplainedAt bytes_at unreadable name e =
-    IsExplainedFile (bytes_at name) name e ⊎ (IsTrue (unreadable name) × SaysNamed name e)
+abbrev pub IsExplainedAt : Bool → (List ℕ → Option (List ℕ)) → (List ℕ → Bool) → List ℕ → Explained → Type 0
+IsExplainedAt fixes bytes_at unreadable name e =
+    IsExplainedFile fixes (bytes_at name) name e ⊎ (IsTrue (unreadable name) × SaysNamed fixes name e)
 
 -- it may be that the file of this name can't be read, and it is the name of no pattern
 abbrev pub IsUnreadName : (List ℕ → Bool) → List ℕ → Type 0
@@ -94,33 +100,33 @@ abbrev pub worst_of : List Said → ℕ
 worst_of said = fold (λ status s. worse status s.explained.status) 0 said
 
 -- it is said of the files of these names
-pub record AreSaid (bytes_at : List ℕ → Option (List ℕ)) (unreadable : List ℕ → Bool) (names : List (List ℕ))
-    (said : List Said) : Type 0 where
+pub record AreSaid (fixes : Bool) (bytes_at : List ℕ → Option (List ℕ)) (unreadable : List ℕ → Bool)
+    (names : List (List ℕ)) (said : List Said) : Type 0 where
   pub named : map (λ s. s.name) said ≡ names
-  pub right : All (λ s. IsExplainedAt bytes_at unreadable s.name s.explained) said
+  pub right : All (λ s. IsExplainedAt fixes bytes_at unreadable s.name s.explained) said
 
 -- the files of these names are explained, in order
-pub record HasExplained (bytes_at : List ℕ → Option (List ℕ)) (unreadable : List ℕ → Bool)
+pub record HasExplained (fixes : Bool) (bytes_at : List ℕ → Option (List ℕ)) (unreadable : List ℕ → Bool)
     (names : List (List ℕ)) (before after : Option (List ℕ)) (status : ℕ) : Type 0 where
   pub said : List Said
-  pub are : AreSaid bytes_at unreadable names said
+  pub are : AreSaid fixes bytes_at unreadable names said
   pub printed : Appends before after (said_text said)
   pub status_is : status ≡ worst_of said
 
 -- and the error output is as it was
-abbrev pub ExplainsFiles : {E : Type 0} → (List ℕ → Option (List ℕ)) → (List ℕ → Bool) → List (List ℕ)
+abbrev pub ExplainsFiles : {E : Type 0} → Bool → (List ℕ → Option (List ℕ)) → (List ℕ → Bool) → List (List ℕ)
     → Option (List ℕ) → Option (List ℕ) → E → E → ℕ → Type 0
-ExplainsFiles bytes_at unreadable names before after err err_after status =
-    HasExplained bytes_at unreadable names before after status × (err_after ≡ err)
+ExplainsFiles fixes bytes_at unreadable names before after err err_after status =
+    HasExplained fixes bytes_at unreadable names before after status × (err_after ≡ err)
 
 -- the output grew by a prefix of what is said of the first of these files
-pub record ExplainsPrefix (bytes_at : List ℕ → Option (List ℕ)) (unreadable : List ℕ → Bool)
+pub record ExplainsPrefix (fixes : Bool) (bytes_at : List ℕ → Option (List ℕ)) (unreadable : List ℕ → Bool)
     (names : List (List ℕ)) (before after : Option (List ℕ)) : Type 0 where
   pub first : List (List ℕ)
   pub others : List (List ℕ)
   pub names_are : first ++ others ≡ names
   pub said : List Said
-  pub are : AreSaid bytes_at unreadable first said
+  pub are : AreSaid fixes bytes_at unreadable first said
   pub grown : AppendsPrefix before after (said_text said)
 
 -- ---- where the command ends before its work is done

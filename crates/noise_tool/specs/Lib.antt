@@ -3,6 +3,7 @@ pub mod Conversion
 pub mod Counting
 pub mod Ends
 pub mod Explaining
+pub mod FileFacts
 pub mod Filling
 pub mod Selection
 pub mod KeyUseLines

@@ -13,6 +13,7 @@ use Rattle.noise_tool.specs.Prefixes.{PrintsPrefix}
 use Rattle.noise_tool.specs.Testing.{EndsTest, TestsFiles, TestsPrefix}
 use Rattle.noise_words.specs.declared.orders.Chosen.{Chosen}
 use Rattle.noise_words.specs.declared.orders.Compared.{Compared}
+use Rattle.noise_words.specs.declared.orders.Explained.{Explained}
 use Rattle.noise_words.specs.declared.orders.Filled.{Filled}
 use Rattle.noise_words.specs.declared.orders.Tested.{Tested}
 
@@ -42,11 +43,14 @@ module _ {O E : Type 0} (printed : O → Option (List ℕ)) (reported : E → Op
         (printed out_after)
 
   -- of `explain`
-  pub record ExplainOutcome (names : List (List ℕ)) (out out_after : O) (err err_after : E) (status : ℕ) : Type 0 where
+  pub record ExplainOutcome (asked : Explained) (out out_after : O) (err err_after : E) (status : ℕ) : Type 0 where
     pub explained : (status ≡ 3)
-        ⊎ ExplainsFiles bytes_at unreadable names (printed out) (printed out_after) err err_after status
-    pub outside : (status ≤ 2) ⊎ StopsExplaining unreadable names (reported err) (reported err_after)
-    pub prefix : ExplainsPrefix bytes_at unreadable names (printed out) (printed out_after)
+        ⊎ ExplainsFiles asked.fixes bytes_at unreadable (map string_bytes asked.files.items) (printed out)
+        (printed out_after) err err_after status
+    pub outside : (status ≤ 2)
+        ⊎ StopsExplaining unreadable (map string_bytes asked.files.items) (reported err) (reported err_after)
+    pub prefix : ExplainsPrefix asked.fixes bytes_at unreadable (map string_bytes asked.files.items) (printed out)
+        (printed out_after)
 
   -- of `compare`
   pub record CompareOutcome (names : Compared) (out out_after : O) (err err_after : E) (status : ℕ) : Type 0 where
@@ -57,7 +61,7 @@ module _ {O E : Type 0} (printed : O → Option (List ℕ)) (reported : E → Op
         (reported err) (reported err_after)
     pub twice : NamesInputTwice names → IsRefusedTwice names (reported err) (reported err_after) status
     pub outside : status ≡ 3 → StopsComparing names unreadable (reported err) (reported err_after)
-    pub prefix : (out_after ≡ out) ⊎ ComparesPrefix (bytes_at (string_bytes names.log))
+    pub prefix : (out_after ≡ out) ⊎ ComparesPrefix names.all (bytes_at (string_bytes names.log))
         (bytes_at (string_bytes names.file)) (printed out) (printed out_after)
 
   -- of `template` with a file of values

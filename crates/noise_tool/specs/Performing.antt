@@ -1,5 +1,5 @@
 -- What a command has done that ends with status 0, and why it ends with another.
-use Rattle.std.specs.Prelude.{⊤, ◌≡◌, ◌≢◌, ◌⊎◌, ◌<◌, ◌≤◌, ℕ, Bool, true, false, List, [], length, Option, None, Some, IfSome, IsTrue, map, option_and_then, string_bytes, if◌then◌else◌}
+use Rattle.std.specs.Prelude.{⊤, ◌≡◌, ◌≢◌, ◌⊎◌, ◌<◌, ◌≤◌, ℕ, Bool, true, false, List, [], length, Option, None, Some, IfSome, IsTrue, option_and_then, string_bytes, if◌then◌else◌}
 use Rattle.std.specs.Io.KnownBytes.{Appends}
 use Rattle.noise_names.specs.Plan.{Plan}
 use Rattle.noise_names.specs.Text.{Spells}
@@ -32,6 +32,7 @@ use Rattle.noise_words.specs.declared.orders.Chosen.TheVariants.{List as Listing
 use Rattle.noise_words.specs.declared.orders.Order.{Order}
 use Rattle.noise_words.specs.declared.orders.Order.TheVariants.{Command, Compare, Explain, Fill, Test}
 use Rattle.noise_words.specs.declared.orders.Compared.{Compared}
+use Rattle.noise_words.specs.declared.orders.Explained.{Explained}
 use Rattle.noise_words.specs.declared.orders.Filled.{Filled}
 use Rattle.noise_words.specs.declared.orders.Tested.{Tested}
 use Rattle.noise_vectors.specs.declared.faults.VectorFault.{VectorFault}
@@ -267,11 +268,11 @@ IfTest (Explain files) P = ⊤
 IfTest (Compare names) P = ⊤
 IfTest (Fill names) P = ⊤
 
--- of `explain`, with the names of its files
-abbrev pub IfExplain : Order → (List (List ℕ) → Type 0) → Type 0
+-- of `explain`
+abbrev pub IfExplain : Order → (Explained → Type 0) → Type 0
 IfExplain (Command chosen) P = ⊤
 IfExplain (Test asked) P = ⊤
-IfExplain (Explain files) P = P (map string_bytes files.items)
+IfExplain (Explain asked) P = P asked
 IfExplain (Compare names) P = ⊤
 IfExplain (Fill names) P = ⊤
 

@@ -2,6 +2,7 @@
 
 ghost use Rattle.std.specs.Prelude.{◌≡◌, ◌⊎◌, ◌++◌, ◌≤◌, ℕ, List, true, IfErr, IfOk, IfSome, IsTrue, MatchResult, OnOk, map, string_bytes};
 ghost use Rattle.std.specs.Io.KnownBytes.{Appends};
+ghost use Rattle.noise_compare.specs.Cut.{cut_text};
 ghost use Rattle.noise_compare.specs.Lines.{words_in, line_words};
 ghost use Rattle.noise_compare.specs.Plain.{skipped_text};
 ghost use Rattle.noise_lines.specs.Faults.{status_of};
@@ -11,7 +12,8 @@ ghost use Rattle.noise_lines.specs.Verdicts.{named_fault};
 ghost use Rattle.noise_lines.specs.declared.faults.Fault.TheVariants.{Unreadable, Unwritable};
 ghost use Rattle.noise_lines.specs.TracedLines.{traces_of};
 ghost use Rattle.noise_names.specs.Lists.{bytes_of};
-ghost use Rattle.noise_tool.specs.Comparing.{Compares, ComparesPrefix, IfMade, IfUnread, IfWrong, IsCompared, IsNotCompared, IsRefusedTwice, IsUncompared, IsWrongLog, NamesInputTwice, StopsComparing, compared_name, finding_status, schedule_of, uncompared_line};
+ghost use Rattle.noise_tool.specs.Comparing.{Compares, ComparesPrefix, IfMade, IfUnread, IfWrong, IsCompared, IsListed, IsNotCompared, IsRefusedTwice, IsUncompared, IsWrongLog, NamesInputTwice, StopsComparing, compared_name, finding_status, schedule_of, uncompared_line};
+ghost use Rattle.noise_tool.specs.FileFacts.{AreFactsOfText};
 ghost use Rattle.noise_tool.specs.Testing.{EndsTest, RunsTo};
 ghost use Rattle.noise_tool.specs.declared.comparison.Comparison.TheVariants.{Wrong};
 ghost use Rattle.noise_tool.specs.declared.comparison.Uncompared.TheVariants.{NamedTwice, WrongFile};
@@ -19,8 +21,8 @@ ghost use Rattle.noise_tool.specs.declared.comparison.Uncompared.TheVariants.{Na
 use crate::testing::{FilesByName, is_input, trace_named};
 use crate::tracing::Traced;
 use noise_compare::{
-    Facts, Finding, Line, LogFault, LogReport, compare_lines, plain_text, push_schedule,
-    push_skipped, read_log, written_lines,
+    Facts, Finding, Line, LogFault, LogReport, compare_lines, known_lines, plain_text, push_cut,
+    push_schedule, push_skipped, read_log, whole_lines, written_lines,
 };
 use noise_lines::{Fault, Verdict, flush, named_fault, report_fault, verdict_lines, write};
 use noise_words::Compared;
@@ -64,10 +66,10 @@ pub enum Uncompared {
 }
 
 /// Compares the log of a key schedule with the key schedule of a vector file, as `trace` prints it, and writes the
-/// first difference, and the mistakes that give its values. What it writes are secrets. The exit status is 0 where all
-/// lines of the log agree; 1 where one differs, or the log ends before a step of its party's handshake; 2 where the log
-/// or the file is wrong, which is written to `err`; 3 where a file can't be read, which `err` says with its name, the
-/// output can't be written, or memory runs out.
+/// first difference, and the mistakes that give its values or what these show. What it writes are secrets. The exit
+/// status is 0 where all lines of the log agree; 1 where one differs, or the log ends before a step of its party's
+/// handshake; 2 where the log or the file is wrong, which is written to `err`; 3 where a file can't be read, which `err`
+/// says with its name, the output can't be written, or memory runs out.
 pub fn compare_log<F: FilesByName, O: Write, E: Write>(
     alloc: Global,
     names: &Compared,
@@ -76,7 +78,7 @@ pub fn compare_log<F: FilesByName, O: Write, E: Write>(
     err: &mut E,
 ) -> u8
     ensures status { result ≤ 3 }
-    ensures compared { (2 ≤ result) ⊎ IsCompared (F.bytes_at files.now (string_bytes names.now.log))
+    ensures compared { (2 ≤ result) ⊎ IsCompared names.now.all (F.bytes_at files.now (string_bytes names.now.log))
         (F.bytes_at files.now (string_bytes names.now.file)) (O.contents out.old) (O.contents out.new) result }
     ensures quiet { (2 ≤ result) ⊎ (err.new ≡ err.old) }
     ensures fault { result ≡ 2 → IsNotCompared names.now (F.bytes_at files.now (string_bytes names.now.log))
@@ -86,7 +88,7 @@ pub fn compare_log<F: FilesByName, O: Write, E: Write>(
     ensures unwritten { result ≡ 2 → out.new ≡ out.old }
     ensures outside { result ≡ 3 → StopsComparing names.now (F.unreadable files.now) (E.contents err.old)
         (E.contents err.new) }
-    ensures prefix { (out.new ≡ out.old) ⊎ ComparesPrefix (F.bytes_at files.now (string_bytes names.now.log))
+    ensures prefix { (out.new ≡ out.old) ⊎ ComparesPrefix names.now.all (F.bytes_at files.now (string_bytes names.now.log))
         (F.bytes_at files.now (string_bytes names.now.file)) (O.contents out.old) (O.contents out.new) }
 {
     match compare_named(alloc, names, files) {
@@ -135,7 +137,7 @@ fn compare_named<F: FilesByName>(
 ) -> Result<Comparison, Fault>
     ensures made { IfOk result (λ made. IfMade made
         (λ report. IfSome (F.bytes_at files.now (string_bytes names.now.log))
-        (λ log. IfSome (F.bytes_at files.now (string_bytes names.now.file)) (λ file. Compares log file report)))) }
+        (λ log. IfSome (F.bytes_at files.now (string_bytes names.now.file)) (λ file. Compares names.now.all log file report)))) }
     ensures wrong { IfOk result (λ made. IfWrong made
         (IsUncompared names.now (F.bytes_at files.now (string_bytes names.now.log)) (F.bytes_at files.now
         (string_bytes names.now.file)))) }
@@ -155,7 +157,7 @@ fn compare_named<F: FilesByName>(
         Err(fault) => return Err(fault),
     };
     match trace_named(alloc, file_name, files) {
-        Ok(run) => compare_traced(alloc, &log, &run.facts, &run.traced),
+        Ok(run) => compare_traced(alloc, names.all, &log, &run.facts, &run.traced),
         Err(Fault::Unreadable) => Ok(Comparison::Unread(ComparedFile::Vector)),
         Err(fault) => wrong_file(fault),
     }
@@ -164,39 +166,68 @@ fn compare_named<F: FilesByName>(
 // What comes of the log of this text and a run that is traced.
 fn compare_traced(
     alloc: Global,
+    all: bool,
     log: &[u8],
     facts: &Facts,
     traced: &Traced,
 ) -> Result<Comparison, Fault>
-    ensures made { (file : List ℕ) → RunsTo true file traced.now
-        → IfOk result (λ made. IfMade made (Compares log.now file)) }
+    ensures made { (file : List ℕ) → RunsTo true file traced.now → AreFactsOfText file facts.now
+        → IfOk result (λ made. IfMade made (Compares all log.now file)) }
     ensures wrong { IfOk result (λ made. IfWrong made (IsWrongLog log.now)) }
     ensures read { IfOk result (λ made. IfUnread made (λ which. ⊥)) }
     ensures fault { IfErr result EndsTest }
 {
     let right = schedule(alloc, traced)?;
-    let plain = plain_text(alloc, log)?;
+    let whole = whole_lines(alloc, log)?;
+    let plain = plain_text(alloc, &whole)?;
     match read_log(alloc, &plain) {
         Ok(lines) => {
             if lines.is_empty() {
                 return Ok(Comparison::Wrong(Uncompared::NoLine));
             }
             let report = compare_lines(alloc, facts, &lines, &right)?;
-            let others = written_lines(alloc, log)?.saturating_sub(lines.len());
-            Ok(Comparison::Made(with_others(alloc, report, others)?))
+            let others = written_lines(alloc, &whole)?.saturating_sub(lines.len());
+            let known = listed(alloc, all, facts, &lines, &right)?;
+            Ok(Comparison::Made(with_others(alloc, report, others, log, &known)?))
         }
         Err(LogFault::Line(number)) => Ok(Comparison::Wrong(Uncompared::WrongLine(number))),
         Err(LogFault::Memory) => Err(Fault::Memory),
     }
 }
 
-// A report, with the number of the lines of its log that are passed over.
-fn with_others(alloc: Global, report: LogReport, others: usize) -> Result<LogReport, AllocError>
+// The mistakes that are known at the step of the first difference, where all are wanted.
+fn listed(
+    alloc: Global,
+    all: bool,
+    facts: &Facts,
+    log: &[Line<'_>],
+    right: &[Line<'_>],
+) -> Result<Vec<u8>, AllocError>
+    ensures { IfOk result (λ text. IsListed all facts.now right.now log.now text.items) }
+{
+    match all {
+        true => known_lines(alloc, facts, log, right),
+        false => Ok(Vec::new(alloc)),
+    }
+}
+
+// A report, with the number of the lines of its log that are passed over, that its last line is cut off or its last
+// nonce may be, and the mistakes that are known.
+fn with_others(
+    alloc: Global,
+    report: LogReport,
+    others: usize,
+    log: &[u8],
+    known: &[u8],
+) -> Result<LogReport, AllocError>
     ensures finding { IfOk result (λ more. more.finding ≡ report.finding) }
-    ensures text { IfOk result (λ more. more.text.items ≡ report.text.items ++ skipped_text others) }
+    ensures text { IfOk result (λ more. more.text.items
+        ≡ ((report.text.items ++ skipped_text others) ++ cut_text log.now) ++ known.now) }
 {
     let LogReport { finding, mut text } = report;
     push_skipped(alloc, others, &mut text)?;
+    push_cut(alloc, log, &mut text)?;
+    text.extend_from_slice(known)?;
     Ok(LogReport { finding, text })
 }
 

@@ -5,7 +5,7 @@ ghost use Rattle.std.specs.Prelude.{◌≡◌, ◌⊎◌, ◌≤◌, ℕ, List, 
 ghost use Rattle.noise_explain.specs.Shown.{unread_head};
 ghost use Rattle.noise_lines.specs.Prefixes.{AppendsPrefix};
 ghost use Rattle.noise_lines.specs.declared.faults.Fault.TheVariants.{Unreadable};
-ghost use Rattle.noise_tool.specs.Explaining.{ExplainsFiles, ExplainsPrefix, IsExplainedAt, IsExplainedRun, IsExplainedText, IsExplainedVector, IsUnreadName, SaysNamed, StopsExplaining, worse};
+ghost use Rattle.noise_tool.specs.Explaining.{ExplainsFiles, ExplainsPrefix, IsExplainedAt, IsExplainedPattern, IsExplainedRun, IsExplainedText, IsExplainedVector, IsUnreadName, SaysNamed, StopsExplaining, worse};
 ghost use Rattle.noise_tool.specs.PatternNames.{NamesText};
 ghost use Rattle.noise_tool.specs.Testing.{EndsTest};
 
@@ -13,34 +13,38 @@ use crate::counted_run::counted_run;
 use crate::pattern_names::pattern_text;
 use crate::testing::FilesByName;
 use noise_explain::{
-    Explained, explain, explain_line, explain_long, explain_start, explain_vector, is_vector_text,
-    pattern_in, unread_head,
+    Explained, explain, explain_line, explain_long, explain_start, explain_vector, fixed,
+    is_vector_text, pattern_in, unread_head,
 };
 use noise_lines::{Fault, flush, report_fault, write};
 use noise_vectors::{AllowedEvents, VectorFault, VectorFile, read_vector};
-use std::alloc::Global;
+use std::alloc::{AllocError, Global};
 use std::io::Write;
 
 /// Explains the file of each name, one after the other. The exit status is the greatest of theirs: 0 of a right file, 1
 /// of a pattern that breaks a rule or of parties that can't be made, 2 of a wrong text. Where a file can't be read and
 /// its name is that of a pattern, this pattern is explained. Where it can't be read, which `err` says with its name, the
 /// output can't be written or memory runs out, the command ends with 3.
+///
+/// Where `fixes` is true, the text of a pattern is printed with all changes that correct it, and nothing is said of it;
+/// the status is 0 if it is valid then. Of a vector file the same is said as else.
 pub fn explain_files<F: FilesByName, O: Write, E: Write>(
     alloc: Global,
     names: &[String],
+    fixes: bool,
     files: &F,
     out: &mut O,
     err: &mut E,
 ) -> u8
     ensures status { result ≤ 3 }
-    ensures explained { (result ≡ 3) ⊎ ExplainsFiles (F.bytes_at files.now) (F.unreadable files.now)
+    ensures explained { (result ≡ 3) ⊎ ExplainsFiles fixes (F.bytes_at files.now) (F.unreadable files.now)
         (map string_bytes names.now) (O.contents out.old) (O.contents out.new) err.old err.new result }
     ensures outside { (result ≤ 2) ⊎ StopsExplaining (F.unreadable files.now) (map string_bytes names.now)
         (E.contents err.old) (E.contents err.new) }
-    ensures prefix { ExplainsPrefix (F.bytes_at files.now) (F.unreadable files.now) (map string_bytes names.now)
+    ensures prefix { ExplainsPrefix fixes (F.bytes_at files.now) (F.unreadable files.now) (map string_bytes names.now)
         (O.contents out.old) (O.contents out.new) }
 {
-    match explain_each(alloc, names, files, out, err) {
+    match explain_each(alloc, names, fixes, files, out, err) {
         Ok(status) => status,
         Err(fault) => report_fault(alloc, fault, out, err),
     }
@@ -49,24 +53,25 @@ pub fn explain_files<F: FilesByName, O: Write, E: Write>(
 fn explain_each<F: FilesByName, O: Write, E: Write>(
     alloc: Global,
     names: &[String],
+    fixes: bool,
     files: &F,
     out: &mut O,
     err: &mut E,
 ) -> Result<u8, Fault>
     ensures status { IfOk result (λ status. status ≤ 3) }
     ensures explained { IfOk result (λ status. (status ≡ 3)
-        ⊎ ExplainsFiles (F.bytes_at files.now) (F.unreadable files.now)
+        ⊎ ExplainsFiles fixes (F.bytes_at files.now) (F.unreadable files.now)
         (map string_bytes names.now) (O.contents out.old) (O.contents out.new) err.old err.new status) }
     ensures outside { IfOk result (λ status. (status ≤ 2) ⊎ StopsExplaining (F.unreadable files.now)
         (map string_bytes names.now) (E.contents err.old) (E.contents err.new)) }
-    ensures prefix { ExplainsPrefix (F.bytes_at files.now) (F.unreadable files.now) (map string_bytes names.now)
+    ensures prefix { ExplainsPrefix fixes (F.bytes_at files.now) (F.unreadable files.now) (map string_bytes names.now)
         (O.contents out.old) (O.contents out.new) }
     ensures fault { IfErr result EndsTest }
     ensures quiet { IfErr result (λ _. err.new ≡ err.old) }
 {
     let mut status = 0;
     for name in names {
-        let Some(explained) = explain_named(alloc, name.as_str(), files)? else {
+        let Some(explained) = explain_named(alloc, name.as_str(), fixes, files)? else {
             return write_unread(alloc, name.as_str(), err);
         };
         write(&explained.text, out)?;
@@ -99,48 +104,66 @@ fn worse(first: u8, second: u8) -> u8
 fn explain_named<F: FilesByName>(
     alloc: Global,
     name: &str,
+    fixes: bool,
     files: &F,
 ) -> Result<Option<Explained>, Fault>
     ensures explained { IfOk result
-        (λ found. IfSome found (IsExplainedAt (F.bytes_at files.now) (F.unreadable files.now) name.now)) }
+        (λ found. IfSome found (IsExplainedAt fixes (F.bytes_at files.now) (F.unreadable files.now) name.now)) }
     ensures unread { IfOk result (λ found. IfNone found (IsUnreadName (F.unreadable files.now) name.now)) }
     ensures bound { IfOk result (λ found. IfSome found (λ e. e.status ≤ 2)) }
     ensures fault { IfErr result EndsTest }
 {
     match files.read(alloc, name) {
         Ok(text) => {
-            let explained = explain_bytes(alloc, name, &text)?;
+            let explained = explain_bytes(alloc, name, fixes, &text)?;
             Ok(Some(explained))
         }
         Err(Fault::TooLong) => Ok(Some(explain_long(alloc, name)?)),
-        Err(Fault::Unreadable) => explain_pattern(alloc, name),
+        Err(Fault::Unreadable) => explain_pattern(alloc, name, fixes),
         Err(fault) => Err(fault),
     }
 }
 
 // What is said of the pattern of this name, if there is one.
-fn explain_pattern(alloc: Global, name: &str) -> Result<Option<Explained>, Fault>
-    ensures explained { IfOk result (λ found. IfSome found (SaysNamed name.now)) }
+fn explain_pattern(alloc: Global, name: &str, fixes: bool) -> Result<Option<Explained>, Fault>
+    ensures explained { IfOk result (λ found. IfSome found (SaysNamed fixes name.now)) }
     ensures none { IfOk result (λ found. IfNone found ((text : List ℕ) → NamesText name.now text → ⊥)) }
     ensures bound { IfOk result (λ found. IfSome found (λ e. e.status ≤ 2)) }
     ensures fault { IfErr result EndsTest }
 {
     match pattern_text(alloc, name)? {
-        Some(text) => Ok(Some(explain(alloc, name, &text)?)),
+        Some(text) => Ok(Some(explain_or_fix(alloc, name, fixes, &text)?)),
         None => Ok(None),
     }
 }
 
 // What is said of a text, by whether it is that of a vector file.
-fn explain_bytes(alloc: Global, name: &str, text: &[u8]) -> Result<Explained, Fault>
-    ensures explained { IfOk result (IsExplainedText name.now text.now) }
+fn explain_bytes(alloc: Global, name: &str, fixes: bool, text: &[u8]) -> Result<Explained, Fault>
+    ensures explained { IfOk result (IsExplainedText fixes name.now text.now) }
     ensures bound { IfOk result (λ e. e.status ≤ 2) }
     ensures fault { IfErr result EndsTest }
 {
     if is_vector_text(text) {
         explain_vector_text(alloc, name, text)
     } else {
-        Ok(explain(alloc, name, text)?)
+        Ok(explain_or_fix(alloc, name, fixes, text)?)
+    }
+}
+
+// What is said of the text of a pattern, or the text with the changes that correct it.
+fn explain_or_fix(
+    alloc: Global,
+    name: &str,
+    fixes: bool,
+    text: &[u8],
+) -> Result<Explained, AllocError>
+    ensures explained { IfOk result (IsExplainedPattern fixes name.now text.now) }
+    ensures bound { IfOk result (λ e. e.status ≤ 2) }
+{
+    if fixes {
+        fixed(alloc, text)
+    } else {
+        explain(alloc, name, text)
     }
 }
 

@@ -57,8 +57,8 @@ pub fn perform<F: FilesByName, O: Write, E: Write>(
         (F.unreadable files.now) chosen out.old out.new err.old err.new result) }
     ensures tested { IfTest order.now (λ asked. TestOutcome O.contents E.contents (F.bytes_at files.now)
         (F.unreadable files.now) asked out.old out.new err.old err.new result) }
-    ensures explained { IfExplain order.now (λ names. ExplainOutcome O.contents E.contents (F.bytes_at files.now)
-        (F.unreadable files.now) names out.old out.new err.old err.new result) }
+    ensures explained { IfExplain order.now (λ asked. ExplainOutcome O.contents E.contents (F.bytes_at files.now)
+        (F.unreadable files.now) asked out.old out.new err.old err.new result) }
     ensures compared { IfCompare order.now (λ names. CompareOutcome O.contents E.contents (F.bytes_at files.now)
         (F.unreadable files.now) names out.old out.new err.old err.new result) }
     ensures filled { IfFill order.now (λ names. FillOutcome O.contents E.contents (F.bytes_at files.now)
@@ -75,7 +75,9 @@ pub fn perform<F: FilesByName, O: Write, E: Write>(
             Err(fault) => report_fault(alloc, fault, out, err),
         },
         Order::Test(asked) => test(alloc, &asked.files, asked.traces, files, out, err),
-        Order::Explain(names) => explain_files(alloc, names, files, out, err),
+        Order::Explain(asked) => {
+            explain_files(alloc, &asked.files, asked.fixes, files, out, err)
+        }
         Order::Compare(names) => compare_log(alloc, names, files, out, err),
         Order::Fill(names) => fill_template(alloc, names, files, out, err),
     }

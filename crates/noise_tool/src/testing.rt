@@ -10,6 +10,7 @@ ghost use Rattle.noise_lines.specs.declared.faults.Fault.TheVariants.{TooLong, U
 ghost use Rattle.noise_names.specs.Lists.{bytes_of};
 ghost use Rattle.noise_vectors.specs.declared.vector.AllowedEvents.TheVariants.{Any};
 ghost use Rattle.noise_tool.specs.Ends.{IsFilePattern, IsStartFault};
+ghost use Rattle.noise_tool.specs.FileFacts.{AreFactsOfText};
 ghost use Rattle.noise_tool.specs.Performing.{IsRunFault};
 ghost use Rattle.noise_tool.specs.Running.{IsRunOf, expected_in};
 ghost use Rattle.noise_tool.specs.Testing.{ComesOf, EndsTest, HasBegunTest, HasTested, HaveTested, IsPatternOfText, IsPieceOf, IsTested, RunsTo, SayPiece, TestsPrefix, tested_names, below_of, is_input, listed, tally_line, tested_text, unexpected_lines};
@@ -359,6 +360,8 @@ pub(crate) fn trace_named<F: FilesByName>(
 ) -> Result<TestedRun, Fault>
     ensures runs { IfOk result
         (λ run. IfSome (F.bytes_at files.now name.now) (λ text. RunsTo true text run.traced)) }
+    ensures facts { IfOk result
+        (λ run. IfSome (F.bytes_at files.now name.now) (λ text. AreFactsOfText text run.facts)) }
     ensures failed { IfErr result (λ fault. fault ≡ Unreadable → IsTrue (F.unreadable files.now name.now)) }
     ensures fault { IfErr result (λ fault. (status_of fault ≡ 3)
         ⊎ IfSome (F.bytes_at files.now name.now) (λ text. IsRunFault Any text fault)) }
@@ -376,6 +379,8 @@ fn run_named<F: FilesByName>(
     ensures runs { IfOk result (λ run. IfSome (F.bytes_at files.now name.now) (λ text. RunsTo traces text run.traced)) }
     ensures pattern { IfOk result (λ run. IfSome (F.bytes_at files.now name.now)
         (λ text. IsPatternOfText text run.pattern)) }
+    ensures facts { IfOk result
+        (λ run. IfSome (F.bytes_at files.now name.now) (λ text. AreFactsOfText text run.facts)) }
     ensures failed { IfErr result (λ fault. fault ≡ Unreadable → IsTrue (F.unreadable files.now name.now)) }
     ensures fault { IfErr result (λ fault. (status_of fault ≡ 3)
         ⊎ IfSome (F.bytes_at files.now name.now) (λ text. IsRunFault Any text fault)) }
@@ -388,6 +393,7 @@ fn run_named<F: FilesByName>(
 fn run_text(alloc: Global, text: &[u8], traces: bool) -> Result<TestedRun, Fault>
     ensures runs { length text.now ≤ 4194304 → IfOk result (λ run. RunsTo traces text.now run.traced) }
     ensures pattern { IfOk result (λ run. IsPatternOfText text.now run.pattern) }
+    ensures facts { IfOk result (λ run. AreFactsOfText text.now run.facts) }
     ensures read { IfErr result (λ fault. ¬ (fault ≡ Unreadable)) }
     ensures fault { IfErr result (λ fault. (status_of fault ≡ 3) ⊎ IsRunFault Any text.now fault) }
 {

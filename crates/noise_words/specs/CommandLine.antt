@@ -1,6 +1,5 @@
 -- The command line, as `clap` sees it, and the command that its matches state.
-use Rattle.std.specs.Prelude.{List, [], ◌∷◌, ◌++◌, Option, Some, None, Bool, true, false, String, Vec, map, codes, find, option_map, option_and_then, string_bytes, if◌then◌else◌}
-use Rattle.std.specs.Global.{Global}
+use Rattle.std.specs.Prelude.{List, [], ◌∷◌, ◌++◌, Option, Some, None, Bool, true, false, map, codes, find, option_map, option_and_then, string_bytes, if◌then◌else◌}
 use Rattle.std.specs.List.{list_any}
 use Rattle.std.specs.Str.{bytes_eq}
 use Rattle.noise_words.specs.declared.help.Subcommand.{Subcommand}
@@ -8,6 +7,7 @@ use Rattle.noise_words.specs.declared.orders.Chosen.{Chosen}
 use Rattle.noise_words.specs.declared.orders.Chosen.TheVariants as chosen
 use Rattle.noise_words.specs.declared.orders.Order.{Order}
 use Rattle.noise_words.specs.declared.orders.Compared.{Compared}
+use Rattle.noise_words.specs.declared.orders.Explained.{Explained}
 use Rattle.noise_words.specs.declared.orders.Filled.{Filled}
 use Rattle.noise_words.specs.declared.orders.Order.TheVariants.{Command, Compare, Explain, Fill, Test}
 use Rattle.noise_words.specs.declared.orders.Tested.{Tested}
@@ -27,13 +27,13 @@ use Rattle.clap.specs.Faults.{fault_of}
 abbrev pub Choice : Type 0
 Choice = Text × List Text
 
--- The values that a command wants, by these names: none, one, two, one and a second that may be left out, at least
--- one beside these flags, or one beside these options and flags.
+-- The values that a command wants, by these names: none, one, two beside these flags, one and a second that may be left
+-- out, at least one beside these flags, or one beside these options and flags.
 pub data Wants : Type 0 where
   Nothing : Wants
   One : Text → Wants
   Several : Text → List Text → Wants
-  Two : Text → Text → Wants
+  Two : Text → Text → List Text → Wants
   OneOrTwo : Text → Text → Wants
   OneWith : Text → List Choice → List Text → Wants
 
@@ -43,6 +43,13 @@ traces_flag = codes "trace"
 
 abbrev pub test : Text × Wants
 test = (codes "test", Several (codes "FILE") (traces_flag ∷ []))
+
+-- the flag of `explain`
+abbrev pub fix_flag : Text
+fix_flag = codes "fix"
+
+abbrev pub explain : Text × Wants
+explain = (codes "explain", Several (codes "FILE") (fix_flag ∷ []))
 
 -- the options and the flag of `trace`
 abbrev pub part_choice : Choice
@@ -60,8 +67,12 @@ trace = (codes "trace", OneWith (codes "FILE") (part_choice ∷ role_choice ∷ 
 abbrev pub template : Text × Wants
 template = (codes "template", OneOrTwo (codes "NAME|FILE") (codes "KEYS"))
 
+-- the flag of `compare`
+abbrev pub all_flag : Text
+all_flag = codes "all"
+
 abbrev pub compare : Text × Wants
-compare = (codes "compare", Two (codes "LOG") (codes "FILE"))
+compare = (codes "compare", Two (codes "LOG") (codes "FILE") (all_flag ∷ []))
 
 -- the commands, each with the values that it wants
 abbrev pub commands : List (Text × Wants)
@@ -69,7 +80,7 @@ commands =
     (codes "list", Nothing)
     ∷ (codes "show", One (codes "NAME"))
     ∷ (codes "check", One (codes "FILE"))
-    ∷ (codes "explain", Several (codes "FILE") [])
+    ∷ explain
     ∷ template
     ∷ (codes "talk", One (codes "FILE"))
     ∷ (codes "replay", One (codes "FILE"))
@@ -98,7 +109,7 @@ flag name = record (new_rule name) { long = Some name; action = Some SetTrue }
 abbrev pub rules_for : Wants → List Rule
 rules_for Nothing = []
 rules_for (One value) = wanted value ∷ []
-rules_for (Two first second) = wanted first ∷ wanted second ∷ []
+rules_for (Two first second flags) = wanted first ∷ wanted second ∷ map flag flags
 rules_for (OneOrTwo first second) = wanted first ∷ new_rule second ∷ []
 rules_for (Several value flags) = several value ∷ map flag flags
 rules_for (OneWith value choices flags) = wanted value ∷ (map optional choices ++ map flag flags)
@@ -154,11 +165,12 @@ words_of (chosen.Trace traced) = named_trace traced
 abbrev pub named_test : Tested → Named
 named_test tested = (codes "test", map string_bytes tested.files.items, flag_text tested.traces ∷ [])
 
-abbrev pub named_explain : Vec (String Global) Global → Named
-named_explain files = (codes "explain", map string_bytes files.items, [])
+abbrev pub named_explain : Explained → Named
+named_explain explained = (codes "explain", map string_bytes explained.files.items, flag_text explained.fixes ∷ [])
 
 abbrev pub named_compare : Compared → Named
-named_compare compared = (codes "compare", string_bytes compared.log ∷ string_bytes compared.file ∷ [], [])
+named_compare compared =
+    (codes "compare", string_bytes compared.log ∷ string_bytes compared.file ∷ [], flag_text compared.all ∷ [])
 
 abbrev pub named_fill : Filled → Named
 named_fill filled = (codes "template", string_bytes filled.pattern ∷ string_bytes filled.keys ∷ [], [])
@@ -166,7 +178,7 @@ named_fill filled = (codes "template", string_bytes filled.pattern ∷ string_by
 abbrev pub order_of : Order → Named
 order_of (Command c) = words_of c
 order_of (Test tested) = named_test tested
-order_of (Explain files) = named_explain files
+order_of (Explain explained) = named_explain explained
 order_of (Compare compared) = named_compare compared
 order_of (Fill filled) = named_fill filled
 
@@ -202,8 +214,9 @@ with_second first (Some second) = first ∷ second ∷ []
 abbrev pub order_with : List Row → Text × Wants → Option Named
 order_with rows (name, Nothing) = Some (name, [], [])
 order_with rows (name, One value) = option_map (λ text. (name, text ∷ [], [])) (first_of value rows)
-order_with rows (name, Two first second) =
-    option_and_then (λ one. option_map (λ two. (name, one ∷ two ∷ [], [])) (first_of second rows)) (first_of first rows)
+order_with rows (name, Two first second flags) = option_and_then
+    (λ one. option_map (λ two. (name, one ∷ two ∷ [], map (flag_in rows) flags)) (first_of second rows))
+    (first_of first rows)
 order_with rows (name, OneOrTwo first second) =
     option_map (λ one. (name, with_second one (first_of second rows), [])) (first_of first rows)
 order_with rows (name, Several value flags) =

@@ -1,13 +1,15 @@
-//! The options of `trace`, whose values are checked here, the flags of `trace` and `test`, and the files of `explain`,
-//! `compare` and `template`.
+//! The options of `trace`, whose values are checked here, the flags of `trace`, `test`, `compare` and `explain`, and
+//! the files of `compare` and `template`.
 
 ghost use Rattle.std.specs.Prelude.{◌≡◌, IfOk, codes, option_map};
 ghost use Rattle.clap.specs.Words.{found_of, rows_of};
 ghost use Rattle.noise_words.specs.CommandLine.{choice_in, flag_in, flag_text, named_compare, named_explain, named_test, named_trace, order_of, part_choice, part_text, role_choice, role_text, stated_by};
 
 use crate::command_line::{value, values};
-use crate::help::{HEADING, ONLY, ROLE, TRACES};
-use crate::orders::{Chosen, Compared, Filled, Order, Tested, Traced, TracedPart, TracedRole};
+use crate::help::{ALL, FIXES, HEADING, ONLY, ROLE, TRACES};
+use crate::orders::{
+    Chosen, Compared, Explained, Filled, Order, Tested, Traced, TracedPart, TracedRole,
+};
 use clap::ArgMatches;
 use std::alloc::{AllocError, Global};
 
@@ -45,12 +47,13 @@ pub fn tested(alloc: Global, found: &ArgMatches<'_>) -> Result<Option<Tested>, A
 }
 
 /// What is explained, where the matches of `explain` have files.
-pub fn explained(alloc: Global, found: &ArgMatches<'_>) -> Result<Option<Vec<String>>, AllocError>
-    ensures { IfOk result (λ files. option_map named_explain files
+pub fn explained(alloc: Global, found: &ArgMatches<'_>) -> Result<Option<Explained>, AllocError>
+    ensures { IfOk result (λ e. option_map named_explain e
         ≡ stated_by (codes "explain") (rows_of (found_of found.now))) }
 {
+    let fixes = is_given(found, FIXES.name);
     match values(alloc, found, "FILE")? {
-        Some(files) => Ok(Some(files)),
+        Some(files) => Ok(Some(Explained { files, fixes })),
         None => Ok(None),
     }
 }
@@ -60,11 +63,12 @@ pub fn compared(alloc: Global, found: &ArgMatches<'_>) -> Result<Option<Compared
     ensures { IfOk result (λ c. option_map named_compare c ≡ stated_by (codes "compare") (rows_of
         (found_of found.now))) }
 {
+    let all = is_given(found, ALL.name);
     let Some(log) = value(alloc, found, "LOG")? else {
         return Ok(None);
     };
     match value(alloc, found, "FILE")? {
-        Some(file) => Ok(Some(Compared { log, file })),
+        Some(file) => Ok(Some(Compared { log, file, all })),
         None => Ok(None),
     }
 }

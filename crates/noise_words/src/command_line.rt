@@ -4,12 +4,12 @@ ghost use Rattle.std.specs.Prelude.{◌≡◌, ◌≢◌, ◌⊎◌, ◌∷◌, 
 ghost use Rattle.clap.specs.Simple.{new_rule, with_subcommand};
 ghost use Rattle.clap.specs.Words.{all_of, app_of, first_of, found_of, kind_of, rows_of, rule_of, shape_of, subcommand_rows_of};
 ghost use Rattle.clap.specs.declared.builder.command.Command.TheViews.{out-Command};
-ghost use Rattle.noise_words.specs.CommandLine.{Nothing, asked, compare, flag, noise, optional, order_of, rules_for, stated_by, stated_in, subcommand, template, test, trace, wanted, wanted_by, words_of};
+ghost use Rattle.noise_words.specs.CommandLine.{Nothing, asked, compare, explain, flag, noise, optional, order_of, rules_for, stated_by, stated_in, subcommand, template, test, trace, wanted, wanted_by, words_of};
 
 use crate::choices::{compared, explained, templated, tested, traced, wrong_choice};
 use crate::help::{
-    COMPARE, Flag, HEADING, OF_PATTERNS, OF_VECTORS, ONLY, ROLE, Subcommand, TEMPLATE, TEST, TRACE,
-    TRACES, ValueOption,
+    ALL, COMPARE, EXPLAIN, FIXES, Flag, HEADING, OF_PATTERNS, OF_VECTORS, ONLY, ROLE, Subcommand,
+    TEMPLATE, TEST, TRACE, TRACES, ValueOption,
 };
 use crate::orders::{Chosen, LineFault, Order};
 use clap::error::ErrorKind;
@@ -64,8 +64,25 @@ fn command<'a>(alloc: Global) -> Result<Command<'a>, AllocError>
     ensures { IfOk result (λ c. app_of c ≡ noise) }
 {
     let whole = adding(alloc, with_list(alloc)?, &OF_PATTERNS)?;
-    let whole = adding(alloc, with_template(alloc, whole)?, &OF_VECTORS)?;
+    let whole = with_template(alloc, with_explain(alloc, whole)?)?;
+    let whole = adding(alloc, whole, &OF_VECTORS)?;
     with_compare(alloc, with_trace(alloc, with_test(alloc, whole)?)?)
+}
+
+// With the subcommand of patterns that has a flag, too.
+fn with_explain<'a>(alloc: Global, whole: Command<'a>) -> Result<Command<'a>, AllocError>
+    ensures { IfOk result (λ c. app_of c ≡ with_subcommand (app_of whole.entry) (subcommand explain)) }
+{
+    whole.subcommand(with_fix(alloc)?)
+}
+
+// The subcommand of patterns that has a flag.
+fn with_fix<'a>(alloc: Global) -> Result<Command<'a>, AllocError>
+    ensures shape { IfOk result (λ c. shape_of c ≡ subcommand explain) }
+    ensures local { IfOk result (λ c. (out-Command c).has_globals ≡ false) }
+{
+    let whole = with_value(alloc, &EXPLAIN)?;
+    whole.arg(flag_of(alloc, &FIXES))
 }
 
 // With the subcommand that has a second value that may be left out, too.
@@ -137,20 +154,21 @@ fn with_options<'a>(alloc: Global) -> Result<Command<'a>, AllocError>
     whole.arg(flag_of(alloc, &HEADING))
 }
 
-// With the subcommand that has two values, too.
+// With the subcommand that has two values and a flag, too.
 fn with_compare<'a>(alloc: Global, whole: Command<'a>) -> Result<Command<'a>, AllocError>
     ensures { IfOk result (λ c. app_of c ≡ with_subcommand (app_of whole.entry) (subcommand compare)) }
 {
     whole.subcommand(with_two(alloc)?)
 }
 
-// The subcommand that has two values.
+// The subcommand that has two values and a flag.
 fn with_two<'a>(alloc: Global) -> Result<Command<'a>, AllocError>
     ensures shape { IfOk result (λ c. shape_of c ≡ subcommand compare) }
     ensures local { IfOk result (λ c. (out-Command c).has_globals ≡ false) }
 {
     let whole = with_value(alloc, &COMPARE)?;
-    whole.arg(second_value(alloc))
+    let whole = whole.arg(second_value(alloc))?;
+    whole.arg(flag_of(alloc, &ALL))
 }
 
 // Its second value.
@@ -159,7 +177,7 @@ fn second_value<'a>(alloc: Global) -> Arg<'a>
     ensures local { result.global ≡ false }
 {
     Arg::new(alloc, "FILE").required(true).help(
-        "A vector file as replay takes it, with keys that are for tests alone",
+        "A vector file as replay takes it, or - for standard input, with keys that are for tests alone",
     )
 }
 

@@ -28,8 +28,32 @@ Replace the digits of each placeholder wherever they stand, or give KEYS, a file
 
 Example: noise template XXpsk3";
 
+const CHECK_HELP: &str = "\
+The exit status is 0 if the pattern is valid, 1 if it breaks a rule, 2 if its text is wrong, and 3 if the file can't be
+read.
+
+Example: noise check examples/patterns/ikpsk2.pattern";
+
+const EXPLAIN_HELP: &str = "\
+The exit status is the greatest of those of the files: 0 of a right one, 1 of a pattern that breaks a rule or of parties
+that can't begin, 2 of a wrong text, and 3 of a file that can't be read.
+
+Example: noise explain examples/patterns/broken.pattern";
+
+const TEST_HELP: &str = "\
+The exit status is 0 if all files passed, 1 if one didn't, 2 if the command line is wrong, and 3 if the output can't be
+written.
+
+Example: noise test examples/vectors/xx.vector examples/vectors/ik.vector";
+
+const COMPARE_HELP: &str = "\
+The exit status is 0 if the log agrees, 1 if a line of it differs or it ends too early, 2 if the log or the vector file
+is wrong, and 3 if one can't be read.
+
+Example: noise compare yours.log examples/vectors/xx.vector";
+
 /// The subcommands that have a pattern.
-pub const OF_PATTERNS: [Subcommand<'static>; 3] = [
+pub const OF_PATTERNS: [Subcommand<'static>; 2] = [
     Subcommand {
         name: "show",
         value: "NAME",
@@ -43,18 +67,21 @@ pub const OF_PATTERNS: [Subcommand<'static>; 3] = [
         value: "FILE",
         several: false,
         about: "Say whether the pattern in a file is valid, and how many bytes each message adds",
-        meaning: "A file with the text of a pattern, or a pattern name, as XX, where no such file can be read",
-        example: "Example: noise check examples/patterns/ikpsk2.pattern",
-    },
-    Subcommand {
-        name: "explain",
-        value: "FILE",
-        several: true,
-        about: "Say in sentences what is wrong with a pattern or a vector file, and what follows from it",
-        meaning: "Files with the text of a pattern, vector files, and pattern names, as XX",
-        example: "Example: noise explain examples/patterns/broken.pattern",
+        meaning: "A file with the text of a pattern, - for standard input, or a pattern name, as XX, where no such \
+                  file can be read",
+        example: CHECK_HELP,
     },
 ];
+
+/// The subcommand of patterns and vector files that has several values and a flag.
+pub const EXPLAIN: Subcommand<'static> = Subcommand {
+    name: "explain",
+    value: "FILE",
+    several: true,
+    about: "Say in sentences what is wrong with a pattern or a vector file, and what follows from it",
+    meaning: "Files with the text of a pattern, vector files, - for standard input, and pattern names, as XX",
+    example: EXPLAIN_HELP,
+};
 
 /// The subcommands that have the name of a vector file.
 pub const OF_VECTORS: [Subcommand<'static>; 3] = [
@@ -100,8 +127,9 @@ pub const TEST: Subcommand<'static> = Subcommand {
     value: "FILE",
     several: true,
     about: "Run vector files and say of each whether its run is what it expects",
-    meaning: "Vector files of version 2 with expect lines; of a frame that differs the piece is named",
-    example: "Example: noise test examples/vectors/xx.vector examples/vectors/ik.vector",
+    meaning: "Vector files of version 2 with expect lines, - for standard input; of a frame that differs the piece is \
+              named",
+    example: TEST_HELP,
 };
 
 /// The subcommand that has a value, options and a flag.
@@ -114,15 +142,15 @@ pub const TRACE: Subcommand<'static> = Subcommand {
     example: "Example: noise trace --role responder examples/vectors/nnpsk2.vector",
 };
 
-/// The subcommand that has two values: the first.
+/// The subcommand that has two values and a flag: the first.
 pub const COMPARE: Subcommand<'static> = Subcommand {
     name: "compare",
     value: "LOG",
     several: false,
     about: "Print the first line of a logged key schedule that differs from that of a vector file, \
-            and the mistakes that give its values: what it prints are secrets",
-    meaning: "Lines of a key schedule in the form of trace, logged by another implementation",
-    example: "Example: noise compare yours.log examples/vectors/xx.vector",
+            and the mistakes that give its values, or what these show: what it prints are secrets",
+    meaning: "Lines of a key schedule in the form of trace, logged by another implementation, - for standard input",
+    example: COMPARE_HELP,
 };
 
 /// An option that has a value, and what its help says.
@@ -149,6 +177,19 @@ pub struct Flag<'a> {
 pub const TRACES: Flag<'static> = Flag {
     name: "trace",
     meaning: "Print the trace of each file that differs, up to the line that differs: what it prints are secrets",
+};
+
+/// Whether the mistakes that are known at the step that differs are printed.
+pub const ALL: Flag<'static> = Flag {
+    name: "all",
+    meaning: "Print each mistake that is known at the step that differs, too",
+};
+
+/// Whether corrected texts are printed.
+pub const FIXES: Flag<'static> = Flag {
+    name: "fix",
+    meaning: "Print the text of a pattern with all changes that correct it, and nothing else: the status is that of \
+              the printed text",
 };
 
 /// Whether the first line of a trace names the words of the others.

@@ -10,5 +10,5 @@ mod orders;
 pub use command_line::chosen;
 pub use no_command::{line_status, next_commands};
 pub use orders::{
-    Chosen, Compared, Filled, LineFault, Order, Tested, Traced, TracedPart, TracedRole,
+    Chosen, Compared, Explained, Filled, LineFault, Order, Tested, Traced, TracedPart, TracedRole,
 };

@@ -45,6 +45,15 @@ pub struct Tested {
     pub traces: bool,
 }
 
+/// What is explained.
+#[derive(Drop, PartialEq, Eq)]
+pub struct Explained {
+    /// The names of the files.
+    pub files: Vec<String>,
+    /// Whether of a pattern text that can be corrected the corrected text is wanted in place of sentences.
+    pub fixes: bool,
+}
+
 /// What is compared.
 #[derive(Drop, PartialEq, Eq)]
 pub struct Compared {
@@ -52,6 +61,8 @@ pub struct Compared {
     pub log: String,
     /// The name of the vector file.
     pub file: String,
+    /// Whether the mistakes that are known at the step are wanted too.
+    pub all: bool,
 }
 
 /// What is filled in.
@@ -93,8 +104,8 @@ pub enum Order {
     Command(Chosen),
     /// Run vector files, and compare each run with what its file expects.
     Test(Tested),
-    /// Explain the files of these names.
-    Explain(Vec<String>),
+    /// Explain files, or print the corrected texts of patterns.
+    Explain(Explained),
     /// Compare a key schedule that was logged with that of a vector file.
     Compare(Compared),
     /// Print the vector file of `Template` with the values of a file in the place of its placeholders.

@@ -11,6 +11,7 @@ import (
 	"strconv"
 	"strings"
 
+	"example.org/flynnpeer"
 	"example.org/yulimosar/noise"
 )
 
@@ -19,8 +20,6 @@ type channel interface {
 	io.ReadWriter
 	CloseWrite() error
 }
-
-var errRefused = errors.New("a message was refused")
 
 type words struct {
 	pattern   string
@@ -167,7 +166,7 @@ func nameOf(err error) string {
 	case err == nil:
 		return "end"
 	case errors.Is(err, noise.ErrTag), errors.Is(err, noise.ErrShort),
-		errors.Is(err, noise.ErrTooLong), errors.Is(err, errRefused):
+		errors.Is(err, noise.ErrTooLong), errors.Is(err, flynnpeer.ErrRefused):
 		return "refused"
 	case errors.Is(err, noise.ErrCut), errors.Is(err, io.ErrUnexpectedEOF):
 		return "cut"

@@ -1,6 +1,7 @@
 use Rattle.std.proofs.Common.{◌≡◌, ◌∙◌, ◌++◌, ℕ, List, [], ap, refl, subst, sym}
 use Rattle.noise_compare.specs.Advice.{HasBytesAlone}
 use Rattle.noise_compare.specs.Situations.{secrets_of}
+use Rattle.noise_compare.proofs.SituationLemmas.{same-text}
 use Rattle.noise_compare.proofs.sentences.of_end.Goals as goal
 
 said : (start new text : List ℕ) → start ≡ [] → new ≡ start ++ text → new ≡ text
@@ -16,6 +17,7 @@ returns c = record {
     after = c.situation-at.ensures.right ∙ c.in_ok-parts.ensures.right;
     bytes = c.situation-at.ensures.bytes ∙ c.in_ok-parts.ensures.bytes;
     data_is = c.situation-at.ensures.data_is ∙ c.in_ok-parts.ensures.data_is;
+    text = same-text _ _ _ _ c.situation-at.ensures.text_is c.in_ok-parts.ensures.text;
     secret = c.situation-at.ensures.secret ∙ c.in_ok-parts.ensures.secret;
     secrets = c.situation-at.ensures.secrets ∙ ap (secrets_of c.args.facts.now) c.in_ok-parts.ensures.kind;
     name = c.situation-at.ensures.name;

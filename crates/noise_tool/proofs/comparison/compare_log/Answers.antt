@@ -19,6 +19,6 @@ returns-in-Ok-clause-prefix g c = inr (record {
 })
 
 pub returns-in-Ok-Made-clause-prefix : goal.returns-in-Ok-Made-clause-prefix
-returns-in-Ok-Made-clause-prefix g c = inr (begun-left (g.O.Write.contents) _ _ _ c.in-Err-print_report.fault c.print_report.new.out c.report_fault.new.out
+returns-in-Ok-Made-clause-prefix g c = inr (begun-left (g.O.Write.contents) c.args.names.now.all _ _ _ c.in-Err-print_report.fault c.print_report.new.out c.report_fault.new.out
     c.in-Ok-Made.report (ap status_of c.in-Err-print_report.ensures.fault) c.report_fault.ensures.output (rw c.in-Ok-Made.field-0-is at c.in-Ok-Made.ensures.made)
     c.in-Err-print_report.ensures.prefix)

@@ -17,5 +17,5 @@ returns-in-Err-clause-outside g c = inr (stops-at (g.E.Write.contents) _ _ c.in-
 
 pub returns-in-Err-clause-prefix : goal.returns-in-Err-clause-prefix
 returns-in-Err-clause-prefix g c =
-    left-begun (g.O.Write.contents) (g.F.FilesByName.bytes_at c.args.files.now) (g.F.FilesByName.unreadable c.args.files.now) _ _ c.in-Err.fault c.explain_each.new.out c.report_fault.new.out
+    left-begun (g.O.Write.contents) c.args.fixes (g.F.FilesByName.bytes_at c.args.files.now) (g.F.FilesByName.unreadable c.args.files.now) _ _ c.in-Err.fault c.explain_each.new.out c.report_fault.new.out
     c.in-Err.ensures.fault c.report_fault.ensures.output c.explain_each.ensures.prefix

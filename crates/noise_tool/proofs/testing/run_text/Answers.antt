@@ -5,6 +5,9 @@ use Rattle.noise_tool.proofs.testing.run_text.Goals as goal
 pub returns-clause-pattern : goal.returns-clause-pattern
 returns-clause-pattern c = (c.in_ok-vector.vector, c.in_ok-vector.ensures.right, c.in_ok-vector.ensures.text, c.in-Ok.ensures.pattern)
 
+pub returns-clause-facts : goal.returns-clause-facts
+returns-clause-facts c = (c.in_ok-vector.vector, c.in_ok-vector.ensures.right, c.in_ok-vector.ensures.text, c.in_ok-facts.ensures)
+
 pub returns-in-Err-clause-read : goal.returns-in-Err-clause-read
 returns-in-Err-clause-read c = start-unread c.in_ok-vector.vector c.in-Err.fault c.in-Err.ensures.fault
 

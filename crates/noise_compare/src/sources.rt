@@ -1,0 +1,218 @@
+//! What an operation of an equation takes.
+
+ghost use Rattle.std.specs.Prelude.{◌≡◌, ◌++◌, None, Some, IfOk, drop, if◌then◌else◌, option_copied, replicate, reverse, take};
+ghost use Rattle.hex.specs.Hex.{encode_lower};
+ghost use Rattle.sha2.specs.Sha256.{sha256};
+ghost use Rattle.noise_compare.specs.Values.{items_of};
+ghost use Rattle.noise_compare.specs.Holding.{has_after, has_before, in_form, is_after_name, is_of_text, logged_value, source_bytes, taken};
+
+use crate::equation::{Form, Source, Value};
+use crate::state::{Kind, Logged, Situation};
+use crate::texts::without_tag;
+use sha2::{Digest, Sha256};
+use std::alloc::{AllocError, Global};
+
+static ZEROS: [u8; 32] = [0; 32];
+
+/// The value of a source, if the step has it.
+#[tactic(auto, unfolding(crate::specs::Holding::source_bytes))]
+pub(crate) fn source_bytes<'a>(
+    source: Source,
+    at: &'a Situation<'_>,
+    logged: &'a Logged,
+) -> Option<&'a [u8]>
+    ensures { option_copied result ≡ source_bytes source at.now logged.now }
+{
+    match source {
+        Source::Nothing => when(true, &[]),
+        Source::Zeros => when(true, &ZEROS),
+        Source::Hash => when(has_before(at.kind), &at.before.hash),
+        Source::ChainingKey => when(has_before(at.kind), &at.before.chaining_key),
+        Source::Key => key_before(at),
+        Source::RightHash => when(has_after(at.kind), &at.right.hash),
+        Source::RightChainingKey => when(has_after(at.kind), &at.right.chaining_key),
+        Source::RightKey => key_bytes(&at.right.key),
+        Source::Name => when(is_after_name(at.kind), at.name),
+        Source::Taken => taken(at.kind, at),
+        Source::RightBytes => when(is_of_text(at.kind), at.bytes),
+        Source::LoggedBytes => bytes_of(&logged.bytes),
+        Source::LoggedHash => bytes_of(&logged.hash),
+        Source::LoggedChainingKey => bytes_of(&logged.chaining_key),
+    }
+}
+
+fn when<'a>(is: bool, bytes: &'a [u8]) -> Option<&'a [u8]>
+    ensures { option_copied result ≡ (if is then Some bytes.now else None) }
+{
+    if is { Some(bytes) } else { None }
+}
+
+fn bytes_of<'a>(value: &'a Option<Vec<u8>>) -> Option<&'a [u8]>
+    ensures { option_copied result ≡ items_of value.now }
+{
+    match value {
+        Some(bytes) => Some(bytes.as_slice()),
+        None => None,
+    }
+}
+
+fn key_before<'a>(at: &'a Situation<'_>) -> Option<&'a [u8]>
+    ensures { option_copied result ≡ (if is_after_name at.now.kind then at.now.before.key else None) }
+{
+    if !is_after_name(at.kind) {
+        return None;
+    }
+    key_bytes(&at.before.key)
+}
+
+fn key_bytes<'a>(key: &'a Option<[u8; 32]>) -> Option<&'a [u8]>
+    ensures { option_copied result ≡ key.now }
+{
+    match key {
+        Some(key) => when(true, key),
+        None => None,
+    }
+}
+
+#[tactic(auto, unfolding(crate::specs::Holding::taken))]
+fn taken<'a>(kind: Kind, at: &'a Situation<'_>) -> Option<&'a [u8]>
+    ensures { option_copied result ≡ taken kind at.now }
+{
+    match kind {
+        Kind::Name => Some(at.name),
+        Kind::Prologue | Kind::Data | Kind::Ephemeral => Some(at.data),
+        Kind::Agreement | Kind::Secret => when(true, &at.secret),
+        Kind::Text => Some(at.text),
+        Kind::Opening | Kind::Rekeyed | Kind::Transport => None,
+    }
+}
+
+#[tactic(auto, unfolding(crate::specs::Holding::has_before))]
+pub(crate) fn has_before(kind: Kind) -> bool
+    ensures { result ≡ has_before kind }
+{
+    match kind {
+        Kind::Name | Kind::Rekeyed | Kind::Transport => false,
+        _ => true,
+    }
+}
+
+#[tactic(auto, unfolding(crate::specs::Holding::has_after))]
+fn has_after(kind: Kind) -> bool
+    ensures { result ≡ has_after kind }
+{
+    match kind {
+        Kind::Opening | Kind::Rekeyed | Kind::Transport => false,
+        _ => true,
+    }
+}
+
+#[tactic(auto, unfolding(crate::specs::Holding::is_after_name))]
+fn is_after_name(kind: Kind) -> bool
+    ensures { result ≡ is_after_name kind }
+{
+    match kind {
+        Kind::Name => false,
+        _ => true,
+    }
+}
+
+#[tactic(auto, unfolding(crate::specs::Holding::is_of_text))]
+fn is_of_text(kind: Kind) -> bool
+    ensures { result ≡ is_of_text kind }
+{
+    match kind {
+        Kind::Text => true,
+        _ => false,
+    }
+}
+
+/// The logged value of this kind.
+#[tactic(auto, unfolding(crate::specs::Holding::logged_value))]
+pub(crate) fn logged_value(value: Value, logged: &Logged) -> Option<&[u8]>
+    ensures { option_copied result ≡ logged_value value logged.now }
+{
+    match value {
+        Value::Bytes => bytes_of(&logged.bytes),
+        Value::Hash => bytes_of(&logged.hash),
+        Value::ChainingKey => bytes_of(&logged.chaining_key),
+        Value::Key => bytes_of(&logged.key),
+    }
+}
+
+/// Bytes in a form.
+#[tactic(auto, unfolding(crate::specs::Holding::in_form))]
+pub(crate) fn in_form(alloc: Global, form: Form, bytes: &[u8]) -> Result<Vec<u8>, AllocError>
+    ensures { IfOk result (λ v. v.items ≡ in_form form bytes.now) }
+{
+    let big = (bytes.len() as u64).to_be_bytes();
+    let little = (bytes.len() as u64).to_le_bytes();
+    match form {
+        Form::Plain => Vec::from_slice(alloc, bytes),
+        Form::Reversed => reversed(alloc, bytes),
+        Form::Digested => digested(alloc, bytes),
+        Form::HexDigits => hex_digits(alloc, bytes),
+        Form::Doubled => joined(alloc, bytes, bytes),
+        Form::WithoutFirst => without_first(alloc, bytes),
+        Form::WithoutLast => Vec::from_slice(alloc, &bytes[..bytes.len().saturating_sub(1)]),
+        Form::WithoutTag => Vec::from_slice(alloc, without_tag(bytes)),
+        Form::ZeroInFront => joined(alloc, &[0], bytes),
+        Form::ZeroBehind => joined(alloc, bytes, &[0]),
+        Form::LineFeedBehind => joined(alloc, bytes, &[10]),
+        Form::TagBehind => joined(alloc, bytes, &[0; 16]),
+        Form::LengthByte => joined(alloc, &little[..1], bytes),
+        Form::BigLength2 => joined(alloc, &big[6..], bytes),
+        Form::LittleLength2 => joined(alloc, &little[..2], bytes),
+        Form::BigLength4 => joined(alloc, &big[4..], bytes),
+        Form::LittleLength4 => joined(alloc, &little[..4], bytes),
+        Form::BigLength8 => joined(alloc, &big, bytes),
+        Form::LittleLength8 => joined(alloc, &little, bytes),
+        Form::TypeInFront => joined(alloc, &[5], bytes),
+        Form::HalfZeroed => half_zeroed(alloc, bytes),
+    }
+}
+
+fn reversed(alloc: Global, bytes: &[u8]) -> Result<Vec<u8>, AllocError>
+    ensures { IfOk result (λ v. v.items ≡ reverse bytes.now) }
+{
+    let mut reversed = Vec::from_slice(alloc, bytes)?;
+    reversed.reverse();
+    Ok(reversed)
+}
+
+fn digested(alloc: Global, bytes: &[u8]) -> Result<Vec<u8>, AllocError>
+    ensures { IfOk result (λ v. v.items ≡ sha256 bytes.now) }
+{
+    let digest: [u8; 32] = Sha256::digest(bytes);
+    Vec::from_slice(alloc, &digest)
+}
+
+fn hex_digits(alloc: Global, bytes: &[u8]) -> Result<Vec<u8>, AllocError>
+    ensures { IfOk result (λ v. v.items ≡ encode_lower bytes.now) }
+{
+    let digits = hex::encode(alloc, bytes)?;
+    Vec::from_slice(alloc, digits.as_bytes())
+}
+
+fn without_first(alloc: Global, bytes: &[u8]) -> Result<Vec<u8>, AllocError>
+    ensures { IfOk result (λ v. v.items ≡ drop 1 bytes.now) }
+{
+    bytes.iter().skip(1).copied().collect(alloc)
+}
+
+fn half_zeroed(alloc: Global, bytes: &[u8]) -> Result<Vec<u8>, AllocError>
+    ensures { IfOk result (λ v. v.items ≡ take 16 bytes.now ++ replicate 16 0) }
+{
+    let mut half = Vec::from_slice(alloc, bytes)?;
+    half.truncate(16);
+    half.extend_from_slice(&[0; 16])?;
+    Ok(half)
+}
+
+fn joined(alloc: Global, first: &[u8], second: &[u8]) -> Result<Vec<u8>, AllocError>
+    ensures { IfOk result (λ v. v.items ≡ first.now ++ second.now) }
+{
+    let mut bytes = Vec::from_slice(alloc, first)?;
+    bytes.extend_from_slice(second)?;
+    Ok(bytes)
+}

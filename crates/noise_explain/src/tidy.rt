@@ -1,0 +1,185 @@
+//! Lines as the format has them: their arrows, spaces, commas and letters.
+
+use std::alloc::{AllocError, Global};
+
+// A line as the format has it, where it is nearly so: the first one is the heading, unless it has an arrow. What can't
+// be read stays as it is.
+pub(crate) fn tidy_line(alloc: Global, line: &[u8], is_first: bool) -> Result<Vec<u8>, AllocError> {
+    let bare = plain(alloc, line)?;
+    let words = trimmed(&bare);
+    if words.is_empty() {
+        return Ok(Vec::new(alloc));
+    }
+    if words.starts_with(b"..".as_slice()) || words.starts_with(b"\xe2\x80\xa6".as_slice()) {
+        return copy(alloc, b"  ...".as_slice());
+    }
+    match after_arrow(words) {
+        Some((arrow, list)) => listed(alloc, arrow, list),
+        None if is_first => heading(alloc, words),
+        None => copy(alloc, words),
+    }
+}
+
+// The line without a byte-order mark and a comment, and with spaces in place of tabs and of a carriage return.
+fn plain(alloc: Global, line: &[u8]) -> Result<Vec<u8>, AllocError> {
+    let mut bare = Vec::new(alloc);
+    let rest = match line.strip_prefix(b"\xef\xbb\xbf") {
+        Some(after) => after,
+        None => line,
+    };
+    for byte in rest {
+        if *byte == b'#' {
+            return Ok(bare);
+        }
+        bare.push(if *byte == b'\t' || *byte == b'\r' {
+            b' '
+        } else {
+            *byte
+        })?;
+    }
+    Ok(bare)
+}
+
+fn trimmed(line: &[u8]) -> &[u8] {
+    let front = line.iter().take_while(|b| **b == b' ').count();
+    let (_, words) = line.split_at(front);
+    let back = words.iter().rev().take_while(|b| **b == b' ').count();
+    let (kept, _) = words.split_at(words.len().saturating_sub(back));
+    kept
+}
+
+fn copy(alloc: Global, line: &[u8]) -> Result<Vec<u8>, AllocError> {
+    let mut same = Vec::new(alloc);
+    same.extend_from_slice(line)?;
+    Ok(same)
+}
+
+// The arrow that is meant at the front, and what follows it.
+fn after_arrow(words: &[u8]) -> Option<(&'static [u8], &[u8])> {
+    let right = b"  -> ".as_slice();
+    let left = b"  <- ".as_slice();
+    if let Some(list) = words.strip_prefix(b"->") {
+        Some((right, list))
+    } else if let Some(list) = words.strip_prefix(b"=>") {
+        Some((right, list))
+    } else if let Some(list) = words.strip_prefix(b"\xe2\x86\x92") {
+        Some((right, list))
+    } else if let Some(list) = words.strip_prefix(b"<-") {
+        Some((left, list))
+    } else if let Some(list) = words.strip_prefix(b"<=") {
+        Some((left, list))
+    } else if let Some(list) = words.strip_prefix(b"\xe2\x86\x90") {
+        Some((left, list))
+    } else {
+        None
+    }
+}
+
+// The line of an arrow and these words, in small letters, with a comma and a space between two.
+fn listed(alloc: Global, arrow: &[u8], list: &[u8]) -> Result<Vec<u8>, AllocError> {
+    let mut line = copy(alloc, arrow)?;
+    let mut is_between = false;
+    let mut has_word = false;
+    for byte in list {
+        if *byte == b' ' || *byte == b',' || *byte == b';' {
+            is_between = has_word;
+        } else {
+            if is_between {
+                line.extend_from_slice(b", ".as_slice())?;
+                is_between = false;
+            }
+            line.push(byte.to_ascii_lowercase())?;
+            has_word = true;
+        }
+    }
+    Ok(line)
+}
+
+// The heading that is meant by these words: a name in upper case, and the psk modifiers in order.
+fn heading(alloc: Global, words: &[u8]) -> Result<Vec<u8>, AllocError> {
+    let name = name_len(words);
+    let (front, rest) = words.split_at(name.min(words.len()));
+    let mut line = Vec::new(alloc);
+    push_name(front, &mut line)?;
+    push_modifiers(rest, &mut line)?;
+    line.push(b':')?;
+    Ok(line)
+}
+
+// Appends a name in upper case, of at most 8 bytes; one of one's own where these words are none.
+fn push_name(words: &[u8], line: &mut Vec<u8>) -> Result<(), AllocError> {
+    let has_small = words.iter().any(|b| b.is_ascii_lowercase());
+    let Some(first) = words.first() else {
+        return line.extend_from_slice(b"MINE".as_slice());
+    };
+    if has_small && words.len() > 8 {
+        return line.extend_from_slice(b"MINE".as_slice());
+    }
+    if first.is_ascii_digit() {
+        line.push(b'M')?;
+    }
+    for byte in words {
+        if line.len() < 8 {
+            line.push(byte.to_ascii_uppercase())?;
+        }
+    }
+    Ok(())
+}
+
+// How many letters and digits stand at the front, before a psk modifier.
+fn name_len(words: &[u8]) -> usize {
+    for len in 0..words.len() {
+        let (_, rest) = words.split_at(len.min(words.len()));
+        let is_in_name = match rest.first() {
+            Some(byte) => byte.is_ascii_alphanumeric(),
+            None => false,
+        };
+        if !is_in_name || rest.starts_with(b"psk".as_slice()) {
+            return len;
+        }
+    }
+    words.len()
+}
+
+// Appends the psk modifiers that stand somewhere in a text, in rising order.
+pub(crate) fn push_modifiers(text: &[u8], line: &mut Vec<u8>) -> Result<(), AllocError> {
+    let mut has = false;
+    for digit in b'0'..b'9' {
+        if has_modifier(text, digit) {
+            line.extend_from_slice(if has {
+                b"+psk".as_slice()
+            } else {
+                b"psk".as_slice()
+            })?;
+            line.push(digit)?;
+            has = true;
+        }
+    }
+    Ok(())
+}
+
+// Whether psk with this digit stands somewhere in a text.
+fn has_modifier(text: &[u8], digit: u8) -> bool {
+    for at in 0..text.len() {
+        let (_, rest) = text.split_at(at.min(text.len()));
+        if rest.starts_with(b"psk".as_slice()) && rest.get(3).copied() == Some(digit) {
+            return true;
+        }
+    }
+    false
+}
+
+// Whether psk stands somewhere in a line, in small letters or not.
+pub(crate) fn has_psk(line: &[u8]) -> bool {
+    for at in 0..line.len() {
+        let (_, rest) = line.split_at(at.min(line.len()));
+        if let [p, s, k, ..] = rest
+            && p.to_ascii_lowercase() == b'p'
+            && s.to_ascii_lowercase() == b's'
+            && k.to_ascii_lowercase() == b'k'
+        {
+            return true;
+        }
+    }
+    false
+}
