@@ -73,15 +73,15 @@ def sources(name):
     return text.hexdigest()
 
 
-def kept_verdict(sum_of_sources, edit, find):
-    """What an earlier run on this machine found of this edit over these sources, or else what is found now, which is
+def kept_verdict(sum_of_sources, edit, found=None):
+    """What an earlier run on this machine found of this edit over these sources, if one did; what is found now is
     kept."""
     file = KEPT / hashlib.sha256(sum_of_sources.encode() + edit.name.encode() + edit.read_bytes()).hexdigest()
-    if file.is_file() and file.stat().st_uid == os.getuid():
+    if found:
+        KEPT.mkdir(parents=True, exist_ok=True, mode=0o700)
+        file.write_text(found, encoding="utf-8")
+    elif file.is_file() and file.stat().st_uid == os.getuid():
         return file.read_text(encoding="utf-8")
-    found = find()
-    KEPT.mkdir(parents=True, exist_ok=True, mode=0o700)
-    file.write_text(found, encoding="utf-8")
     return found
 
 
@@ -106,28 +106,54 @@ def goals(said, file, lines):
     return [it[3] for it in GOAL.finditer(said) if it[1] == file and int(it[2]) in lines]
 
 
-def verdict(name, texts, changed, kept, call):
-    """The first open goal of a changed function, where a crate has these texts in place of its own. `changed` has a
-    file and a place in its text for each change; the functions below it that stay as they are are kept in a folder."""
-    functions = {function_at(file, texts[file], at) + (file,) for file, at in changed}
+def function_named(file, text, path):
+    """The lines of the function of a path, as function_at has them."""
+    places = (it.end() for it in FUNCTION.finditer(text))
+    return next(lines for it, lines in (function_at(file, text, at) for at in places) if it == path)
+
+
+def say(name, texts, functions, kept, call):
+    """What the prover prints of these functions, where a crate has these texts in place of its own, with its status and
+    whether it came to its end; the functions below them that stay as they are are kept in a folder."""
     with tempfile.TemporaryDirectory(prefix="mutant-") as room:
         for part in PARTS:
             if (ROOT / "crates" / name / part).is_dir():
                 shutil.copytree(ROOT / "crates" / name / part, f"{room}/{part}")
         for file, text in texts.items():
             pathlib.Path(room, file).write_text(text, encoding="utf-8")
-        only = [word for path, _, _ in sorted(functions, key=str) for word in ("--only", path)]
+        only = [word for path in sorted(functions) for word in ("--only", path)]
         ran = subprocess.run(
             [*call, "--incremental", kept, *only], cwd=room, stdin=subprocess.DEVNULL, stdout=subprocess.PIPE,
             stderr=subprocess.STDOUT, text=True, errors="replace", check=False,
             env={**os.environ, "TMPDIR": room},
         )
-    last = ran.stdout.rstrip().split("\n")[-1]
-    count = re.fullmatch(r"only=(\d+) proved=(\d+)", last)
-    if ran.returncode == 0 and count:
-        raise NotRefused("not refused: " + ", ".join(path for path, _, _ in functions) + " still meets its contract")
-    found = [goal for _, lines, file in functions for goal in goals(ran.stdout, file, lines)]
-    if ran.returncode != 1 or not count or not found:
-        told = [it for it in ran.stdout.split("\n") if re.match(r"(note: )?\S+:\d+:\d+: ", it)] or [last]
-        raise NotRefused(f"no open goal of its function (status {ran.returncode}): {told[0][:200]}")
+    ended = re.fullmatch(r"only=(\d+) proved=(\d+)", ran.stdout.rstrip().split("\n")[-1])
+    return ran.stdout, ran.returncode, bool(ended)
+
+
+def refused_together(name, texts, functions_of, kept, call):
+    """For each edit the first open goal of its functions, or None, where a crate has the texts that all edits give. No
+    two edits change one function: so each is refused by the contract of a body that it alone has changed, since of the
+    others a proof knows the contracts alone. `functions_of` has the files and paths of the functions of each edit."""
+    paths = {path for functions in functions_of.values() for _, path in functions}
+    said, status, ended = say(name, texts, paths, kept, call)
+    if status != 1 or not ended:
+        return {}
+    return {edit: next((goal for file, path in sorted(functions)
+                        for goal in goals(said, file, function_named(file, texts[file], path))), None)
+            for edit, functions in functions_of.items()}
+
+
+def verdict(name, texts, functions, kept, call):
+    """The first open goal of a changed function, where a crate has these texts in place of its own. `functions` has the
+    file and the path of each."""
+    said, status, ended = say(name, texts, {path for _, path in functions}, kept, call)
+    if status == 0 and ended:
+        raise NotRefused("not refused: " + ", ".join(path for _, path in functions) + " still meets its contract")
+    found = [goal for file, path in sorted(functions)
+             for goal in goals(said, file, function_named(file, texts[file], path))]
+    if status != 1 or not ended or not found:
+        lines = said.rstrip().split("\n")
+        told = [it for it in lines if re.match(r"(note: )?\S+:\d+:\d+: ", it)] or lines[-1:]
+        raise NotRefused(f"no open goal of its function (status {status}): {told[0][:200]}")
     return found[0]
