@@ -1,16 +1,14 @@
 -- What is said of the likely mistakes.
 use Rattle.std.specs.Prelude.{◌≡◌, ℕ, ◌==◌, ◌&&◌, ◌||◌, Bool, true, false, not, List, [], ◌∷◌, ◌++◌, Option, Some, None, codes, count_by, drop, find, flat_map, if◌then◌else◌, length, take}
 use Rattle.std.specs.Str.{bytes_eq}
-use Rattle.noise_compare.specs.Finding.{found_mistakes, is_right, refusing_mistakes}
-use Rattle.noise_compare.specs.Sentences.{sentence}
+use Rattle.noise_compare.specs.Finding.{Row, found_mistakes, is_right, refusing_mistakes}
 use Rattle.noise_compare.specs.Shown.{shown_text}
 use Rattle.noise_compare.specs.Situations.{IsSituation}
 use Rattle.noise_compare.specs.declared.facts.Facts.{Facts}
-use Rattle.noise_compare.specs.declared.mistake.Mistake.{Mistake}
 use Rattle.noise_compare.specs.declared.state.Situation.{Situation}
 use Rattle.noise_compare.specs.declared.state.Logged.{Logged}
 use Rattle.noise_compare.specs.Lines.{is_of_place, is_same_word, word_at, words_in}
-use Rattle.noise_compare.specs.Report.{ended, place_text, value_text}
+use Rattle.noise_compare.specs.Report.{ended, place_line, value_text}
 use Rattle.noise_compare.specs.Steps.{count_before}
 use Rattle.noise_compare.specs.Values.{AreLogged, has_bytes, is_text, items_of, kind_in, logged_word}
 use Rattle.noise_compare.specs.Words.{word_number}
@@ -19,11 +17,11 @@ use Rattle.std.specs.Option.{is_some}
 use Rattle.noise_compare.specs.declared.line.Line.{Line}
 
 -- the sentence of each mistake, a line each
-unfoldable pub sentences : List Mistake → List ℕ
-sentences mistakes = flat_map (λ mistake. ended (sentence mistake)) mistakes
+unfoldable pub sentences : List Row → List ℕ
+sentences rows = flat_map (λ row. ended row.1) rows
 
 -- The mistakes that give the logged values; where there is none, what the values show.
-abbrev pub mistakes_text : Situation → Logged → List Mistake → List ℕ
+abbrev pub mistakes_text : Situation → Logged → List Row → List ℕ
 mistakes_text at logged [] = ended (codes "none of the mistakes that are tried gives your values") ++ shown_text at logged
 mistakes_text at logged (mistake ∷ []) = ended (codes "the mistake that gives your values:") ++ sentences (mistake ∷ [])
 mistakes_text at logged (mistake ∷ (other ∷ more)) =
@@ -34,7 +32,7 @@ abbrev pub refusing_inputs_text : List ℕ
 refusing_inputs_text = codes "or it decrypts with another key than k, or with other associated data than h: log the key and the associated data that your AEAD takes"
 
 -- the mistakes with which a party refuses what is right
-abbrev pub refusing_text : List Mistake → List ℕ
+abbrev pub refusing_text : List Row → List ℕ
 refusing_text mistakes =
     ended (codes "if your end refused this message, and got the bytes that are right here, each of these mistakes does it:")
     ++ (sentences mistakes ++ (ended refusing_inputs_text
@@ -43,12 +41,9 @@ refusing_text mistakes =
 -- ---- lines that the log lacks
 
 -- a line of a party that its log lacks before another
-unfoldable pub lacking_place : Line → List ℕ
-lacking_place line = codes "your log has no line here for " ++ ended (place_text line)
-
 abbrev pub lacking_line : Line → Line → List ℕ
-lacking_line expected line =
-    if bytes_eq (word_at (words_in line) 1) (word_at (words_in expected) 1) then lacking_place line else []
+lacking_line expected line = if bytes_eq (word_at (words_in line) 1) (word_at (words_in expected) 1)
+    then place_line (codes "your log has no line here for ") line else []
 
 abbrev pub lacking_lines : Line → List Line → List ℕ
 lacking_lines expected lines = flat_map (lacking_line expected) lines
@@ -157,8 +152,7 @@ unfoldable pub none_left_text : List ℕ
 none_left_text = ended (codes "no line of the schedule is left: a message that the file lacks, or a step too many")
 
 unfoldable pub due_text : Line → List ℕ
-due_text next = codes "due is " ++ (ended (place_text next)
-    ++ ended (codes "a step out of order, or too many, or under another name"))
+due_text next = place_line (codes "due is ") next ++ ended (codes "a step out of order, or too many, or under another name")
 
 -- a message that is dropped, and is right
 abbrev pub is_dropped : Line → Line → Bool

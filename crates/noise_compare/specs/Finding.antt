@@ -1,5 +1,6 @@
 -- The mistakes that give what was logged.
-use Rattle.std.specs.Prelude.{Bool, true, false, not, ◌&&◌, ◌||◌, List, [], ◌∷◌}
+use Rattle.std.specs.Prelude.{ℕ, Bool, true, false, not, ◌&&◌, ◌||◌, List, map}
+use Rattle.std.specs.Borrow.{Bor}
 use Rattle.std.specs.Str.{bytes_eq}
 use Rattle.std.specs.List.{filter}
 use Rattle.noise_compare.specs.Keys.{key_explains}
@@ -11,12 +12,11 @@ use Rattle.noise_compare.specs.declared.state.Kind.{Kind}
 use Rattle.noise_compare.specs.declared.state.Kind.TheVariants as kind
 use Rattle.noise_compare.specs.declared.state.Situation.{Situation}
 use Rattle.noise_compare.specs.declared.state.Logged.{Logged}
-use Rattle.noise_compare.specs.declared.mistake.NameMistake.TheVariants as name
 use Rattle.noise_compare.specs.declared.mistake.HashMistake.TheVariants as hash
 use Rattle.noise_compare.specs.declared.mistake.SecretMistake.TheVariants as secret
 use Rattle.noise_compare.specs.declared.mistake.TextMistake.TheVariants as text
-use Rattle.noise_compare.specs.declared.mistake.KeyMistake.TheVariants as key
 use Rattle.noise_compare.specs.declared.mistake.Mistake.{Mistake}
+use Rattle.noise_compare.specs.declared.mistake_tables.TheConstants.{AGREEMENT, DATA, EPHEMERAL, NAME, OPENING, PROLOGUE, PSK, REFUSAL, RENEWAL, TEXT, TRANSPORT}
 use Rattle.noise_compare.specs.declared.mistake.Mistake.TheVariants.{Name, Hash, Secret, Text, Key}
 
 -- the values that a party with the mistake has after the step are those that were logged
@@ -27,63 +27,26 @@ explains (Secret mistake) at logged = secret_explains mistake at logged
 explains (Text mistake) at logged = text_explains mistake at logged
 explains (Key mistake) at logged = key_explains mistake at logged
 
--- ---- the mistakes that are tried at a step, in their order
+-- ---- the mistakes that are tried at a step, in their order: the tables are those of `mistake_tables.rt`
 
-abbrev pub name_mistakes : List Mistake
-name_mistakes = Name name.Hashed ∷ Name name.Padded ∷ Name name.LowerCase ∷ Name name.ChainingKeyOfZeros ∷ []
+-- a mistake, and what is said of it
+abbrev pub Row : Type 0
+Row = Mistake × List ℕ
 
-abbrev pub data_mistakes : List Mistake
-data_mistakes = Hash hash.LeftOut ∷ Hash hash.LengthInFront ∷ Hash hash.LengthMixed ∷ Hash hash.DataFirst
-    ∷ Hash hash.OtherKey ∷ Hash hash.StepsLeftOut ∷ []
+abbrev pub said : Mistake × Bor (List ℕ) → Row
+said row = (row.0, row.1.now)
 
-abbrev pub prologue_mistakes : List Mistake
-prologue_mistakes = Hash hash.LeftOut ∷ Hash hash.LengthInFront ∷ Hash hash.LengthMixed ∷ Hash hash.DataFirst
-    ∷ Hash hash.HexDigits ∷ Hash hash.StepsLeftOut ∷ []
-
-abbrev pub ephemeral_mistakes : List Mistake
-ephemeral_mistakes = Hash hash.LeftOut ∷ Hash hash.LengthInFront ∷ Hash hash.LengthMixed ∷ Hash hash.DataFirst
-    ∷ Hash hash.KeyLeftOut ∷ Hash hash.KeyMixed ∷ Hash hash.OtherKey ∷ Hash hash.StepsLeftOut ∷ []
-
-abbrev pub agreement_mistakes : List Mistake
-agreement_mistakes = Secret secret.InputsExchanged ∷ Secret secret.OutputsExchanged ∷ Secret secret.Reversed
-    ∷ Secret secret.Digested ∷ Secret secret.CountedFromZero ∷ Secret secret.Unchained ∷ Secret secret.ShortBlocks
-    ∷ Secret secret.ChainingKeyKept ∷ Secret secret.NonceKept ∷ Secret secret.NonceFromOne ∷ Secret secret.LeftOut ∷ Secret secret.HashedToo
-    ∷ Secret secret.Other ∷ Secret secret.StepsLeftOut ∷ []
-
-abbrev pub psk_mistakes : List Mistake
-psk_mistakes = Secret secret.InputsExchanged ∷ Secret secret.OutputsExchanged ∷ Secret secret.Reversed
-    ∷ Secret secret.Digested ∷ Secret secret.CountedFromZero ∷ Secret secret.Unchained ∷ Secret secret.ShortBlocks
-    ∷ Secret secret.ChainingKeyKept ∷ Secret secret.NonceKept ∷ Secret secret.NonceFromOne ∷ Secret secret.LeftOut ∷ Secret secret.KeyAlone
-    ∷ Secret secret.HashLeftOut ∷ Secret secret.Other ∷ Secret secret.StepsLeftOut ∷ []
-
-abbrev pub text_mistakes : List Mistake
-text_mistakes = Text text.Clear ∷ Text text.OtherKey ∷ Text text.TagLeftOff ∷ Text text.TagAdded ∷ Text text.TagInFront ∷ Text text.BigEndian
-    ∷ Text text.FirstBytes ∷ Text text.BigEndianFirstBytes ∷ Text text.NonceFromOne ∷ Text text.NonceOfZero
-    ∷ Text text.NoAssociatedData ∷ Text text.ChainingKeyAsData ∷ Text text.EarlierHash ∷ Text text.TextHashedBefore ∷ Text text.HashLeftOut
-    ∷ Text text.TextHashed ∷ Text text.TagNotHashed ∷ Text text.LengthHashed ∷ Text text.LengthMixed ∷ Text text.NonceKept ∷ Text text.NonceRaised ∷ Text text.StepsLeftOut ∷ []
-
-abbrev pub opening_mistakes : List Mistake
-opening_mistakes = Key key.Exchanged ∷ Key key.SplitLater ∷ Key key.SplitOfHash ∷ Key key.SplitOfZeros ∷ Key key.SplitInputs
-    ∷ Key key.NonceFromOne ∷ Key key.EarlierHash ∷ []
-
-abbrev pub rekey_mistakes : List Mistake
-rekey_mistakes = Key key.NonceSetBack ∷ Key key.RekeyLeftOut ∷ Key key.RekeyByNonce ∷ Key key.RekeyByZero
-    ∷ Key key.RekeyByOnes ∷ Key key.RekeyLastBytes ∷ Key key.Exchanged ∷ []
-
-abbrev pub transport_mistakes : List Mistake
-transport_mistakes = Key key.Exchanged ∷ Key key.RekeyLater ∷ Key key.NonceSetBack ∷ Key key.NonceRaised ∷ []
-
-unfoldable pub mistakes_of : Kind → List Mistake
-mistakes_of kind.Name = name_mistakes
-mistakes_of kind.Prologue = prologue_mistakes
-mistakes_of kind.Data = data_mistakes
-mistakes_of kind.Ephemeral = ephemeral_mistakes
-mistakes_of kind.Agreement = agreement_mistakes
-mistakes_of kind.Secret = psk_mistakes
-mistakes_of kind.Text = text_mistakes
-mistakes_of kind.Opening = opening_mistakes
-mistakes_of kind.Rekeyed = rekey_mistakes
-mistakes_of kind.Transport = transport_mistakes
+unfoldable pub mistakes_of : Kind → List Row
+mistakes_of kind.Name = map (λ row. (row.0, row.1.now)) NAME
+mistakes_of kind.Prologue = map (λ row. (row.0, row.1.now)) PROLOGUE
+mistakes_of kind.Data = map (λ row. (row.0, row.1.now)) DATA
+mistakes_of kind.Ephemeral = map (λ row. (row.0, row.1.now)) EPHEMERAL
+mistakes_of kind.Agreement = map (λ row. (row.0, row.1.now)) AGREEMENT
+mistakes_of kind.Secret = map (λ row. (row.0, row.1.now)) PSK
+mistakes_of kind.Text = map (λ row. (row.0, row.1.now)) TEXT
+mistakes_of kind.Opening = map (λ row. (row.0, row.1.now)) OPENING
+mistakes_of kind.Rekeyed = map (λ row. (row.0, row.1.now)) RENEWAL
+mistakes_of kind.Transport = map (λ row. (row.0, row.1.now)) TRANSPORT
 
 -- the log has no line for a step before this one: each step of a handshake changes the hash or the chaining key
 abbrev pub lacks_steps : Situation → Bool
@@ -97,8 +60,8 @@ is_of_steps (Text text.StepsLeftOut) = true
 is_of_steps mistake = false
 
 -- those that are tried: that steps are left out only where the log lacks some
-abbrev pub tried_mistakes : Situation → List Mistake
-tried_mistakes at = filter (λ mistake. lacks_steps at || not (is_of_steps mistake)) (mistakes_of at.kind)
+abbrev pub tried_mistakes : Situation → List Row
+tried_mistakes at = filter (λ row. lacks_steps at || not (is_of_steps row.0)) (mistakes_of at.kind)
 
 -- what was logged is right, as far as it was logged
 abbrev pub is_right : Situation → Logged → Bool
@@ -109,16 +72,14 @@ abbrev pub gives : Mistake → Situation → Logged → Bool
 gives mistake at logged = not (is_right at logged) && explains mistake at logged
 
 -- those of them that give what was logged, in the same order: none where that is right
-abbrev pub found_mistakes : Situation → Logged → List Mistake
-found_mistakes at logged = filter (λ mistake. gives mistake at logged) (tried_mistakes at)
+abbrev pub found_mistakes : Situation → Logged → List Row
+found_mistakes at logged = filter (λ row. gives row.0 at logged) (tried_mistakes at)
 
 -- ---- what a party that refuses right bytes may have wrong
 
-abbrev pub refusal_mistakes : List Mistake
-refusal_mistakes = Text text.NoAssociatedData ∷ Text text.ChainingKeyAsData ∷ Text text.EarlierHash ∷ Text text.LaterHash
-    ∷ Text text.TagInFront ∷ Text text.BigEndian ∷ Text text.FirstBytes ∷ Text text.BigEndianFirstBytes
-    ∷ Text text.NonceOfZero ∷ []
+unfoldable pub refusal_mistakes : List Row
+refusal_mistakes = map (λ row. (row.0, row.1.now)) REFUSAL
 
 -- those that don't give these values, so that a party with them refuses a right tag
-abbrev pub refusing_mistakes : Situation → Logged → List Mistake
-refusing_mistakes at logged = filter (λ mistake. not (explains mistake at logged)) refusal_mistakes
+abbrev pub refusing_mistakes : Situation → Logged → List Row
+refusing_mistakes at logged = filter (λ row. not (explains row.0 at logged)) refusal_mistakes

@@ -10,7 +10,7 @@ use Rattle.noise_kdf.specs.Hkdf.{hmac_of}
 use Rattle.noise_compare.specs.Equations.{equations}
 use Rattle.noise_compare.specs.States.{has, key_fits}
 use Rattle.noise_compare.specs.Texts.{without_tag}
-use Rattle.noise_compare.specs.Values.{items_of}
+use Rattle.noise_compare.specs.Values.{is_text, items_of}
 use Rattle.noise_compare.specs.declared.state.Kind.{Kind}
 use Rattle.noise_compare.specs.declared.state.Kind.TheVariants as kind
 use Rattle.noise_compare.specs.declared.state.Situation.{Situation}
@@ -65,10 +65,6 @@ unfoldable pub is_after_name : Kind → Bool
 is_after_name kind.Name = false
 is_after_name other = true
 
-unfoldable pub is_of_text : Kind → Bool
-is_of_text kind.Text = true
-is_of_text other = false
-
 -- the value of a source, if the step has it
 unfoldable pub source_bytes : Source → Situation → Logged → Option (List ℕ)
 source_bytes Nothing at logged = Some []
@@ -81,7 +77,7 @@ source_bytes RightChainingKey at logged = if has_after at.kind then Some at.righ
 source_bytes RightKey at logged = at.right.key
 source_bytes Name at logged = if is_after_name at.kind then Some at.name.now else None
 source_bytes Taken at logged = taken at.kind at
-source_bytes RightBytes at logged = if is_of_text at.kind then Some at.bytes.now else None
+source_bytes RightBytes at logged = if is_text at.kind then Some at.bytes.now else None
 source_bytes LoggedBytes at logged = items_of logged.bytes
 source_bytes LoggedHash at logged = items_of logged.hash
 source_bytes LoggedChainingKey at logged = items_of logged.chaining_key
@@ -173,17 +169,14 @@ abbrev pub is_made : Option (List ℕ) → (List ℕ → List ℕ) → List ℕ 
 is_made None f v = false
 is_made (Some y) f v = bytes_eq v (f y)
 
--- the value is a text that is encrypted (5.1), of at most 65535 bytes
-abbrev pub is_sealed : Option (List ℕ) → List ℕ → List ℕ → List ℕ → List ℕ → Bool
-is_sealed None nonce ad text v = false
-is_sealed (Some key) nonce ad text v =
-    nat_le (length ad) 65535 && nat_le (length text) 65535 && bytes_eq v (sealed key nonce ad text)
+-- a text that is encrypted (5.1), of at most 65535 bytes
+abbrev pub sealed_if_short : Option (List ℕ) → List ℕ → List ℕ → List ℕ → Option (List ℕ)
+sealed_if_short None nonce ad text = None
+sealed_if_short (Some key) nonce ad text = if nat_le (length ad) 65535 && nat_le (length text) 65535
+    then Some (sealed key nonce ad text) else None
 
--- the value is the first 32 bytes of that
-abbrev pub is_sealed_front : Option (List ℕ) → List ℕ → List ℕ → List ℕ → List ℕ → Bool
-is_sealed_front None nonce ad text v = false
-is_sealed_front (Some key) nonce ad text v =
-    nat_le (length ad) 65535 && nat_le (length text) 65535 && bytes_eq v (take 32 (sealed key nonce ad text))
+abbrev pub is_sealed : Option (List ℕ) → List ℕ → List ℕ → List ℕ → List ℕ → Bool
+is_sealed key nonce ad text v = is_made (sealed_if_short key nonce ad text) (λ sealed. sealed) v
 
 -- Rekey's nonce is the greatest number of 64 bits (4.2); tried are those of signed numbers and of 32 bits, and 0, too
 unfoldable pub rekey_number : RekeyNonce → ℕ
@@ -192,9 +185,10 @@ rekey_number nonce.Signed = 0x7fff_ffff_ffff_ffff
 rekey_number nonce.Short = 0xffff_ffff
 rekey_number nonce.Zero = 0
 
--- likewise with a nonce of Rekey
+-- the value is the first 32 bytes of a text that is encrypted with a nonce of Rekey
 abbrev pub is_renewed : RekeyNonce → Option (List ℕ) → List ℕ → List ℕ → List ℕ → Bool
-is_renewed number key ad text v = is_sealed_front key (nonce_of (rekey_number number)) ad text v
+is_renewed number key ad text v =
+    is_made (sealed_if_short key (nonce_of (rekey_number number)) ad text) (λ sealed. take 32 sealed) v
 
 abbrev pub key_of : List ℕ → Option (List ℕ)
 key_of x = if length x == 32 then Some x else None
@@ -203,28 +197,46 @@ key_of x = if length x == 32 then Some x else None
 abbrev pub is_but_tag : List ℕ → List ℕ → Bool
 is_but_tag x v = nat_le 16 (length v) && (length x == length v) && bytes_eq (without_tag x) (without_tag v)
 
+-- what an operation takes besides its input
+unfoldable pub other_source : Operation → Source
+other_source (DigestAfter s) = s
+other_source (DigestBefore s) = s
+other_source (Code s) = s
+other_source (CodeUnder s) = s
+other_source (Expanded s e o) = s
+other_source (ExpandedBy s o) = s
+other_source MixedTwice = Hash
+other_source MixedFirst = Hash
+other_source (MixedOutput o) = Hash
+other_source (Derived d o) = ChainingKey
+other_source other = Nothing
+
+-- the 32 bytes that it gives of that, and of its input
+unfoldable pub digest_by : Operation → Situation → List ℕ → List ℕ → List ℕ
+digest_by (DigestAfter s) at y x = sha256 (y ++ x)
+digest_by (DigestBefore s) at y x = sha256 (x ++ y)
+digest_by MixedTwice at y x = sha256 (sha256 (y ++ x) ++ x)
+digest_by MixedFirst at y x = sha256 (sha256 (y ++ x) ++ at.data.now)
+digest_by (MixedOutput o) at y x = sha256 (y ++ output_of Standard (code_of at.before.chaining_key x) o)
+digest_by (Code s) at y x = code_of y x
+digest_by (CodeUnder s) at y x = code_of x y
+digest_by (Expanded s e o) at y x = output_of e (code_of y x) o
+digest_by (ExpandedBy s o) at y x = output_of Standard (code_of x y) o
+digest_by (Derived d o) at y x = derived d at x o
+digest_by other at y x = sha256 x
+
 -- the operation gives this value of an input
 unfoldable pub gives : Operation → Situation → Logged → List ℕ → List ℕ → Bool
 gives Same at logged x v = bytes_eq v x
-gives Digest at logged x v = bytes_eq v (sha256 x)
-gives (DigestAfter s) at logged x v = is_made (source_bytes s at logged) (λ y. sha256 (y ++ x)) v
-gives (DigestBefore s) at logged x v = is_made (source_bytes s at logged) (λ y. sha256 (x ++ y)) v
-gives MixedTwice at logged x v = is_made (source_bytes Hash at logged) (λ h. sha256 (sha256 (h ++ x) ++ x)) v
-gives MixedFirst at logged x v = is_made (source_bytes Hash at logged) (λ h. sha256 (sha256 (h ++ x) ++ at.data.now)) v
-gives (MixedOutput o) at logged x v = is_made (source_bytes Hash at logged)
-    (λ h. sha256 (h ++ output_of Standard (code_of at.before.chaining_key x) o)) v
-gives (Code s) at logged x v = is_made (source_bytes s at logged) (λ y. code_of y x) v
-gives (CodeUnder s) at logged x v = is_made (source_bytes s at logged) (λ y. code_of x y) v
-gives (Expanded s e o) at logged x v = is_made (source_bytes s at logged) (λ y. output_of e (code_of y x) o) v
-gives (ExpandedBy s o) at logged x v = is_made (source_bytes s at logged) (λ y. output_of Standard (code_of x y) o) v
-gives (Derived d o) at logged x v = has_before at.kind && bytes_eq v (derived d at x o)
+gives ButTag at logged x v = is_but_tag x v
 gives Sealed at logged x v = is_sealed at.before.key (nonce_of at.before.nonce) at.before.hash x v
 gives SealedAlone at logged x v = is_sealed at.before.key (nonce_of at.before.nonce) [] x v
 gives SealedWith at logged x v = is_sealed at.before.key (nonce_of at.before.nonce) x at.text.now v
 gives SealedUnder at logged x v = is_sealed (key_of x) (nonce_of at.before.nonce) at.before.hash at.text.now v
 gives (Renewed n) at logged x v = is_renewed n at.before.key [] x v
 gives RenewedWith at logged x v = is_renewed nonce.Standard at.before.key x (replicate 32 0) v
-gives ButTag at logged x v = is_but_tag x v
+gives other at logged x v =
+    is_made (source_bytes (other_source other) at logged) (λ y. digest_by other at y x) v
 
 -- ---- equations
 

@@ -1,21 +1,19 @@
 -- The mistakes that are known at the step where a log differs.
 use Rattle.std.specs.Prelude.{◌≡◌, ◌⊎◌, ℕ, List, [], ◌++◌, Option, Some, None, codes, flat_map}
 use Rattle.noise_compare.specs.Differences.{Agrees, IsFirstDifference}
-use Rattle.noise_compare.specs.Finding.{tried_mistakes}
+use Rattle.noise_compare.specs.Finding.{Row, tried_mistakes}
 use Rattle.noise_compare.specs.Report.{ended}
-use Rattle.noise_compare.specs.Sentences.{sentence}
 use Rattle.noise_compare.specs.Situations.{IsSituation}
 use Rattle.noise_compare.specs.declared.facts.Facts.{Facts}
 use Rattle.noise_compare.specs.declared.line.Line.{Line}
-use Rattle.noise_compare.specs.declared.mistake.Mistake.{Mistake}
 use Rattle.noise_compare.specs.declared.state.Situation.{Situation}
 
 -- the sentence of a mistake, after four spaces
-abbrev pub indented : Mistake → List ℕ
-indented mistake = codes "    " ++ ended (sentence mistake)
+abbrev pub indented : Row → List ℕ
+indented row = codes "    " ++ ended row.1
 
-unfoldable pub indented_sentences : List Mistake → List ℕ
-indented_sentences mistakes = flat_map indented mistakes
+unfoldable pub indented_sentences : List Row → List ℕ
+indented_sentences rows = flat_map indented rows
 
 -- those that are tried at a step
 abbrev pub known_text : Situation → List ℕ

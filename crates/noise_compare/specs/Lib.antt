@@ -13,7 +13,6 @@ pub mod Plain
 pub mod Reading
 pub mod Report
 pub mod Secrets
-pub mod Sentences
 pub mod Shown
 pub mod Situations
 pub mod States

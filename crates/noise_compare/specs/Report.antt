@@ -1,11 +1,14 @@
 -- What is printed of a log.
-use Rattle.std.specs.Prelude.{ℕ, Bool, List, [], ◌∷◌, ◌++◌, Option, Some, None, codes, count_by, decimal, if◌then◌else◌, length, nat_lt, slice_get, unwrap_or}
+use Rattle.std.specs.Prelude.{ℕ, Bool, List, [], ◌∷◌, ◌++◌, Option, Some, None, codes, count_by, decimal, flat_map, if◌then◌else◌, length, nat_lt, slice_get, unwrap_or}
 use Rattle.std.specs.Str.{bytes_eq}
 use Rattle.noise_compare.specs.Lines.{is_same_word, word_at, words_in}
 use Rattle.noise_compare.specs.declared.line.Line.{Line}
 
 abbrev pub ended : List ℕ → List ℕ
 ended text = text ++ 10 ∷ []
+
+abbrev pub joined : List (List ℕ) → List ℕ
+joined words = flat_map (λ word. word) words
 
 -- a message by its number, and any other part by its name
 unfoldable pub is_number : List ℕ → Bool
@@ -14,10 +17,10 @@ is_number part = nat_lt (unwrap_or (slice_get part 0) 97) 58
 abbrev pub part_name : List ℕ → List ℕ
 part_name part = if is_number part then codes "message " ++ part else part
 
--- the role, the part and the name of a line
-abbrev pub place_text : Line → List ℕ
-place_text line = word_at (words_in line) 1
-    ++ (codes ", " ++ (part_name (word_at (words_in line) 2) ++ (codes ", " ++ word_at (words_in line) 4)))
+-- a front, and the role, the part and the name of a line
+unfoldable pub place_line : List ℕ → Line → List ℕ
+place_line front line = front ++ (word_at (words_in line) 1 ++ (codes ", " ++ (part_name (word_at (words_in line) 2)
+    ++ (codes ", " ++ ended (word_at (words_in line) 4)))))
 
 -- two lines with a value that differs: the right one, and that of the log
 unfoldable pub value_text : List ℕ → ℕ → Line → Line → List ℕ
@@ -39,7 +42,7 @@ right_text logged (Some right) = values_text logged right
 -- the line of the log, the values that differ, and lines of advice
 unfoldable pub difference_text : Line → Option Line → List ℕ → List ℕ
 difference_text logged expected advice =
-    ended (codes "differs at line " ++ (decimal logged.number ++ (codes ": " ++ place_text logged)))
+    place_line (codes "differs at line " ++ (decimal logged.number ++ codes ": ")) logged
     ++ (right_text logged expected ++ advice)
 
 -- a key of Split
@@ -54,4 +57,4 @@ agreement_text log = codes "agrees in " ++ (decimal (length log) ++ (ended (code
 
 -- the step before which the log ends
 unfoldable pub ending_text : Line → List ℕ → List ℕ
-ending_text next advice = ended (codes "ends before " ++ place_text next) ++ advice
+ending_text next advice = place_line (codes "ends before ") next ++ advice

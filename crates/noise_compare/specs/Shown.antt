@@ -1,8 +1,8 @@
 -- What the logged values of a step show.
-use Rattle.std.specs.Prelude.{ℕ, ◌+◌, ◌-◌, ◌==◌, ◌&&◌, Bool, not, List, [], ◌∷◌, ◌++◌, Option, Some, None, codes, count_by, decimal, drop, flat_map, fold, if◌then◌else◌, length, nat_le, nat_lt, take}
+use Rattle.std.specs.Prelude.{ℕ, ◌+◌, ◌-◌, ◌==◌, ◌&&◌, Bool, not, List, [], ◌∷◌, ◌++◌, Option, Some, None, codes, count_by, decimal, drop, fold, if◌then◌else◌, length, nat_le, nat_lt, take}
 use Rattle.std.specs.List.{take_while}
 use Rattle.noise_compare.specs.Holding.{found_equations, is_value_right, logged_value}
-use Rattle.noise_compare.specs.Report.{ended}
+use Rattle.noise_compare.specs.Report.{ended, joined}
 use Rattle.noise_compare.specs.declared.state.Kind.{Kind}
 use Rattle.noise_compare.specs.declared.state.Kind.TheVariants as kind
 use Rattle.noise_compare.specs.declared.state.Situation.{Situation}
@@ -19,6 +19,7 @@ use Rattle.noise_compare.specs.declared.equation.Output.{Output}
 use Rattle.noise_compare.specs.declared.equation.Output.TheVariants.{First, Second, Third}
 use Rattle.noise_compare.specs.declared.equation.Derivation.{Derivation}
 use Rattle.noise_compare.specs.declared.equation.Derivation.TheVariants.{DigestFirst, KeysHashed, NameAsInfo, ExpandAlone}
+use Rattle.noise_compare.specs.declared.equation.RekeyNonce.{RekeyNonce}
 use Rattle.noise_compare.specs.declared.equation.RekeyNonce.TheVariants as nonce
 use Rattle.noise_compare.specs.declared.equation.Operation.{Operation}
 use Rattle.noise_compare.specs.declared.equation.Operation.TheVariants.{Same, Digest, DigestAfter, DigestBefore, MixedTwice, MixedFirst, MixedOutput, Code, CodeUnder, Expanded, ExpandedBy, Derived, Sealed, SealedAlone, SealedWith, SealedUnder, Renewed, RenewedWith, ButTag}
@@ -59,36 +60,28 @@ source_word k LoggedHash = codes "your h"
 source_word k LoggedChainingKey = codes "your ck"
 
 -- what stands before and after it in a form
-unfoldable pub form_front : Form → List ℕ
-form_front Reversed = codes "reversed("
-form_front Digested = codes "SHA256("
-form_front HexDigits = codes "hex digits("
-form_front Doubled = codes "twice("
-form_front ZeroInFront = codes "a zero byte + "
-form_front LengthByte = codes "1-byte length + "
-form_front BigLength2 = codes "2-byte big-endian length + "
-form_front LittleLength2 = codes "2-byte little-endian length + "
-form_front BigLength4 = codes "4-byte big-endian length + "
-form_front LittleLength4 = codes "4-byte little-endian length + "
-form_front BigLength8 = codes "8-byte big-endian length + "
-form_front LittleLength8 = codes "8-byte little-endian length + "
-form_front HalfZeroed = codes "the first 16 bytes of "
-form_front TypeInFront = codes "a byte 05 + "
-form_front other = []
-
-unfoldable pub form_back : Form → List ℕ
-form_back Reversed = codes ")"
-form_back Digested = codes ")"
-form_back HexDigits = codes ")"
-form_back Doubled = codes ")"
-form_back WithoutFirst = codes " without its first byte"
-form_back WithoutLast = codes " without its last byte"
-form_back WithoutTag = codes " without its last 16 bytes"
-form_back ZeroBehind = codes " + a zero byte"
-form_back LineFeedBehind = codes " + a line feed"
-form_back TagBehind = codes " + 16 zero bytes"
-form_back HalfZeroed = codes " + 16 zero bytes"
-form_back other = []
+unfoldable pub form_words : Form → List ℕ × List ℕ
+form_words Plain = ([], [])
+form_words Reversed = (codes "reversed(", codes ")")
+form_words Digested = (codes "SHA256(", codes ")")
+form_words HexDigits = (codes "hex digits(", codes ")")
+form_words Doubled = (codes "twice(", codes ")")
+form_words WithoutFirst = ([], codes " without its first byte")
+form_words WithoutLast = ([], codes " without its last byte")
+form_words WithoutTag = ([], codes " without its last 16 bytes")
+form_words ZeroInFront = (codes "a zero byte + ", [])
+form_words ZeroBehind = ([], codes " + a zero byte")
+form_words LineFeedBehind = ([], codes " + a line feed")
+form_words TagBehind = ([], codes " + 16 zero bytes")
+form_words LengthByte = (codes "1-byte length + ", [])
+form_words BigLength2 = (codes "2-byte big-endian length + ", [])
+form_words LittleLength2 = (codes "2-byte little-endian length + ", [])
+form_words BigLength4 = (codes "4-byte big-endian length + ", [])
+form_words LittleLength4 = (codes "4-byte little-endian length + ", [])
+form_words BigLength8 = (codes "8-byte big-endian length + ", [])
+form_words LittleLength8 = (codes "8-byte little-endian length + ", [])
+form_words TypeInFront = (codes "a byte 05 + ", [])
+form_words HalfZeroed = (codes "the first 16 bytes of ", codes " + 16 zero bytes")
 
 unfoldable pub expansion_word : Expansion → List ℕ
 expansion_word Standard = []
@@ -107,104 +100,67 @@ derivation_word KeysHashed = codes " whose HMAC hashes each key"
 derivation_word NameAsInfo = codes " with the name as info"
 derivation_word ExpandAlone = []
 
-unfoldable pub output_word : Output → List ℕ
-output_word First = codes ", output 1"
-output_word Second = codes ", output 2"
-output_word Third = codes ", output 3"
+unfoldable pub digit : Output → List ℕ
+digit First = codes "1"
+digit Second = codes "2"
+digit Third = codes "3"
+
+unfoldable pub nonce_word : RekeyNonce → List ℕ
+nonce_word nonce.Standard = codes "2^64 - 1"
+nonce_word nonce.Signed = codes "2^63 - 1"
+nonce_word nonce.Short = codes "2^32 - 1"
+nonce_word nonce.Zero = codes "0"
+
+abbrev pub three : List ℕ → List ℕ → List ℕ → List (List ℕ)
+three a b c = a ∷ b ∷ c ∷ []
+
+abbrev pub four : List ℕ → List ℕ → List ℕ → List ℕ → List (List ℕ)
+four a b c d = a ∷ b ∷ c ∷ d ∷ []
 
 -- What stands before the input of an operation, and after it. A source that the operation takes besides stands on one
 -- side of it.
-unfoldable pub operation_front : Operation → List ℕ
-operation_front Digest = codes "SHA256("
-operation_front (DigestAfter s) = codes "SHA256("
-operation_front (DigestBefore s) = codes "SHA256("
-operation_front MixedTwice = codes "MixHash, twice, of "
-operation_front MixedFirst = codes "MixHash of what is right, after MixHash of "
-operation_front (MixedOutput First) = codes "SHA256(h + output 1 of HKDF(ck, "
-operation_front (MixedOutput Second) = codes "SHA256(h + output 2 of HKDF(ck, "
-operation_front (MixedOutput Third) = codes "SHA256(h + output 3 of HKDF(ck, "
-operation_front (Code s) = codes "HMAC("
-operation_front (CodeUnder s) = codes "HMAC("
-operation_front (Expanded s e o) = codes "HKDF("
-operation_front (ExpandedBy s o) = codes "HKDF("
-operation_front (Derived ExpandAlone o) = codes "HKDF-Expand("
-operation_front (Derived d o) = codes "HKDF("
-operation_front Sealed = codes "AEAD(k, n, h, "
-operation_front SealedAlone = codes "AEAD(k, n, nothing, "
-operation_front SealedWith = codes "AEAD(k, n, "
-operation_front SealedUnder = codes "AEAD("
-operation_front (Renewed nonce.Standard) = codes "the first 32 bytes of AEAD(k, 2^64 - 1, nothing, "
-operation_front (Renewed nonce.Signed) = codes "the first 32 bytes of AEAD(k, 2^63 - 1, nothing, "
-operation_front (Renewed nonce.Short) = codes "the first 32 bytes of AEAD(k, 2^32 - 1, nothing, "
-operation_front (Renewed nonce.Zero) = codes "the first 32 bytes of AEAD(k, 0, nothing, "
-operation_front RenewedWith = codes "the first 32 bytes of AEAD(k, 2^64 - 1, "
-operation_front other = []
+unfoldable pub front_words : Kind → Operation → List (List ℕ)
+front_words k Same = three [] [] []
+front_words k ButTag = three [] [] []
+front_words k Digest = three (codes "SHA256(") [] []
+front_words k (DigestBefore s) = three (codes "SHA256(") [] []
+front_words k (DigestAfter s) = three (codes "SHA256(") (source_word k s) (codes " + ")
+front_words k MixedTwice = three (codes "MixHash, twice, of ") [] []
+front_words k MixedFirst = three (codes "MixHash of what is right, after MixHash of ") [] []
+front_words k (MixedOutput o) = three (codes "SHA256(h + output ") (digit o) (codes " of HKDF(ck, ")
+front_words k (Code s) = three (codes "HMAC(") (source_word k s) (codes ", ")
+front_words k (CodeUnder s) = three (codes "HMAC(") [] []
+front_words k (Expanded s e o) = three (codes "HKDF(") (source_word k s) (codes ", ")
+front_words k (ExpandedBy s o) = three (codes "HKDF(") [] []
+front_words k (Derived ExpandAlone o) = three (codes "HKDF-Expand(") (codes "ck") (codes ", ")
+front_words k (Derived d o) = three (codes "HKDF(") (codes "ck") (codes ", ")
+front_words k Sealed = three (codes "AEAD(k, n, h, ") [] []
+front_words k SealedAlone = three (codes "AEAD(k, n, nothing, ") [] []
+front_words k SealedWith = three (codes "AEAD(k, n, ") [] []
+front_words k SealedUnder = three (codes "AEAD(") [] []
+front_words k (Renewed n) = three (codes "the first 32 bytes of AEAD(k, ") (nonce_word n) (codes ", nothing, ")
+front_words k RenewedWith = three (codes "the first 32 bytes of AEAD(k, 2^64 - 1, ") [] []
 
-unfoldable pub first_word : Kind → Operation → List ℕ
-first_word k (DigestAfter s) = source_word k s
-first_word k (Code s) = source_word k s
-first_word k (Expanded s e o) = source_word k s
-first_word k (Derived d o) = source_word k ChainingKey
-first_word k other = []
-
-unfoldable pub joint_word : Operation → List ℕ
-joint_word (DigestAfter s) = codes " + "
-joint_word (Code s) = codes ", "
-joint_word (Expanded s e o) = codes ", "
-joint_word (Derived d o) = codes ", "
-joint_word other = []
-
-unfoldable pub behind_word : Operation → List ℕ
-behind_word Digest = codes ")"
-behind_word (DigestAfter s) = codes ")"
-behind_word (DigestBefore s) = codes " + "
-behind_word (MixedOutput o) = codes "))"
-behind_word (Code s) = codes ")"
-behind_word (CodeUnder s) = codes ", "
-behind_word (Expanded s e o) = codes ")"
-behind_word (Derived d o) = codes ")"
-behind_word (ExpandedBy s o) = codes ", "
-behind_word Sealed = codes ")"
-behind_word SealedAlone = codes ")"
-behind_word SealedWith = codes ", text)"
-behind_word SealedUnder = codes ", n, h, text)"
-behind_word (Renewed n) = codes ")"
-behind_word RenewedWith = codes ", 32 zeros)"
-behind_word ButTag = codes " but for the last 16 bytes"
-behind_word other = []
-
-unfoldable pub last_word : Kind → Operation → List ℕ
-last_word k (DigestBefore s) = source_word k s
-last_word k (CodeUnder s) = source_word k s
-last_word k (ExpandedBy s o) = source_word k s
-last_word k other = []
-
-unfoldable pub end_word : Operation → List ℕ
-end_word (DigestBefore s) = codes ")"
-end_word (CodeUnder s) = codes ")"
-end_word (ExpandedBy s o) = codes ")"
-end_word other = []
-
-unfoldable pub expansion_of : Operation → List ℕ
-expansion_of (Expanded s e o) = expansion_word e
-expansion_of (Derived d o) = derivation_word d
-expansion_of other = []
-
-unfoldable pub output_word_of : Operation → List ℕ
-output_word_of (Expanded s e o) = output_word o
-output_word_of (ExpandedBy s o) = output_word o
-output_word_of (Derived d o) = output_word o
-output_word_of other = []
-
-abbrev pub joined : List (List ℕ) → List ℕ
-joined words = flat_map (λ word. word) words
+unfoldable pub back_words : Kind → Operation → List (List ℕ)
+back_words k Same = four [] [] [] []
+back_words k MixedTwice = four [] [] [] []
+back_words k MixedFirst = four [] [] [] []
+back_words k (DigestBefore s) = four (codes " + ") (source_word k s) (codes ")") []
+back_words k (CodeUnder s) = four (codes ", ") (source_word k s) (codes ")") []
+back_words k (MixedOutput o) = four (codes "))") [] [] []
+back_words k (Expanded s e o) = four (codes ")") (expansion_word e) (codes ", output ") (digit o)
+back_words k (ExpandedBy s o) = four (codes ", ") (source_word k s) (codes "), output ") (digit o)
+back_words k (Derived d o) = four (codes ")") (derivation_word d) (codes ", output ") (digit o)
+back_words k SealedWith = four (codes ", text)") [] [] []
+back_words k SealedUnder = four (codes ", n, h, text)") [] [] []
+back_words k RenewedWith = four (codes ", 32 zeros)") [] [] []
+back_words k ButTag = four (codes " but for the last 16 bytes") [] [] []
+back_words k other = four (codes ")") [] [] []
 
 unfoldable pub equation_text : Kind → Equation → List ℕ
-equation_text k e = joined (value_word e.value ∷ codes " = "
-    ∷ operation_front e.operation ∷ first_word k e.operation ∷ joint_word e.operation
-    ∷ form_front e.input.form ∷ source_word k e.input.source ∷ form_back e.input.form
-    ∷ behind_word e.operation ∷ last_word k e.operation ∷ end_word e.operation
-    ∷ expansion_of e.operation ∷ output_word_of e.operation ∷ [])
+equation_text k e = ((joined (value_word e.value ∷ codes " = " ∷ []) ++ joined (front_words k e.operation))
+    ++ joined (three (form_words e.input.form).0 (source_word k e.input.source) (form_words e.input.form).1))
+    ++ joined (back_words k e.operation)
 
 -- ---- the line of a value
 
@@ -282,10 +238,8 @@ nonce_text_of right (Some n) = nonce_text right n
 abbrev pub nonce_line : Situation → Logged → List ℕ
 nonce_line at logged = nonce_text_of at.right.nonce logged.nonce
 
-unfoldable pub shown_head : List ℕ
-shown_head = ended (codes "what they show, by the right values before this step:")
-
 -- a line for each value that is logged, the nonce only where it differs
 unfoldable pub shown_text : Situation → Logged → List ℕ
-shown_text at logged = shown_head ++ (value_line value.Bytes at logged ++ (value_line value.Hash at logged
+shown_text at logged = ended (codes "what they show, by the right values before this step:")
+    ++ (value_line value.Bytes at logged ++ (value_line value.Hash at logged
     ++ (value_line value.ChainingKey at logged ++ (value_line value.Key at logged ++ nonce_line at logged))))

@@ -24,12 +24,9 @@ bytes_fit at logged bytes = fits logged bytes (hashed at bytes)
 abbrev pub nonce_fits_text : Situation → Logged → List ℕ → Bool
 nonce_fits_text at logged nonce = bytes_fit at logged (sealed_under at.before.key nonce at.before.hash at.text.now)
 
--- the text with this associated data
-abbrev pub sealed_with : Situation → List ℕ → List ℕ
-sealed_with at ad = sealed_under at.before.key (nonce_of at.before.nonce) ad at.text.now
-
-abbrev pub ad_fits_text : Situation → Logged → List ℕ → Bool
-ad_fits_text at logged ad = bytes_fit at logged (sealed_with at ad)
+-- so are those of a text under the nonce of a number
+abbrev pub sealed_fits : Situation → Logged → ℕ → List ℕ → List ℕ → Bool
+sealed_fits at logged n ad text = bytes_fit at logged (sealed_under at.before.key (nonce_of n) ad text)
 
 -- ---- nonces that are none
 
@@ -77,18 +74,11 @@ without_steps_explains at logged = fits logged (sealed_without_steps at) (state_
 
 -- the hash before some step, as associated data, gives what was logged
 abbrev pub earlier_hash_explains : Situation → Logged → Bool
-earlier_hash_explains at logged = nat_lt 0 (count_by (λ hash. ad_fits_text at logged hash) at.hashes.now)
+earlier_hash_explains at logged = nat_lt 0 (count_by (λ hash. sealed_fits at logged at.before.nonce hash at.text.now) at.hashes.now)
 
--- another public key of the file as the text
-abbrev pub sealed_key : Situation → List ℕ → List ℕ
-sealed_key at key = sealed_under at.before.key (nonce_of at.before.nonce) at.before.hash key
-
--- it gives what was logged
-abbrev pub key_fits_text : Situation → Logged → List ℕ → Bool
-key_fits_text at logged key = bytes_fit at logged (sealed_key at key)
-
+-- another public key of the file, as the text, gives it
 abbrev pub other_key_explains : Situation → Logged → Bool
-other_key_explains at logged = nat_lt 0 (count_by (λ key. key_fits_text at logged key) at.publics.now)
+other_key_explains at logged = nat_lt 0 (count_by (λ key. sealed_fits at logged at.before.nonce at.before.hash key) at.publics.now)
 
 abbrev pub without_tag : List ℕ → List ℕ
 without_tag bytes = take (length bytes - 16) bytes
@@ -100,7 +90,17 @@ tag_first bytes = drop (length bytes - 16) bytes ++ take (length bytes - 16) byt
 -- MixHash takes the plain text, and the hash after it is the associated data
 abbrev pub hashed_before : Situation → Logged → Bool
 hashed_before at logged =
-    fits logged (sealed_with at (sha256 (at.before.hash ++ at.text.now))) (hashed at at.text.now)
+    fits logged (sealed_under at.before.key (nonce_of at.before.nonce) (sha256 (at.before.hash ++ at.text.now)) at.text.now)
+    (hashed at at.text.now)
+
+-- the state with a mistake after which the bytes are right
+unfoldable pub text_state : TextMistake → Situation → State
+text_state HashLeftOut at = with_hash at.right at.before.hash
+text_state TextHashed at = hashed at at.text.now
+text_state TagNotHashed at = hashed at (without_tag at.bytes.now)
+text_state NonceKept at = with_nonce at.right at.before.nonce
+text_state NonceRaised at = with_nonce at.right (one_more at.right.nonce)
+text_state other at = at.right
 
 unfoldable pub text_explains : TextMistake → Situation → Logged → Bool
 text_explains Clear at logged = fits logged at.text.now (with_hash at.before (sha256 (at.before.hash ++ at.text.now)))
@@ -112,18 +112,14 @@ text_explains TagInFront at logged = bytes_fit at logged (tag_first at.bytes.now
 text_explains BigEndian at logged = nonce_fits_text at logged (big_endian at.before.nonce)
 text_explains FirstBytes at logged = nonce_fits_text at logged (first_bytes at.before.nonce)
 text_explains BigEndianFirstBytes at logged = nonce_fits_text at logged (big_endian_first_bytes at.before.nonce)
-text_explains NonceFromOne at logged = nonce_fits_text at logged (nonce_of (one_more at.before.nonce))
+text_explains NonceFromOne at logged = sealed_fits at logged (one_more at.before.nonce) at.before.hash at.text.now
 text_explains NonceOfZero at logged = zero_fits at logged (sealed_by_zero at)
-text_explains NoAssociatedData at logged = ad_fits_text at logged []
-text_explains ChainingKeyAsData at logged = ad_fits_text at logged at.before.chaining_key
+text_explains NoAssociatedData at logged = sealed_fits at logged at.before.nonce [] at.text.now
+text_explains ChainingKeyAsData at logged = sealed_fits at logged at.before.nonce at.before.chaining_key at.text.now
 text_explains EarlierHash at logged = earlier_hash_explains at logged
-text_explains LaterHash at logged = ad_fits_text at logged at.right.hash
+text_explains LaterHash at logged = sealed_fits at logged at.before.nonce at.right.hash at.text.now
 text_explains TextHashedBefore at logged = hashed_before at logged
-text_explains HashLeftOut at logged = fits logged at.bytes.now (with_hash at.right at.before.hash)
-text_explains TextHashed at logged = fits logged at.bytes.now (hashed at at.text.now)
-text_explains TagNotHashed at logged = fits logged at.bytes.now (hashed at (without_tag at.bytes.now))
 text_explains LengthHashed at logged = length_in_front_explains at logged
 text_explains LengthMixed at logged = length_mixed_explains at logged
-text_explains NonceKept at logged = fits logged at.bytes.now (with_nonce at.right at.before.nonce)
-text_explains NonceRaised at logged = fits logged at.bytes.now (with_nonce at.right (one_more at.right.nonce))
 text_explains StepsLeftOut at logged = without_steps_explains at logged
+text_explains mistake at logged = fits logged at.bytes.now (text_state mistake at)

@@ -1,15 +1,14 @@
 //! What is said of the likely mistakes.
 
-ghost use Rattle.std.specs.Prelude.{◌≡◌, ◌++◌, IfOk, OnOk, codes};
-ghost use Rattle.noise_compare.specs.Finding.{found_mistakes};
+ghost use Rattle.std.specs.Prelude.{◌≡◌, ◌++◌, IfOk, OnOk, codes, map};
+ghost use Rattle.noise_compare.specs.Finding.{found_mistakes, said};
 ghost use Rattle.noise_compare.specs.Advice.{IsAdvice, advice_text, bytes_text, form_text, gap_text, has_known, has_other_bytes, has_state, hashed_text, is_hashed, is_known, is_known_number, unknown_text, wrong_text, lacks_state, lacks_value, mistakes_text, refusing_text, sentences};
 ghost use Rattle.noise_compare.specs.Report.{ended};
 ghost use Rattle.noise_compare.specs.Shown.{shown_text};
 
 use crate::finding::{is_right, mistakes};
 use crate::line::Line;
-use crate::mistake::Mistake;
-use crate::mistake_sentences::sentence;
+use crate::mistake_tables::Row;
 use crate::report::push_line;
 use crate::shown::push_shown;
 use crate::state::{Logged, Situation};
@@ -77,6 +76,7 @@ fn push_unknown(known: bool, text: &mut Vec<u8>) -> Result<(), AllocError>
 }
 
 // Appends what is said of values that aren't right.
+#[tactic(auto, unfolding(crate::specs::Advice::gap_text, crate::specs::Advice::hashed_text))]
 fn push_wrong(
     alloc: Global,
     at: &Situation<'_>,
@@ -89,11 +89,17 @@ fn push_wrong(
     ensures { OnOk result (text.new.items ≡ text.old.items ++ wrong_text gap at.now logged.now line.now expected.now) }
 {
     if is_hashed(at, logged) {
-        return push_hashed(text);
+        return push_line(
+            "only the bytes differ, and h is that of the right ones: log the bytes as they are in the message",
+            text,
+        );
     }
     push_bytes(line, expected, text)?;
     if gap {
-        return push_gap(text);
+        return push_line(
+            "no mistake is named: your log passes over lines of this name before this one, or its n is another",
+            text,
+        );
     }
     push_found(alloc, at, logged, text)
 }
@@ -103,26 +109,6 @@ fn is_hashed(at: &Situation<'_>, logged: &Logged) -> bool
     ensures { result ≡ is_hashed at.now logged.now }
 {
     logged.hash.is_some() && logged.state_fits(&at.right)
-}
-
-#[tactic(auto, unfolding(crate::specs::Advice::hashed_text))]
-fn push_hashed(text: &mut Vec<u8>) -> Result<(), AllocError>
-    ensures { OnOk result (text.new.items ≡ text.old.items ++ hashed_text) }
-{
-    push_line(
-        "only the bytes differ, and h is that of the right ones: log the bytes as they are in the message",
-        text,
-    )
-}
-
-#[tactic(auto, unfolding(crate::specs::Advice::gap_text))]
-fn push_gap(text: &mut Vec<u8>) -> Result<(), AllocError>
-    ensures { OnOk result (text.new.items ≡ text.old.items ++ gap_text) }
-{
-    push_line(
-        "no mistake is named: your log passes over lines of this name before this one, or its n is another",
-        text,
-    )
 }
 
 #[tactic(auto, unfolding(crate::specs::Advice::form_text))]
@@ -220,10 +206,10 @@ fn push_mistakes(
     alloc: Global,
     at: &Situation<'_>,
     logged: &Logged,
-    found: &[Mistake],
+    found: &[Row],
     text: &mut Vec<u8>,
 ) -> Result<(), AllocError>
-    ensures { OnOk result (text.new.items ≡ text.old.items ++ mistakes_text at.now logged.now found.now) }
+    ensures { OnOk result (text.new.items ≡ text.old.items ++ mistakes_text at.now logged.now (map said found.now)) }
 {
     match found {
         [] => push_unnamed(
@@ -253,8 +239,8 @@ fn push_unnamed(
 }
 
 /// Appends what is said of the mistakes with which a party refuses what is right.
-pub(crate) fn push_refusing(found: &[Mistake], text: &mut Vec<u8>) -> Result<(), AllocError>
-    ensures { OnOk result (text.new.items ≡ text.old.items ++ refusing_text found.now) }
+pub(crate) fn push_refusing(found: &[Row], text: &mut Vec<u8>) -> Result<(), AllocError>
+    ensures { OnOk result (text.new.items ≡ text.old.items ++ refusing_text (map said found.now)) }
 {
     push_headed(
         "if your end refused this message, and got the bytes that are right here, each of these mistakes does it:",
@@ -268,19 +254,19 @@ pub(crate) fn push_refusing(found: &[Mistake], text: &mut Vec<u8>) -> Result<(),
     push_line("or the AEAD itself: try RFC 8439, 2.8.2", text)
 }
 
-fn push_headed(head: &str, mistakes: &[Mistake], text: &mut Vec<u8>) -> Result<(), AllocError>
-    ensures { OnOk result (text.new.items ≡ text.old.items ++ (ended head.now ++ sentences mistakes.now)) }
+fn push_headed(head: &str, rows: &[Row], text: &mut Vec<u8>) -> Result<(), AllocError>
+    ensures { OnOk result (text.new.items ≡ text.old.items ++ (ended head.now ++ sentences (map said rows.now))) }
 {
     push_line(head, text)?;
-    push_sentences(mistakes, text)
+    push_sentences(rows, text)
 }
 
 #[tactic(auto, unfolding(crate::specs::Advice::sentences))]
-fn push_sentences(mistakes: &[Mistake], text: &mut Vec<u8>) -> Result<(), AllocError>
-    ensures { OnOk result (text.new.items ≡ text.old.items ++ sentences mistakes.now) }
+fn push_sentences(rows: &[Row], text: &mut Vec<u8>) -> Result<(), AllocError>
+    ensures { OnOk result (text.new.items ≡ text.old.items ++ sentences (map said rows.now)) }
 {
-    for mistake in mistakes {
-        push_line(sentence(*mistake), text)?;
+    for row in rows {
+        push_line(row.1, text)?;
     }
     Ok(())
 }

@@ -9,7 +9,7 @@ ghost use Rattle.noise_compare.specs.declared.difference.Rule.TheVariants.{ByVal
 use crate::line::Line;
 
 /// Which of the right lines that are left stands beside a logged one, and matches it if it has its values.
-#[derive(Clone, Copy, PartialEq, Eq)]
+#[derive(Clone, Copy)]
 pub enum Rule {
     /// The first of its place.
     InTurn,

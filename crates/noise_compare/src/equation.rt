@@ -1,8 +1,13 @@
 //! The equations that are tried.
 
 ghost use Rattle.std.specs.Prelude.{◌≡◌, ◌++◌, IfOk, OnOk, map};
-ghost use Rattle.noise_compare.specs.Equations.{equations, formed, formed_sources, forms, inputs, operations, other_operations, paired, pairs, plain_input, plain_inputs, sources};
+ghost use Rattle.noise_compare.specs.Equations.{equations, formed, formed_sources, inputs, operations, other_operations, paired, pairs, plain_input, plain_inputs, sources};
 
+use crate::equation_tables::{
+    FORMED_OF_BYTES, FORMED_OF_CHAINING_KEY, FORMED_OF_HASH, FORMED_OF_KEY, FORMS, OF_BYTES,
+    OF_CHAINING_KEY, OF_HASH, OF_KEY, ON_BYTES, ON_HASH, ON_KEYS, OTHER_ON_BYTES, OTHER_ON_HASH,
+    OTHER_ON_KEYS,
+};
 use std::alloc::{AllocError, Global};
 
 /// A value of a logged line.
@@ -291,12 +296,12 @@ fn plain_input(source: Source) -> Input
     }
 }
 
-// ---- the tables
+// ---- the tables of each value
 
 fn forms() -> &'static [Form]
-    ensures { result.now ≡ forms }
+    ensures { result.now ≡ FORMS }
 {
-    &ALL_FORMS
+    &FORMS
 }
 
 #[tactic(auto, unfolding(crate::specs::Equations::sources))]
@@ -344,212 +349,3 @@ fn other_operations(value: Value) -> &'static [Operation]
         Value::ChainingKey | Value::Key => &OTHER_ON_KEYS,
     }
 }
-
-static ALL_FORMS: [Form; 20] = [
-    Form::Reversed,
-    Form::Digested,
-    Form::HexDigits,
-    Form::Doubled,
-    Form::WithoutFirst,
-    Form::WithoutLast,
-    Form::WithoutTag,
-    Form::ZeroInFront,
-    Form::ZeroBehind,
-    Form::LineFeedBehind,
-    Form::TagBehind,
-    Form::LengthByte,
-    Form::BigLength2,
-    Form::LittleLength2,
-    Form::BigLength4,
-    Form::LittleLength4,
-    Form::BigLength8,
-    Form::LittleLength8,
-    Form::TypeInFront,
-    Form::HalfZeroed,
-];
-
-static OF_BYTES: [Source; 10] = [
-    Source::Nothing,
-    Source::Zeros,
-    Source::Hash,
-    Source::ChainingKey,
-    Source::Key,
-    Source::RightHash,
-    Source::RightChainingKey,
-    Source::Name,
-    Source::Taken,
-    Source::RightBytes,
-];
-
-static OF_HASH: [Source; 10] = [
-    Source::Nothing,
-    Source::Zeros,
-    Source::Hash,
-    Source::ChainingKey,
-    Source::Key,
-    Source::RightHash,
-    Source::RightChainingKey,
-    Source::Name,
-    Source::Taken,
-    Source::LoggedBytes,
-];
-
-static OF_CHAINING_KEY: [Source; 10] = [
-    Source::Nothing,
-    Source::Zeros,
-    Source::Hash,
-    Source::ChainingKey,
-    Source::Key,
-    Source::RightHash,
-    Source::RightChainingKey,
-    Source::Name,
-    Source::Taken,
-    Source::LoggedHash,
-];
-
-static OF_KEY: [Source; 11] = [
-    Source::Nothing,
-    Source::Zeros,
-    Source::Hash,
-    Source::ChainingKey,
-    Source::Key,
-    Source::RightHash,
-    Source::RightChainingKey,
-    Source::Name,
-    Source::Taken,
-    Source::LoggedHash,
-    Source::LoggedChainingKey,
-];
-
-static FORMED_OF_BYTES: [Source; 2] = [Source::Taken, Source::RightBytes];
-
-static FORMED_OF_HASH: [Source; 2] = [Source::Taken, Source::LoggedBytes];
-
-static FORMED_OF_CHAINING_KEY: [Source; 1] = [Source::Taken];
-
-static FORMED_OF_KEY: [Source; 2] = [Source::Taken, Source::RightKey];
-
-static ON_BYTES: [Operation; 2] = [Operation::Same, Operation::Sealed];
-
-static OTHER_ON_BYTES: [Operation; 4] = [
-    Operation::ButTag,
-    Operation::SealedAlone,
-    Operation::SealedWith,
-    Operation::SealedUnder,
-];
-
-static ON_HASH: [Operation; 3] = [
-    Operation::Same,
-    Operation::Digest,
-    Operation::DigestAfter(Source::Hash),
-];
-
-static OTHER_ON_HASH: [Operation; 10] = [
-    Operation::DigestBefore(Source::Hash),
-    Operation::DigestAfter(Source::ChainingKey),
-    Operation::DigestAfter(Source::RightHash),
-    Operation::MixedTwice,
-    Operation::MixedFirst,
-    Operation::MixedOutput(Output::First),
-    Operation::MixedOutput(Output::Second),
-    Operation::MixedOutput(Output::Third),
-    Operation::Code(Source::Hash),
-    Operation::CodeUnder(Source::Hash),
-];
-
-static ON_KEYS: [Operation; 5] = [
-    Operation::Same,
-    Operation::Digest,
-    Operation::Expanded(Source::ChainingKey, Expansion::Standard, Output::First),
-    Operation::Expanded(Source::ChainingKey, Expansion::Standard, Output::Second),
-    Operation::Expanded(Source::ChainingKey, Expansion::Standard, Output::Third),
-];
-
-static OTHER_ON_KEYS: [Operation; 66] = [
-    Operation::DigestAfter(Source::ChainingKey),
-    Operation::DigestBefore(Source::ChainingKey),
-    Operation::Code(Source::ChainingKey),
-    Operation::CodeUnder(Source::ChainingKey),
-    Operation::Expanded(Source::Nothing, Expansion::Standard, Output::First),
-    Operation::Expanded(Source::Nothing, Expansion::Standard, Output::Second),
-    Operation::Expanded(Source::Nothing, Expansion::Standard, Output::Third),
-    Operation::Expanded(Source::Hash, Expansion::Standard, Output::First),
-    Operation::Expanded(Source::Hash, Expansion::Standard, Output::Second),
-    Operation::Expanded(Source::Hash, Expansion::Standard, Output::Third),
-    Operation::Expanded(Source::Key, Expansion::Standard, Output::First),
-    Operation::Expanded(Source::Key, Expansion::Standard, Output::Second),
-    Operation::Expanded(Source::Key, Expansion::Standard, Output::Third),
-    Operation::Expanded(Source::RightChainingKey, Expansion::Standard, Output::First),
-    Operation::Expanded(
-        Source::RightChainingKey,
-        Expansion::Standard,
-        Output::Second,
-    ),
-    Operation::Expanded(Source::RightChainingKey, Expansion::Standard, Output::Third),
-    Operation::ExpandedBy(Source::Nothing, Output::First),
-    Operation::ExpandedBy(Source::Nothing, Output::Second),
-    Operation::ExpandedBy(Source::Nothing, Output::Third),
-    Operation::ExpandedBy(Source::ChainingKey, Output::First),
-    Operation::ExpandedBy(Source::ChainingKey, Output::Second),
-    Operation::ExpandedBy(Source::ChainingKey, Output::Third),
-    Operation::ExpandedBy(Source::Hash, Output::First),
-    Operation::ExpandedBy(Source::Hash, Output::Second),
-    Operation::ExpandedBy(Source::Hash, Output::Third),
-    Operation::Expanded(Source::ChainingKey, Expansion::FromZero, Output::First),
-    Operation::Expanded(Source::ChainingKey, Expansion::FromZero, Output::Second),
-    Operation::Expanded(Source::ChainingKey, Expansion::FromZero, Output::Third),
-    Operation::Expanded(Source::ChainingKey, Expansion::Digits, Output::First),
-    Operation::Expanded(Source::ChainingKey, Expansion::Digits, Output::Second),
-    Operation::Expanded(Source::ChainingKey, Expansion::Digits, Output::Third),
-    Operation::Expanded(Source::ChainingKey, Expansion::BigCounter, Output::First),
-    Operation::Expanded(Source::ChainingKey, Expansion::BigCounter, Output::Second),
-    Operation::Expanded(Source::ChainingKey, Expansion::BigCounter, Output::Third),
-    Operation::Expanded(Source::ChainingKey, Expansion::LittleCounter, Output::First),
-    Operation::Expanded(
-        Source::ChainingKey,
-        Expansion::LittleCounter,
-        Output::Second,
-    ),
-    Operation::Expanded(Source::ChainingKey, Expansion::LittleCounter, Output::Third),
-    Operation::Expanded(
-        Source::ChainingKey,
-        Expansion::CounterInFront,
-        Output::First,
-    ),
-    Operation::Expanded(
-        Source::ChainingKey,
-        Expansion::CounterInFront,
-        Output::Second,
-    ),
-    Operation::Expanded(
-        Source::ChainingKey,
-        Expansion::CounterInFront,
-        Output::Third,
-    ),
-    Operation::Expanded(Source::ChainingKey, Expansion::NoCounter, Output::First),
-    Operation::Expanded(Source::ChainingKey, Expansion::NoCounter, Output::Second),
-    Operation::Expanded(Source::ChainingKey, Expansion::NoCounter, Output::Third),
-    Operation::Expanded(Source::ChainingKey, Expansion::Unchained, Output::First),
-    Operation::Expanded(Source::ChainingKey, Expansion::Unchained, Output::Second),
-    Operation::Expanded(Source::ChainingKey, Expansion::Unchained, Output::Third),
-    Operation::Expanded(Source::ChainingKey, Expansion::Exchanged, Output::First),
-    Operation::Expanded(Source::ChainingKey, Expansion::Exchanged, Output::Second),
-    Operation::Expanded(Source::ChainingKey, Expansion::Exchanged, Output::Third),
-    Operation::Derived(Derivation::DigestFirst, Output::First),
-    Operation::Derived(Derivation::DigestFirst, Output::Second),
-    Operation::Derived(Derivation::DigestFirst, Output::Third),
-    Operation::Derived(Derivation::KeysHashed, Output::First),
-    Operation::Derived(Derivation::KeysHashed, Output::Second),
-    Operation::Derived(Derivation::KeysHashed, Output::Third),
-    Operation::Derived(Derivation::NameAsInfo, Output::First),
-    Operation::Derived(Derivation::NameAsInfo, Output::Second),
-    Operation::Derived(Derivation::NameAsInfo, Output::Third),
-    Operation::Derived(Derivation::ExpandAlone, Output::First),
-    Operation::Derived(Derivation::ExpandAlone, Output::Second),
-    Operation::Derived(Derivation::ExpandAlone, Output::Third),
-    Operation::Renewed(RekeyNonce::Standard),
-    Operation::Renewed(RekeyNonce::Signed),
-    Operation::Renewed(RekeyNonce::Short),
-    Operation::Renewed(RekeyNonce::Zero),
-    Operation::RenewedWith,
-];

@@ -1,7 +1,7 @@
 //! The words of an equation.
 
-ghost use Rattle.std.specs.Prelude.{◌≡◌, ◌++◌, IfOk, OnOk, flat_map};
-ghost use Rattle.noise_compare.specs.Shown.{behind_word, derivation_word, end_word, equation_text, expansion_of, expansion_word, first_word, form_back, form_front, joint_word, last_word, operation_front, output_word, output_word_of, source_word, taken_word, value_word};
+ghost use Rattle.std.specs.Prelude.{◌≡◌, ◌++◌, IfOk, OnOk, flat_map, map};
+ghost use Rattle.noise_compare.specs.Shown.{back_words, derivation_word, digit, equation_text, expansion_word, form_words, front_words, nonce_word, source_word, taken_word, value_word};
 
 use crate::equation::{
     Derivation, Equation, Expansion, Form, Operation, Output, RekeyNonce, Source, Value,
@@ -23,25 +23,13 @@ pub(crate) fn equation_text(
         operation,
         input,
     } = equation;
+    let (before, behind) = form_words(input.form);
+    let source = source_word(kind, input.source);
     let mut text = Vec::new(alloc);
-    push_words(
-        &[
-            value_word(value),
-            " = ",
-            operation_front(operation),
-            first_word(kind, operation),
-            joint_word(operation),
-            form_front(input.form),
-            source_word(kind, input.source),
-            form_back(input.form),
-            behind_word(operation),
-            last_word(kind, operation),
-            end_word(operation),
-            expansion_of(operation),
-            output_word_of(operation),
-        ],
-        &mut text,
-    )?;
+    push_words(&[value_word(value), " = "], &mut text)?;
+    push_words(&front_words(kind, operation), &mut text)?;
+    push_words(&[before, source, behind], &mut text)?;
+    push_words(&back_words(kind, operation), &mut text)?;
     Ok(text)
 }
 
@@ -65,127 +53,78 @@ pub(crate) fn push_parts(parts: &[&[u8]], text: &mut Vec<u8>) -> Result<(), Allo
     Ok(())
 }
 
-#[tactic(auto, unfolding(crate::specs::Shown::operation_front))]
-fn operation_front(operation: Operation) -> &'static str
-    ensures { result.now ≡ operation_front operation }
+// What stands before the input of an operation.
+#[tactic(auto, unfolding(crate::specs::Shown::front_words))]
+fn front_words(kind: Kind, operation: Operation) -> [&'static str; 3]
+    ensures { map (λ word. word.now) result ≡ front_words kind operation }
 {
     match operation {
-        Operation::Digest | Operation::DigestAfter(_) | Operation::DigestBefore(_) => "SHA256(",
-        Operation::MixedTwice => "MixHash, twice, of ",
-        Operation::MixedFirst => "MixHash of what is right, after MixHash of ",
-        Operation::MixedOutput(Output::First) => "SHA256(h + output 1 of HKDF(ck, ",
-        Operation::MixedOutput(Output::Second) => "SHA256(h + output 2 of HKDF(ck, ",
-        Operation::MixedOutput(Output::Third) => "SHA256(h + output 3 of HKDF(ck, ",
-        Operation::Code(_) | Operation::CodeUnder(_) => "HMAC(",
-        Operation::Expanded(_, _, _) | Operation::ExpandedBy(_, _) => "HKDF(",
-        Operation::Derived(Derivation::ExpandAlone, _) => "HKDF-Expand(",
-        Operation::Derived(_, _) => "HKDF(",
-        Operation::Sealed => "AEAD(k, n, h, ",
-        Operation::SealedAlone => "AEAD(k, n, nothing, ",
-        Operation::SealedWith => "AEAD(k, n, ",
-        Operation::SealedUnder => "AEAD(",
-        Operation::Renewed(RekeyNonce::Standard) =>
-            "the first 32 bytes of AEAD(k, 2^64 - 1, nothing, ",
-        Operation::Renewed(RekeyNonce::Signed) =>
-            "the first 32 bytes of AEAD(k, 2^63 - 1, nothing, ",
-        Operation::Renewed(RekeyNonce::Short) =>
-            "the first 32 bytes of AEAD(k, 2^32 - 1, nothing, ",
-        Operation::Renewed(RekeyNonce::Zero) => "the first 32 bytes of AEAD(k, 0, nothing, ",
-        Operation::RenewedWith => "the first 32 bytes of AEAD(k, 2^64 - 1, ",
-        _ => "",
+        Operation::Same | Operation::ButTag => ["", "", ""],
+        Operation::Digest | Operation::DigestBefore(_) => ["SHA256(", "", ""],
+        Operation::DigestAfter(source) => ["SHA256(", source_word(kind, source), " + "],
+        Operation::MixedTwice => ["MixHash, twice, of ", "", ""],
+        Operation::MixedFirst => ["MixHash of what is right, after MixHash of ", "", ""],
+        Operation::MixedOutput(output) => ["SHA256(h + output ", digit(output), " of HKDF(ck, "],
+        Operation::Code(source) => ["HMAC(", source_word(kind, source), ", "],
+        Operation::CodeUnder(_) => ["HMAC(", "", ""],
+        Operation::Expanded(source, _, _) => ["HKDF(", source_word(kind, source), ", "],
+        Operation::ExpandedBy(_, _) => ["HKDF(", "", ""],
+        Operation::Derived(Derivation::ExpandAlone, _) => ["HKDF-Expand(", "ck", ", "],
+        Operation::Derived(_, _) => ["HKDF(", "ck", ", "],
+        Operation::Sealed => ["AEAD(k, n, h, ", "", ""],
+        Operation::SealedAlone => ["AEAD(k, n, nothing, ", "", ""],
+        Operation::SealedWith => ["AEAD(k, n, ", "", ""],
+        Operation::SealedUnder => ["AEAD(", "", ""],
+        Operation::Renewed(nonce) => [
+            "the first 32 bytes of AEAD(k, ",
+            nonce_word(nonce),
+            ", nothing, ",
+        ],
+        Operation::RenewedWith => ["the first 32 bytes of AEAD(k, 2^64 - 1, ", "", ""],
     }
 }
 
-#[tactic(auto, unfolding(crate::specs::Shown::first_word))]
-fn first_word(kind: Kind, operation: Operation) -> &'static str
-    ensures { result.now ≡ first_word kind operation }
+// What stands after it.
+#[tactic(auto, unfolding(crate::specs::Shown::back_words))]
+fn back_words(kind: Kind, operation: Operation) -> [&'static str; 4]
+    ensures { map (λ word. word.now) result ≡ back_words kind operation }
 {
     match operation {
-        Operation::DigestAfter(source) => source_word(kind, source),
-        Operation::Code(source) => source_word(kind, source),
-        Operation::Expanded(source, _, _) => source_word(kind, source),
-        Operation::Derived(_, _) => source_word(kind, Source::ChainingKey),
-        _ => "",
-    }
-}
-
-#[tactic(auto, unfolding(crate::specs::Shown::joint_word))]
-fn joint_word(operation: Operation) -> &'static str
-    ensures { result.now ≡ joint_word operation }
-{
-    match operation {
-        Operation::DigestAfter(_) => " + ",
-        Operation::Code(_) | Operation::Expanded(_, _, _) | Operation::Derived(_, _) => ", ",
-        _ => "",
-    }
-}
-
-#[tactic(auto, unfolding(crate::specs::Shown::behind_word))]
-fn behind_word(operation: Operation) -> &'static str
-    ensures { result.now ≡ behind_word operation }
-{
-    match operation {
+        Operation::Same | Operation::MixedTwice | Operation::MixedFirst => ["", "", "", ""],
+        Operation::DigestBefore(source) => [" + ", source_word(kind, source), ")", ""],
+        Operation::CodeUnder(source) => [", ", source_word(kind, source), ")", ""],
+        Operation::MixedOutput(_) => ["))", "", "", ""],
+        Operation::Expanded(_, expansion, output) => {
+            [")", expansion_word(expansion), ", output ", digit(output)]
+        }
+        Operation::ExpandedBy(source, output) => {
+            [", ", source_word(kind, source), "), output ", digit(output)]
+        }
+        Operation::Derived(derivation, output) => {
+            [")", derivation_word(derivation), ", output ", digit(output)]
+        }
+        Operation::SealedWith => [", text)", "", "", ""],
+        Operation::SealedUnder => [", n, h, text)", "", "", ""],
+        Operation::RenewedWith => [", 32 zeros)", "", "", ""],
+        Operation::ButTag => [" but for the last 16 bytes", "", "", ""],
         Operation::Digest
         | Operation::DigestAfter(_)
         | Operation::Code(_)
-        | Operation::Expanded(_, _, _)
-        | Operation::Derived(_, _)
         | Operation::Sealed
         | Operation::SealedAlone
-        | Operation::Renewed(_) => ")",
-        Operation::DigestBefore(_) => " + ",
-        Operation::CodeUnder(_) | Operation::ExpandedBy(_, _) => ", ",
-        Operation::SealedWith => ", text)",
-        Operation::SealedUnder => ", n, h, text)",
-        Operation::RenewedWith => ", 32 zeros)",
-        Operation::ButTag => " but for the last 16 bytes",
-        Operation::MixedOutput(_) => "))",
-        _ => "",
+        | Operation::Renewed(_) => [")", "", "", ""],
     }
 }
 
-#[tactic(auto, unfolding(crate::specs::Shown::last_word))]
-fn last_word(kind: Kind, operation: Operation) -> &'static str
-    ensures { result.now ≡ last_word kind operation }
+#[tactic(auto, unfolding(crate::specs::Shown::nonce_word))]
+fn nonce_word(nonce: RekeyNonce) -> &'static str
+    ensures { result.now ≡ nonce_word nonce }
 {
-    match operation {
-        Operation::DigestBefore(source) => source_word(kind, source),
-        Operation::CodeUnder(source) => source_word(kind, source),
-        Operation::ExpandedBy(source, _) => source_word(kind, source),
-        _ => "",
-    }
-}
-
-#[tactic(auto, unfolding(crate::specs::Shown::end_word))]
-fn end_word(operation: Operation) -> &'static str
-    ensures { result.now ≡ end_word operation }
-{
-    match operation {
-        Operation::DigestBefore(_) | Operation::CodeUnder(_) | Operation::ExpandedBy(_, _) => ")",
-        _ => "",
-    }
-}
-
-#[tactic(auto, unfolding(crate::specs::Shown::expansion_of))]
-fn expansion_of(operation: Operation) -> &'static str
-    ensures { result.now ≡ expansion_of operation }
-{
-    match operation {
-        Operation::Expanded(_, expansion, _) => expansion_word(expansion),
-        Operation::Derived(derivation, _) => derivation_word(derivation),
-        _ => "",
-    }
-}
-
-#[tactic(auto, unfolding(crate::specs::Shown::output_word_of))]
-fn output_word_of(operation: Operation) -> &'static str
-    ensures { result.now ≡ output_word_of operation }
-{
-    match operation {
-        Operation::Expanded(_, _, output) => output_word(output),
-        Operation::ExpandedBy(_, output) => output_word(output),
-        Operation::Derived(_, output) => output_word(output),
-        _ => "",
+    match nonce {
+        RekeyNonce::Standard => "2^64 - 1",
+        RekeyNonce::Signed => "2^63 - 1",
+        RekeyNonce::Short => "2^32 - 1",
+        RekeyNonce::Zero => "0",
     }
 }
 
@@ -240,46 +179,33 @@ fn source_word(kind: Kind, source: Source) -> &'static str
     }
 }
 
-#[tactic(auto, unfolding(crate::specs::Shown::form_front))]
-fn form_front(form: Form) -> &'static str
-    ensures { result.now ≡ form_front form }
+// What stands before and after it in a form.
+#[tactic(auto, unfolding(crate::specs::Shown::form_words))]
+fn form_words(form: Form) -> (&'static str, &'static str)
+    ensures { (result.0.now, result.1.now) ≡ form_words form }
 {
     match form {
-        Form::Reversed => "reversed(",
-        Form::Digested => "SHA256(",
-        Form::HexDigits => "hex digits(",
-        Form::Doubled => "twice(",
-        Form::ZeroInFront => "a zero byte + ",
-        Form::LengthByte => "1-byte length + ",
-        Form::BigLength2 => "2-byte big-endian length + ",
-        Form::LittleLength2 => "2-byte little-endian length + ",
-        Form::BigLength4 => "4-byte big-endian length + ",
-        Form::LittleLength4 => "4-byte little-endian length + ",
-        Form::BigLength8 => "8-byte big-endian length + ",
-        Form::LittleLength8 => "8-byte little-endian length + ",
-        Form::TypeInFront => "a byte 05 + ",
-        Form::HalfZeroed => "the first 16 bytes of ",
-        _ => "",
-    }
-}
-
-#[tactic(auto, unfolding(crate::specs::Shown::form_back))]
-fn form_back(form: Form) -> &'static str
-    ensures { result.now ≡ form_back form }
-{
-    match form {
-        Form::Reversed => ")",
-        Form::Digested => ")",
-        Form::HexDigits => ")",
-        Form::Doubled => ")",
-        Form::WithoutFirst => " without its first byte",
-        Form::WithoutLast => " without its last byte",
-        Form::WithoutTag => " without its last 16 bytes",
-        Form::ZeroBehind => " + a zero byte",
-        Form::LineFeedBehind => " + a line feed",
-        Form::TagBehind => " + 16 zero bytes",
-        Form::HalfZeroed => " + 16 zero bytes",
-        _ => "",
+        Form::Plain => ("", ""),
+        Form::Reversed => ("reversed(", ")"),
+        Form::Digested => ("SHA256(", ")"),
+        Form::HexDigits => ("hex digits(", ")"),
+        Form::Doubled => ("twice(", ")"),
+        Form::WithoutFirst => ("", " without its first byte"),
+        Form::WithoutLast => ("", " without its last byte"),
+        Form::WithoutTag => ("", " without its last 16 bytes"),
+        Form::ZeroInFront => ("a zero byte + ", ""),
+        Form::ZeroBehind => ("", " + a zero byte"),
+        Form::LineFeedBehind => ("", " + a line feed"),
+        Form::TagBehind => ("", " + 16 zero bytes"),
+        Form::LengthByte => ("1-byte length + ", ""),
+        Form::BigLength2 => ("2-byte big-endian length + ", ""),
+        Form::LittleLength2 => ("2-byte little-endian length + ", ""),
+        Form::BigLength4 => ("4-byte big-endian length + ", ""),
+        Form::LittleLength4 => ("4-byte little-endian length + ", ""),
+        Form::BigLength8 => ("8-byte big-endian length + ", ""),
+        Form::LittleLength8 => ("8-byte little-endian length + ", ""),
+        Form::TypeInFront => ("a byte 05 + ", ""),
+        Form::HalfZeroed => ("the first 16 bytes of ", " + 16 zero bytes"),
     }
 }
 
@@ -312,13 +238,13 @@ fn derivation_word(derivation: Derivation) -> &'static str
     }
 }
 
-#[tactic(auto, unfolding(crate::specs::Shown::output_word))]
-fn output_word(output: Output) -> &'static str
-    ensures { result.now ≡ output_word output }
+#[tactic(auto, unfolding(crate::specs::Shown::digit))]
+fn digit(output: Output) -> &'static str
+    ensures { result.now ≡ digit output }
 {
     match output {
-        Output::First => ", output 1",
-        Output::Second => ", output 2",
-        Output::Third => ", output 3",
+        Output::First => "1",
+        Output::Second => "2",
+        Output::Third => "3",
     }
 }

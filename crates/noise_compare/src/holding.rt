@@ -1,23 +1,18 @@
 //! Whether an equation holds of what was logged.
 
-ghost use Rattle.std.specs.Prelude.{◌≡◌, ◌++◌, ◌&&◌, IfOk, length, nat_le, option_copied, take};
-ghost use Rattle.std.specs.List.{filter};
-ghost use Rattle.std.specs.Str.{bytes_eq};
-ghost use Rattle.sha2.specs.Sha256.{sha256};
-ghost use Rattle.noise_aead.specs.Sealing.{nonce_of, sealed};
-ghost use Rattle.noise_compare.specs.Holding.{code_of, derived, found_equations, gives, holds, holds_at, holds_for, holds_of, is_but_tag, is_made, is_renewed, is_sealed, is_sealed_front, is_value_right, key_of, has_before, output_of, rekey_number, source_bytes};
-ghost use Rattle.noise_compare.specs.declared.equation.Expansion.TheVariants.{Standard};
-ghost use Rattle.noise_compare.specs.declared.equation.Source.TheVariants.{Hash};
+ghost use Rattle.std.specs.Prelude.{◌≡◌, IfOk, option_copied, take};
+ghost use Rattle.noise_aead.specs.Sealing.{nonce_of};
+ghost use Rattle.noise_compare.specs.Holding.{code_of, derived, digest_by, found_equations, gives, holds, holds_at, holds_for, holds_of, is_but_tag, is_made, is_renewed, is_sealed, is_value_right, key_of, other_source, output_of, rekey_number, sealed_if_short, source_bytes};
+ghost use Rattle.noise_compare.specs.Values.{items_of};
 
 use crate::equation::{
     Derivation, Equation, Expansion, Operation, Output, RekeyNonce, Source, Value, equations,
 };
 use crate::expansion::{code_of, info_of, informed_output, output_of, temporary_of};
 use crate::mixing::mixed;
-use crate::sources::{has_before, in_form, logged_value, source_bytes};
+use crate::sources::{in_form, logged_value, source_bytes};
 use crate::state::{Logged, Situation, has, key_fits};
-use crate::texts::{sealed_under, without_tag};
-use noise_aead::nonce;
+use crate::texts::{sealed_by, without_tag};
 use sha2::{Digest, Sha256};
 use std::alloc::{AllocError, Global};
 
@@ -132,245 +127,104 @@ fn gives(
 ) -> Result<bool, AllocError>
     ensures { IfOk result (λ b. b ≡ gives operation at.now logged.now input.now value.now) }
 {
+    let (key, n, hash) = (&at.before.key, at.before.nonce, &at.before.hash);
     match operation {
         Operation::Same => Ok(value == input),
-        Operation::Digest => Ok(is_digest(input, value)),
-        Operation::DigestAfter(source) => Ok(digest_after(
-            source_bytes(source, at, logged),
-            input,
-            value,
-        )),
-        Operation::DigestBefore(source) => Ok(digest_before(
-            source_bytes(source, at, logged),
-            input,
-            value,
-        )),
-        Operation::MixedTwice => Ok(mixed_twice(
-            source_bytes(Source::Hash, at, logged),
-            input,
-            input,
-            value,
-        )),
-        Operation::MixedFirst => Ok(mixed_twice(
-            source_bytes(Source::Hash, at, logged),
-            input,
-            at.data,
-            value,
-        )),
-        Operation::MixedOutput(output) => output_mixed(alloc, at, logged, output, input, value),
-        Operation::Code(source) => Ok(code_gives(source_bytes(source, at, logged), input, value)),
-        Operation::CodeUnder(source) => Ok(code_under_gives(
-            source_bytes(source, at, logged),
-            input,
-            value,
-        )),
-        Operation::Expanded(source, expansion, output) => {
-            let other = source_bytes(source, at, logged);
-            let given = expanded_gives(alloc, other, expansion, output, input, value)?;
-            Ok(given)
-        }
-        Operation::ExpandedBy(source, output) => {
-            let other = source_bytes(source, at, logged);
-            let given = expanded_by_gives(alloc, other, output, input, value)?;
-            Ok(given)
-        }
-        Operation::Derived(derivation, output) => Ok(derived_gives(
-            at, derivation, output, input, value,
-        )),
-        Operation::Sealed => is_sealed(
-            alloc,
-            &at.before.key,
-            at.before.nonce,
-            &at.before.hash,
-            input,
-            value,
-        ),
-        Operation::SealedAlone => is_sealed(
-            alloc,
-            &at.before.key,
-            at.before.nonce,
-            &[],
-            input,
-            value,
-        ),
-        Operation::SealedWith => is_sealed(
-            alloc,
-            &at.before.key,
-            at.before.nonce,
-            input,
-            at.text,
-            value,
-        ),
-        Operation::SealedUnder => is_sealed_under(alloc, at, input, value),
-        Operation::Renewed(number) => is_renewed(alloc, number, &at.before.key, &[], input, value),
-        Operation::RenewedWith => {
-            is_renewed(
-                alloc,
-                RekeyNonce::Standard,
-                &at.before.key,
-                input,
-                &[0; 32],
-                value,
-            )
-        }
         Operation::ButTag => Ok(is_but_tag(input, value)),
-    }
-}
-
-fn is_digest(input: &[u8], value: &[u8]) -> bool
-    ensures { result ≡ bytes_eq value.now (sha256 input.now) }
-{
-    let digest: [u8; 32] = Sha256::digest(input);
-    value == digest.as_slice()
-}
-
-fn digest_after(other: Option<&[u8]>, input: &[u8], value: &[u8]) -> bool
-    ensures { result ≡ is_made (option_copied other.entry) (λ y. sha256 (y ++ input.now)) value.now }
-{
-    match other {
-        None => false,
-        Some(other) => {
-            let made = mixed(other, input);
-            value == made.as_slice()
+        Operation::Sealed => is_sealed(alloc, key, n, hash, input, value),
+        Operation::SealedAlone => is_sealed(alloc, key, n, &[], input, value),
+        Operation::SealedWith => is_sealed(alloc, key, n, input, at.text, value),
+        Operation::SealedUnder => is_sealed(alloc, &key_of(input), n, hash, at.text, value),
+        Operation::Renewed(number) => is_renewed(alloc, number, key, &[], input, value),
+        Operation::RenewedWith => {
+            is_renewed(alloc, RekeyNonce::Standard, key, input, &[0; 32], value)
+        }
+        _ => {
+            let other = source_bytes(other_source(operation), at, logged);
+            is_digest(alloc, operation, at, other, input, value)
         }
     }
 }
 
-fn digest_before(other: Option<&[u8]>, input: &[u8], value: &[u8]) -> bool
-    ensures { result ≡ is_made (option_copied other.entry) (λ y. sha256 (input.now ++ y)) value.now }
+// What an operation takes besides its input.
+#[tactic(auto, unfolding(crate::specs::Holding::other_source))]
+fn other_source(operation: Operation) -> Source
+    ensures { result ≡ other_source operation }
 {
-    match other {
-        None => false,
-        Some(other) => {
-            let made = mixed(input, other);
-            value == made.as_slice()
-        }
+    match operation {
+        Operation::DigestAfter(source)
+        | Operation::DigestBefore(source)
+        | Operation::Code(source)
+        | Operation::CodeUnder(source)
+        | Operation::Expanded(source, _, _)
+        | Operation::ExpandedBy(source, _) => source,
+        Operation::MixedTwice | Operation::MixedFirst | Operation::MixedOutput(_) => Source::Hash,
+        Operation::Derived(_, _) => Source::ChainingKey,
+        _ => Source::Nothing,
     }
 }
 
-// Whether MixHash of this input and then of another gives a value.
-fn mixed_twice(hash: Option<&[u8]>, input: &[u8], then: &[u8], value: &[u8]) -> bool
-    ensures { result ≡ is_made (option_copied hash.entry) (λ h. sha256 (sha256 (h ++ input.now) ++ then.now)) value.now }
-{
-    match hash {
-        None => false,
-        Some(hash) => {
-            let first = mixed(hash, input);
-            let made = mixed(&first, then);
-            value == made.as_slice()
-        }
-    }
-}
-
-// Whether MixHash of an output of HKDF gives a value.
-fn output_mixed(
+// Whether a value is what an operation gives of an input and of this, if it is there.
+fn is_digest(
     alloc: Global,
+    operation: Operation,
     at: &Situation<'_>,
-    logged: &Logged,
-    output: Output,
-    input: &[u8],
-    value: &[u8],
-) -> Result<bool, AllocError>
-    ensures { IfOk result (λ b. b ≡ is_made (source_bytes Hash at.now logged.now)
-        (λ h. sha256 (h ++ output_of Standard (code_of at.now.before.chaining_key input.now) output)) value.now) }
-{
-    let temporary = code_of(&at.before.chaining_key, input);
-    let made = output_of(alloc, Expansion::Standard, &temporary, output)?;
-    Ok(digest_after(source_bytes(Source::Hash, at, logged), &made, value))
-}
-
-fn code_gives(other: Option<&[u8]>, input: &[u8], value: &[u8]) -> bool
-    ensures { result ≡ is_made (option_copied other.entry) (λ y. code_of y input.now) value.now }
-{
-    match other {
-        None => false,
-        Some(other) => {
-            let made = code_of(other, input);
-            value == made.as_slice()
-        }
-    }
-}
-
-fn code_under_gives(other: Option<&[u8]>, input: &[u8], value: &[u8]) -> bool
-    ensures { result ≡ is_made (option_copied other.entry) (λ y. code_of input.now y) value.now }
-{
-    match other {
-        None => false,
-        Some(other) => {
-            let made = code_of(input, other);
-            value == made.as_slice()
-        }
-    }
-}
-
-// Whether an output of HKDF of another value and this input is a value.
-fn expanded_gives(
-    alloc: Global,
     other: Option<&[u8]>,
-    expansion: Expansion,
-    output: Output,
     input: &[u8],
     value: &[u8],
 ) -> Result<bool, AllocError>
     ensures { IfOk result (λ b. b ≡ is_made (option_copied other.entry)
-        (λ y. output_of expansion (code_of y input.now) output) value.now) }
+        (λ other. digest_by operation at.now other input.now) value.now) }
 {
     match other {
         None => Ok(false),
-        Some(other) => output_is(alloc, expansion, &code_of(other, input), output, value),
+        Some(other) => {
+            let digest = digest_by(alloc, operation, at, other, input)?;
+            Ok(value == digest.as_slice())
+        }
     }
 }
 
-// Likewise of this input and another value.
-fn expanded_by_gives(
+// The 32 bytes that an operation gives of an input and another value.
+#[tactic(auto, unfolding(crate::specs::Holding::digest_by))]
+fn digest_by(
     alloc: Global,
-    other: Option<&[u8]>,
-    output: Output,
+    operation: Operation,
+    at: &Situation<'_>,
+    other: &[u8],
     input: &[u8],
-    value: &[u8],
-) -> Result<bool, AllocError>
-    ensures { IfOk result (λ b. b ≡ is_made (option_copied other.entry)
-        (λ y. output_of Standard (code_of input.now y) output) value.now) }
+) -> Result<[u8; 32], AllocError>
+    ensures { IfOk result (λ digest. digest ≡ digest_by operation at.now other.now input.now) }
 {
-    match other {
-        None => Ok(false),
-        Some(other) => output_is(
-            alloc,
-            Expansion::Standard,
-            &code_of(input, other),
-            output,
-            value,
-        ),
+    match operation {
+        Operation::DigestAfter(_) => Ok(mixed(other, input)),
+        Operation::DigestBefore(_) => Ok(mixed(input, other)),
+        Operation::MixedTwice => Ok(mixed(&mixed(other, input), input)),
+        Operation::MixedFirst => Ok(mixed(&mixed(other, input), at.data)),
+        Operation::MixedOutput(output) => {
+            let temporary = code_of(&at.before.chaining_key, input);
+            let made = output_of(alloc, Expansion::Standard, &temporary, output)?;
+            Ok(mixed(other, &made))
+        }
+        Operation::Code(_) => Ok(code_of(other, input)),
+        Operation::CodeUnder(_) => Ok(code_of(input, other)),
+        Operation::Expanded(_, expansion, output) => {
+            output_of(alloc, expansion, &code_of(other, input), output)
+        }
+        Operation::ExpandedBy(_, output) => {
+            output_of(alloc, Expansion::Standard, &code_of(input, other), output)
+        }
+        Operation::Derived(derivation, output) => Ok(derived(at, derivation, input, output)),
+        _ => Ok(Sha256::digest(input)),
     }
 }
 
-// Whether an output of HKDF in another way is a value.
-fn derived_gives(
-    at: &Situation<'_>,
-    derivation: Derivation,
-    output: Output,
-    input: &[u8],
-    value: &[u8],
-) -> bool
-    ensures { result ≡ (has_before at.now.kind && bytes_eq value.now (derived derivation at.now input.now output)) }
+// An output of HKDF in another way.
+fn derived(at: &Situation<'_>, derivation: Derivation, input: &[u8], output: Output) -> [u8; 32]
+    ensures { result ≡ derived derivation at.now input.now output }
 {
     let temporary = temporary_of(derivation, &at.before.chaining_key, input);
-    let info = info_of(derivation, at.name, input);
-    let made = informed_output(&temporary, info, output);
-    has_before(at.kind) && value == made.as_slice()
-}
-
-fn output_is(
-    alloc: Global,
-    expansion: Expansion,
-    temporary: &[u8; 32],
-    output: Output,
-    value: &[u8],
-) -> Result<bool, AllocError>
-    ensures { IfOk result (λ b. b ≡ bytes_eq value.now (output_of expansion temporary.now output)) }
-{
-    let made = output_of(alloc, expansion, temporary, output)?;
-    Ok(value == made.as_slice())
+    informed_output(&temporary, info_of(derivation, at.name, input), output)
 }
 
 fn key_of(input: &[u8]) -> Option<[u8; 32]>
@@ -384,28 +238,6 @@ fn key_of(input: &[u8]) -> Option<[u8; 32]>
     Some(key)
 }
 
-// Whether a value is the step's text, encrypted under these bytes.
-fn is_sealed_under(
-    alloc: Global,
-    at: &Situation<'_>,
-    input: &[u8],
-    value: &[u8],
-) -> Result<bool, AllocError>
-    ensures { IfOk result (λ b. b ≡ is_sealed (key_of input.now) (nonce_of at.now.before.nonce)
-        at.now.before.hash at.now.text.now value.now) }
-{
-    let key = key_of(input);
-    let given = is_sealed(
-        alloc,
-        &key,
-        at.before.nonce,
-        &at.before.hash,
-        at.text,
-        value,
-    )?;
-    Ok(given)
-}
-
 // Whether a value is a text that is encrypted.
 fn is_sealed(
     alloc: Global,
@@ -417,31 +249,10 @@ fn is_sealed(
 ) -> Result<bool, AllocError>
     ensures { IfOk result (λ b. b ≡ is_sealed key.now (nonce_of number) ad.now text.now value.now) }
 {
-    match key {
+    match sealed_if_short(alloc, key, number, ad, text)? {
+        Some(sealed) => Ok(value == sealed.as_slice()),
         None => Ok(false),
-        Some(key) => {
-            let nonce = nonce(number);
-            is_sealed_by(alloc, key, &nonce, ad, text, value)
-        }
     }
-}
-
-fn is_sealed_by(
-    alloc: Global,
-    key: &[u8; 32],
-    nonce: &[u8; 12],
-    ad: &[u8],
-    text: &[u8],
-    value: &[u8],
-) -> Result<bool, AllocError>
-    ensures { IfOk result (λ b. b ≡ (nat_le (length ad.now) 65535 && nat_le (length text.now) 65535
-        && bytes_eq value.now (sealed key.now nonce.now ad.now text.now))) }
-{
-    if !(ad.len() <= 65535 && text.len() <= 65535) {
-        return Ok(false);
-    }
-    let sealed = sealed_under(alloc, &Some(*key), nonce, ad, text)?;
-    Ok(value == sealed.as_slice())
 }
 
 // Whether a value is the first 32 bytes of a text that is encrypted as by Rekey.
@@ -455,8 +266,20 @@ fn is_renewed(
 ) -> Result<bool, AllocError>
     ensures { IfOk result (λ b. b ≡ is_renewed number key.now ad.now text.now value.now) }
 {
-    let nonce = nonce(rekey_number(number));
-    is_sealed_front(alloc, key, &nonce, ad, text, value)
+    let sealed = sealed_if_short(alloc, key, rekey_number(number), ad, text)?;
+    Ok(is_front(sealed, value))
+}
+
+fn is_front(sealed: Option<Vec<u8>>, value: &[u8]) -> bool
+    ensures { result ≡ is_made (items_of sealed) (λ sealed. take 32 sealed) value.now }
+{
+    match sealed {
+        Some(mut sealed) => {
+            sealed.truncate(32);
+            value == sealed.as_slice()
+        }
+        None => false,
+    }
 }
 
 #[tactic(auto, unfolding(crate::specs::Holding::rekey_number))]
@@ -471,39 +294,20 @@ fn rekey_number(number: RekeyNonce) -> u64
     }
 }
 
-fn is_sealed_front(
+// A text that is encrypted, if there is a key, and both have at most 65535 bytes.
+fn sealed_if_short(
     alloc: Global,
     key: &Option<[u8; 32]>,
-    nonce: &[u8; 12],
+    number: u64,
     ad: &[u8],
     text: &[u8],
-    value: &[u8],
-) -> Result<bool, AllocError>
-    ensures { IfOk result (λ b. b ≡ is_sealed_front key.now nonce.now ad.now text.now value.now) }
+) -> Result<Option<Vec<u8>>, AllocError>
+    ensures { IfOk result (λ v. items_of v ≡ sealed_if_short key.now (nonce_of number) ad.now text.now) }
 {
-    match key {
-        None => Ok(false),
-        Some(key) => is_sealed_front_by(alloc, key, nonce, ad, text, value),
+    if key.is_none() || 65535 < ad.len() || 65535 < text.len() {
+        return Ok(None);
     }
-}
-
-fn is_sealed_front_by(
-    alloc: Global,
-    key: &[u8; 32],
-    nonce: &[u8; 12],
-    ad: &[u8],
-    text: &[u8],
-    value: &[u8],
-) -> Result<bool, AllocError>
-    ensures { IfOk result (λ b. b ≡ (nat_le (length ad.now) 65535 && nat_le (length text.now) 65535
-        && bytes_eq value.now (take 32 (sealed key.now nonce.now ad.now text.now)))) }
-{
-    if !(ad.len() <= 65535 && text.len() <= 65535) {
-        return Ok(false);
-    }
-    let mut sealed = sealed_under(alloc, &Some(*key), nonce, ad, text)?;
-    sealed.truncate(32);
-    Ok(value == sealed.as_slice())
+    Ok(Some(sealed_by(alloc, key, number, ad, text)?))
 }
 
 fn is_but_tag(input: &[u8], value: &[u8]) -> bool

@@ -1,14 +1,14 @@
 //! The mistakes that are known at a step.
 
-ghost use Rattle.std.specs.Prelude.{◌≡◌, ◌++◌, Some, IfOk, OnOk, option_copied};
+ghost use Rattle.std.specs.Prelude.{◌≡◌, ◌++◌, Some, IfOk, OnOk, map, option_copied};
+ghost use Rattle.noise_compare.specs.Finding.{said};
 ghost use Rattle.noise_compare.specs.Known.{AreKnown, AreKnownAt, indented, indented_sentences, known_text};
 
 use crate::difference::first_difference;
 use crate::facts::Facts;
 use crate::finding::tried_mistakes;
 use crate::line::Line;
-use crate::mistake::Mistake;
-use crate::mistake_sentences::sentence;
+use crate::mistake_tables::Row;
 use crate::parts::Parts;
 use crate::report::push_line;
 use crate::state::Situation;
@@ -72,18 +72,18 @@ fn known_text(alloc: Global, at: &Situation<'_>) -> Result<Vec<u8>, AllocError>
 }
 
 #[tactic(auto, unfolding(crate::specs::Known::indented_sentences))]
-fn push_indented(mistakes: &[Mistake], text: &mut Vec<u8>) -> Result<(), AllocError>
-    ensures { OnOk result (text.new.items ≡ text.old.items ++ indented_sentences mistakes.now) }
+fn push_indented(rows: &[Row], text: &mut Vec<u8>) -> Result<(), AllocError>
+    ensures { OnOk result (text.new.items ≡ text.old.items ++ indented_sentences (map said rows.now)) }
 {
-    for mistake in mistakes {
-        push_one_indented(*mistake, text)?;
+    for row in rows {
+        push_one_indented(row, text)?;
     }
     Ok(())
 }
 
-fn push_one_indented(mistake: Mistake, text: &mut Vec<u8>) -> Result<(), AllocError>
-    ensures { OnOk result (text.new.items ≡ text.old.items ++ indented mistake) }
+fn push_one_indented(row: &Row, text: &mut Vec<u8>) -> Result<(), AllocError>
+    ensures { OnOk result (text.new.items ≡ text.old.items ++ indented (said row.now)) }
 {
     text.extend_from_slice(b"    ".as_slice())?;
-    push_line(sentence(mistake), text)
+    push_line(row.1, text)
 }

@@ -1,7 +1,7 @@
 //! What is printed of a log.
 
-ghost use Rattle.std.specs.Prelude.{◌≡◌, ◌++◌, ◌∷◌, [], IfOk, OnOk, codes, count_by, decimal, option_copied};
-ghost use Rattle.noise_compare.specs.Report.{agreement_text, right_text, difference_text, ended, ending_text, is_number, is_of_split, part_name, place_text, value_text, values_text};
+ghost use Rattle.std.specs.Prelude.{◌≡◌, ◌++◌, ◌∷◌, IfOk, OnOk, count_by, option_copied};
+ghost use Rattle.noise_compare.specs.Report.{agreement_text, difference_text, ended, ending_text, is_number, is_of_split, part_name, place_line, right_text, value_text, values_text};
 
 use crate::line::Line;
 use std::alloc::{AllocError, Global};
@@ -37,9 +37,8 @@ fn is_of_split(line: &Line<'_>) -> bool
 pub fn ending_text(alloc: Global, next: &Line<'_>, advice: &[u8]) -> Result<Vec<u8>, AllocError>
     ensures { IfOk result (λ text. text.items ≡ ending_text next.now advice.now) }
 {
-    let mut text = Vec::from_slice(alloc, b"ends before ".as_slice())?;
-    push_place(next, &mut text)?;
-    text.push(b'\n')?;
+    let mut text = Vec::new(alloc);
+    push_place("ends before ", next, &mut text)?;
     text.extend_from_slice(advice)?;
     Ok(text)
 }
@@ -56,9 +55,8 @@ pub fn difference_text(
 {
     let number = logged.number;
     let front = format!(in alloc; "differs at line {number}: ")?;
-    let mut text = Vec::from_slice(alloc, front.as_bytes())?;
-    push_place(logged, &mut text)?;
-    text.push(b'\n')?;
+    let mut text = Vec::new(alloc);
+    push_place(front.as_str(), logged, &mut text)?;
     push_right(logged, right, &mut text)?;
     text.extend_from_slice(advice)?;
     Ok(text)
@@ -73,15 +71,19 @@ pub(crate) fn push_line(line: &str, text: &mut Vec<u8>) -> Result<(), AllocError
     Ok(())
 }
 
-/// Appends the role, the part and the name of a line.
-pub(crate) fn push_place(line: &Line<'_>, text: &mut Vec<u8>) -> Result<(), AllocError>
-    ensures { OnOk result (text.new.items ≡ text.old.items ++ place_text line.now) }
+/// Appends a line: a front, and then the role, the part and the name of a line of a key schedule.
+#[tactic(auto, unfolding(crate::specs::Report::place_line))]
+pub(crate) fn push_place(front: &str, of: &Line<'_>, text: &mut Vec<u8>) -> Result<(), AllocError>
+    ensures { OnOk result (text.new.items ≡ text.old.items ++ place_line front.now of.now) }
 {
-    text.extend_from_slice(line.word(1))?;
+    text.extend_from_slice(front.as_bytes())?;
+    text.extend_from_slice(of.word(1))?;
     text.extend_from_slice(b", ".as_slice())?;
-    push_part(line.word(2), text)?;
+    push_part(of.word(2), text)?;
     text.extend_from_slice(b", ".as_slice())?;
-    text.extend_from_slice(line.word(4))
+    text.extend_from_slice(of.word(4))?;
+    text.push(b'\n')?;
+    Ok(())
 }
 
 fn push_part(part: &[u8], text: &mut Vec<u8>) -> Result<(), AllocError>
@@ -89,7 +91,6 @@ fn push_part(part: &[u8], text: &mut Vec<u8>) -> Result<(), AllocError>
 {
     if is_number(part) {
         text.extend_from_slice(b"message ".as_slice())?;
-        return text.extend_from_slice(part);
     }
     text.extend_from_slice(part)
 }

@@ -44,57 +44,40 @@ fn other_explains(at: &Situation<'_>, logged: &Logged) -> bool
 fn secret_state(mistake: SecretMistake, at: &Situation<'_>) -> State
     ensures { result ≡ secret_state mistake at.now }
 {
-    let (before, chaining_key) = (&at.before, &at.before.chaining_key);
+    let (kind, before, secret) = (at.kind, &at.before, &at.secret);
+    let ck = &before.chaining_key;
     match mistake {
-        SecretMistake::InputsExchanged => {
-            applied(at.kind, before, &expanded(&at.secret, chaining_key))
-        }
+        SecretMistake::InputsExchanged => applied(kind, before, &expanded(secret, ck)),
         SecretMistake::OutputsExchanged => {
-            applied(
-                at.kind,
-                before,
-                &exchanged(at.kind, &expanded(chaining_key, &at.secret)),
-            )
+            applied(kind, before, &exchanged(kind, &expanded(ck, secret)))
         }
         SecretMistake::Reversed => after_secret(at, &reversed(at.secret)),
-        SecretMistake::Digested => after_secret(at, &digested(&at.secret)),
+        SecretMistake::Digested => after_secret(at, &digested(secret)),
         SecretMistake::CountedFromZero => {
-            applied(
-                at.kind,
-                before,
-                &counted_from_zero(&hmac(chaining_key, &[&at.secret])),
-            )
+            applied(kind, before, &counted_from_zero(&hmac(ck, &[secret])))
         }
-        SecretMistake::Unchained => {
-            applied(
-                at.kind,
-                before,
-                &unchained(&hmac(chaining_key, &[&at.secret])),
-            )
-        }
+        SecretMistake::Unchained => applied(kind, before, &unchained(&hmac(ck, &[secret]))),
         SecretMistake::ShortBlocks => {
-            applied(
-                at.kind,
-                before,
-                &short_outputs(&short_hmac(chaining_key, &at.secret)),
-            )
+            applied(kind, before, &short_outputs(&short_hmac(ck, secret)))
         }
-        SecretMistake::ChainingKeyKept => with_chaining_key(&at.right, *chaining_key),
-        SecretMistake::NonceKept => with_nonce(&at.right, at.before.nonce),
+        SecretMistake::ChainingKeyKept => with_chaining_key(&at.right, *ck),
+        SecretMistake::NonceKept => with_nonce(&at.right, before.nonce),
         SecretMistake::NonceFromOne => with_nonce(&at.right, 1),
         SecretMistake::LeftOut => at.before,
-        SecretMistake::HashedToo => with_hash(&at.right, mixed(&at.right.hash, &at.secret)),
-        SecretMistake::KeyAlone => mixed_key(before, &expanded(chaining_key, &at.secret)),
-        SecretMistake::HashLeftOut => with_hash(&at.right, at.before.hash),
+        SecretMistake::HashedToo => with_hash(&at.right, mixed(&at.right.hash, secret)),
+        SecretMistake::KeyAlone => mixed_key(before, &expanded(ck, secret)),
+        SecretMistake::HashLeftOut => with_hash(&at.right, before.hash),
         SecretMistake::Other => at.right,
-        SecretMistake::StepsLeftOut => {
-            applied(
-                at.kind,
-                &at.agreed,
-                &expanded(&at.agreed.chaining_key, &at.secret),
-            )
-        }
+        SecretMistake::StepsLeftOut => after_agreed(at),
     }
+}
+
+// The step after the last one that agrees.
+fn after_agreed(at: &Situation<'_>) -> State
+    ensures { result ≡ applied at.now.kind at.now.agreed (expanded at.now.agreed.chaining_key at.now.secret) }
+{
+    let outputs = expanded(&at.agreed.chaining_key, &at.secret);
+    applied(at.kind, &at.agreed, &outputs)
 }
 
 fn after_secret(at: &Situation<'_>, secret: &[u8; 32]) -> State

@@ -1,8 +1,7 @@
 //! What is said of a line of a log that doesn't agree, or before which a log ends.
 
 ghost use Rattle.std.specs.Prelude.{◌≡◌, ◌≤◌, ◌<◌, ◌++◌, None, Some, IfOk, OnOk, drop, find, length, option_copied};
-ghost use Rattle.noise_compare.specs.Advice.{HasBytesAlone, IsAdvice, IsDropped, IsEndAdvice, IsNextAdvice, IsPlaceAdvice, dropped_advice, due_text, end_text, has_gap, is_dropped, is_due_for, keyed_text, keyless_text, lacking_line, lacking_lines, lacking_place, lacking_text, next_for, none_left_text, nonce_text, sealed_otherwise_text};
-ghost use Rattle.noise_compare.specs.Report.{ended, place_text};
+ghost use Rattle.noise_compare.specs.Advice.{HasBytesAlone, IsAdvice, IsDropped, IsEndAdvice, IsNextAdvice, IsPlaceAdvice, dropped_advice, due_text, end_text, has_gap, is_dropped, is_due_for, keyed_text, keyless_text, lacking_line, lacking_lines, lacking_text, next_for, none_left_text, nonce_text, sealed_otherwise_text};
 ghost use Rattle.noise_compare.specs.Values.{is_text};
 
 use crate::advice::{push_advice, push_bytes, push_refusing};
@@ -88,34 +87,13 @@ fn push_lacking_line(
     ensures { OnOk result (text.new.items ≡ text.old.items ++ lacking_line expected.now line.now) }
 {
     if line.word(1) == expected.word(1) {
-        return push_lacking_place(line, text);
+        return push_place("your log has no line here for ", line, text);
     }
     Ok(())
 }
 
-#[tactic(auto, unfolding(crate::specs::Advice::lacking_place))]
-fn push_lacking_place(line: &Line<'_>, text: &mut Vec<u8>) -> Result<(), AllocError>
-    ensures { OnOk result (text.new.items ≡ text.old.items ++ lacking_place line.now) }
-{
-    push_text("your log has no line here for ", text)?;
-    push_place_line(line, text)
-}
-
-fn push_text(front: &str, text: &mut Vec<u8>) -> Result<(), AllocError>
-    ensures { OnOk result (text.new.items ≡ text.old.items ++ front.now) }
-{
-    text.extend_from_slice(front.as_bytes())
-}
-
-fn push_place_line(line: &Line<'_>, text: &mut Vec<u8>) -> Result<(), AllocError>
-    ensures { OnOk result (text.new.items ≡ text.old.items ++ ended (place_text line.now)) }
-{
-    push_place(line, text)?;
-    text.push(b'\n')?;
-    Ok(())
-}
-
 /// What is said of the line `logged` of the log, where no right line of its place is left.
+#[tactic(auto, unfolding(crate::specs::Advice::none_left_text))]
 pub(crate) fn of_place(
     alloc: Global,
     facts: &Facts,
@@ -134,20 +112,15 @@ pub(crate) fn of_place(
             let dropped = is_dropped(logged, next);
             of_next(alloc, facts, log, right, found.index, logged, next, dropped)
         }
-        None => none_left(alloc),
+        None => {
+            let mut text = Vec::new(alloc);
+            push_line(
+                "no line of the schedule is left: a message that the file lacks, or a step too many",
+                &mut text,
+            )?;
+            Ok(text)
+        }
     }
-}
-
-#[tactic(auto, unfolding(crate::specs::Advice::none_left_text))]
-fn none_left(alloc: Global) -> Result<Vec<u8>, AllocError>
-    ensures { IfOk result (λ text. text.items ≡ none_left_text) }
-{
-    let mut text = Vec::new(alloc);
-    push_line(
-        "no line of the schedule is left: a message that the file lacks, or a step too many",
-        &mut text,
-    )?;
-    Ok(text)
 }
 
 // The next right line that is due for a logged one, from this place on.
@@ -203,8 +176,8 @@ fn of_next(
 fn due(alloc: Global, next: &Line<'_>) -> Result<Vec<u8>, AllocError>
     ensures { IfOk result (λ text. text.items ≡ due_text next.now) }
 {
-    let mut text = Vec::from_slice(alloc, b"due is ".as_slice())?;
-    push_place_line(next, &mut text)?;
+    let mut text = Vec::new(alloc);
+    push_place("due is ", next, &mut text)?;
     push_line(
         "a step out of order, or too many, or under another name",
         &mut text,

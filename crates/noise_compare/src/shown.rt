@@ -1,7 +1,7 @@
 //! What the logged values of a step show.
 
 ghost use Rattle.std.specs.Prelude.{◌≡◌, ◌≤◌, ◌++◌, ◌∷◌, [], IfOk, OnOk, length, option_copied};
-ghost use Rattle.noise_compare.specs.Shown.{apart, differing_text, found_text, is_printable, is_words, logged_line, logged_text, nonce_line, nonce_text, printable, printable_head, printable_text, right_line, shortest, shown_head, shown_text, unfound_text, value_line};
+ghost use Rattle.noise_compare.specs.Shown.{apart, differing_text, found_text, is_printable, is_words, logged_line, logged_text, nonce_line, nonce_text, printable, printable_head, printable_text, right_line, shortest, shown_text, unfound_text, value_line};
 
 use crate::equation::{Equation, Value};
 use crate::equation_words::{equation_text, push_parts, value_word};
@@ -21,23 +21,16 @@ pub(crate) fn push_shown(
 ) -> Result<(), AllocError>
     ensures { OnOk result (text.new.items ≡ text.old.items ++ shown_text at.now logged.now) }
 {
-    push_head(text)?;
+    push_line(
+        "what they show, by the right values before this step:",
+        text,
+    )?;
     push_value_line(alloc, Value::Bytes, at, logged, text)?;
     push_value_line(alloc, Value::Hash, at, logged, text)?;
     push_value_line(alloc, Value::ChainingKey, at, logged, text)?;
     push_value_line(alloc, Value::Key, at, logged, text)?;
     push_nonce_line(alloc, at, logged, text)?;
     Ok(())
-}
-
-#[tactic(auto, unfolding(crate::specs::Shown::shown_head))]
-fn push_head(text: &mut Vec<u8>) -> Result<(), AllocError>
-    ensures { OnOk result (text.new.items ≡ text.old.items ++ shown_head) }
-{
-    push_line(
-        "what they show, by the right values before this step:",
-        text,
-    )
 }
 
 fn push_value_line(

@@ -4,11 +4,12 @@ ghost use Rattle.std.specs.Prelude.{◌≡◌, ◌++◌, None, Some, IfOk, drop,
 ghost use Rattle.hex.specs.Hex.{encode_lower};
 ghost use Rattle.sha2.specs.Sha256.{sha256};
 ghost use Rattle.noise_compare.specs.Values.{items_of};
-ghost use Rattle.noise_compare.specs.Holding.{has_after, has_before, in_form, is_after_name, is_of_text, logged_value, source_bytes, taken};
+ghost use Rattle.noise_compare.specs.Holding.{has_after, has_before, in_form, is_after_name, logged_value, source_bytes, taken};
 
 use crate::equation::{Form, Source, Value};
 use crate::state::{Kind, Logged, Situation};
 use crate::texts::without_tag;
+use crate::values::is_text;
 use sha2::{Digest, Sha256};
 use std::alloc::{AllocError, Global};
 
@@ -34,7 +35,7 @@ pub(crate) fn source_bytes<'a>(
         Source::RightKey => key_bytes(&at.right.key),
         Source::Name => when(is_after_name(at.kind), at.name),
         Source::Taken => taken(at.kind, at),
-        Source::RightBytes => when(is_of_text(at.kind), at.bytes),
+        Source::RightBytes => when(is_text(at.kind), at.bytes),
         Source::LoggedBytes => bytes_of(&logged.bytes),
         Source::LoggedHash => bytes_of(&logged.hash),
         Source::LoggedChainingKey => bytes_of(&logged.chaining_key),
@@ -91,40 +92,21 @@ fn taken<'a>(kind: Kind, at: &'a Situation<'_>) -> Option<&'a [u8]>
 pub(crate) fn has_before(kind: Kind) -> bool
     ensures { result ≡ has_before kind }
 {
-    match kind {
-        Kind::Name | Kind::Rekeyed | Kind::Transport => false,
-        _ => true,
-    }
+    !matches!(kind, Kind::Name | Kind::Rekeyed | Kind::Transport)
 }
 
 #[tactic(auto, unfolding(crate::specs::Holding::has_after))]
 fn has_after(kind: Kind) -> bool
     ensures { result ≡ has_after kind }
 {
-    match kind {
-        Kind::Opening | Kind::Rekeyed | Kind::Transport => false,
-        _ => true,
-    }
+    !matches!(kind, Kind::Opening | Kind::Rekeyed | Kind::Transport)
 }
 
 #[tactic(auto, unfolding(crate::specs::Holding::is_after_name))]
 fn is_after_name(kind: Kind) -> bool
     ensures { result ≡ is_after_name kind }
 {
-    match kind {
-        Kind::Name => false,
-        _ => true,
-    }
-}
-
-#[tactic(auto, unfolding(crate::specs::Holding::is_of_text))]
-fn is_of_text(kind: Kind) -> bool
-    ensures { result ≡ is_of_text kind }
-{
-    match kind {
-        Kind::Text => true,
-        _ => false,
-    }
+    !matches!(kind, Kind::Name)
 }
 
 /// The logged value of this kind.

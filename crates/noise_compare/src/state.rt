@@ -14,7 +14,7 @@ pub struct State {
 }
 
 /// What a step is.
-#[derive(Clone, Copy, PartialEq, Eq)]
+#[derive(Clone, Copy)]
 pub enum Kind {
     /// The start with the protocol name.
     Name,

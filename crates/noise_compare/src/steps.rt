@@ -124,8 +124,5 @@ fn push_one(key: Option<[u8; 32]>, keys: &mut Vec<[u8; 32]>) -> Result<(), Alloc
 fn is_of_key(kind: Kind) -> bool
     ensures { result ≡ is_of_key kind }
 {
-    match kind {
-        Kind::Opening | Kind::Rekeyed => true,
-        _ => false,
-    }
+    matches!(kind, Kind::Opening | Kind::Rekeyed)
 }

@@ -5,7 +5,7 @@ ghost use Rattle.sha2.specs.Sha256.{sha256};
 ghost use Rattle.noise_aead.specs.Sealing.{nonce_of, sealed};
 ghost use Rattle.noise_compare.specs.Mixing.{hashed, with_hash};
 ghost use Rattle.noise_compare.specs.States.{fits};
-ghost use Rattle.noise_compare.specs.Texts.{ad_fits_text, big_endian, big_endian_first_bytes, bytes_fit, earlier_hash_explains, first_bytes, hashed_before, key_fits_text, nonce_fits_text, other_key_explains, one_more, raised, sealed_by_zero, sealed_key, sealed_under, sealed_with, sealed_without_steps, state_without_steps, tag_first, text_explains, without_steps_explains, without_tag, zero_fits};
+ghost use Rattle.noise_compare.specs.Texts.{big_endian, big_endian_first_bytes, bytes_fit, earlier_hash_explains, first_bytes, hashed_before, nonce_fits_text, one_more, other_key_explains, raised, sealed_by_zero, sealed_fits, sealed_under, state_without_steps, tag_first, text_explains, text_state, without_steps_explains, without_tag, zero_fits};
 
 use crate::mistake::TextMistake;
 use crate::mixing::{
@@ -27,7 +27,7 @@ pub(crate) fn text_explains(
 ) -> Result<bool, AllocError>
     ensures { IfOk result (λ b. b ≡ text_explains mistake at.now logged.now) }
 {
-    let n = at.before.nonce;
+    let (n, text) = (at.before.nonce, at.text);
     match mistake {
         TextMistake::Clear => Ok(clear_fits(at, logged, at.text)),
         TextMistake::OtherKey => other_key_explains(alloc, at, logged),
@@ -41,25 +41,32 @@ pub(crate) fn text_explains(
         }
         TextMistake::NonceFromOne => next_nonce_explains(alloc, at, logged),
         TextMistake::NonceOfZero => zero_nonce_explains(alloc, at, logged),
-        TextMistake::NoAssociatedData => ad_fits_text(alloc, at, logged, &[]),
+        TextMistake::NoAssociatedData => sealed_fits(alloc, at, logged, n, &[], text),
         TextMistake::ChainingKeyAsData => {
-            ad_fits_text(alloc, at, logged, &at.before.chaining_key)
+            sealed_fits(alloc, at, logged, n, &at.before.chaining_key, text)
         }
         TextMistake::EarlierHash => earlier_hash_explains(alloc, at, logged),
-        TextMistake::LaterHash => ad_fits_text(alloc, at, logged, &at.right.hash),
+        TextMistake::LaterHash => sealed_fits(alloc, at, logged, n, &at.right.hash, text),
         TextMistake::TextHashedBefore => hashed_before(alloc, at, logged),
-        TextMistake::HashLeftOut => {
-            Ok(logged.fits(at.bytes, &with_hash(&at.right, at.before.hash)))
-        }
-        TextMistake::TextHashed => Ok(logged.fits(at.bytes, &hashed(at, at.text))),
-        TextMistake::TagNotHashed => Ok(logged.fits(at.bytes, &hashed(at, without_tag(at.bytes)))),
+        TextMistake::StepsLeftOut => without_steps_explains(alloc, at, logged),
         TextMistake::LengthHashed => Ok(length_in_front_explains(at, logged)),
         TextMistake::LengthMixed => Ok(length_mixed_explains(at, logged)),
-        TextMistake::NonceKept => Ok(logged.fits(at.bytes, &with_nonce(&at.right, n))),
-        TextMistake::NonceRaised => {
-            Ok(logged.fits(at.bytes, &with_nonce(&at.right, one_more(at.right.nonce))))
-        }
-        TextMistake::StepsLeftOut => without_steps_explains(alloc, at, logged),
+        _ => Ok(logged.fits(at.bytes, &text_state(mistake, at))),
+    }
+}
+
+// The state with a mistake after which the bytes are right.
+#[tactic(auto, unfolding(crate::specs::Texts::text_state))]
+fn text_state(mistake: TextMistake, at: &Situation<'_>) -> State
+    ensures { result ≡ text_state mistake at.now }
+{
+    match mistake {
+        TextMistake::HashLeftOut => with_hash(&at.right, at.before.hash),
+        TextMistake::TextHashed => hashed(at, at.text),
+        TextMistake::TagNotHashed => hashed(at, without_tag(at.bytes)),
+        TextMistake::NonceKept => with_nonce(&at.right, at.before.nonce),
+        TextMistake::NonceRaised => with_nonce(&at.right, one_more(at.right.nonce)),
+        _ => at.right,
     }
 }
 
@@ -121,15 +128,8 @@ fn zero_nonce_explains(
 ) -> Result<bool, AllocError>
     ensures { IfOk result (λ b. b ≡ zero_fits at.now logged.now (sealed_by_zero at.now)) }
 {
-    let bytes = sealed_by_zero(alloc, at)?;
+    let bytes = sealed_by(alloc, &at.before.key, 0, &at.before.hash, at.text)?;
     Ok(zero_fits(at, logged, &bytes))
-}
-
-fn sealed_by_zero(alloc: Global, at: &Situation<'_>) -> Result<Vec<u8>, AllocError>
-    ensures { IfOk result (λ v. v.items ≡ sealed_by_zero at.now) }
-{
-    let zero = nonce(0);
-    sealed_under(alloc, &at.before.key, &zero, &at.before.hash, at.text)
 }
 
 fn zero_fits(at: &Situation<'_>, logged: &Logged, bytes: &[u8]) -> bool
@@ -150,16 +150,10 @@ fn without_steps_explains(
 ) -> Result<bool, AllocError>
     ensures { IfOk result (λ b. b ≡ without_steps_explains at.now logged.now) }
 {
-    let bytes = sealed_without_steps(alloc, at)?;
+    let agreed = &at.agreed;
+    let bytes = sealed_by(alloc, &agreed.key, agreed.nonce, &agreed.hash, at.text)?;
     let sealed = logged.fits(&bytes, &state_without_steps(at, &bytes));
     Ok(sealed || logged.fits(at.bytes, &redone(at)))
-}
-
-fn sealed_without_steps(alloc: Global, at: &Situation<'_>) -> Result<Vec<u8>, AllocError>
-    ensures { IfOk result (λ v. v.items ≡ sealed_without_steps at.now) }
-{
-    let due = nonce(at.agreed.nonce);
-    sealed_under(alloc, &at.agreed.key, &due, &at.agreed.hash, at.text)
 }
 
 fn state_without_steps(at: &Situation<'_>, bytes: &[u8]) -> State
@@ -183,8 +177,8 @@ fn hashed_before(alloc: Global, at: &Situation<'_>, logged: &Logged) -> Result<b
     ensures { IfOk result (λ b. b ≡ hashed_before at.now logged.now) }
 {
     let hash = mixed(&at.before.hash, at.text);
-    let bytes = sealed_with(alloc, at, &hash)?;
-    Ok(text_hashed_fits(at, logged, &bytes))
+    let bytes = sealed_by(alloc, &at.before.key, at.before.nonce, &hash, at.text)?;
+    Ok(logged.fits(&bytes, &hashed(at, at.text)))
 }
 
 fn earlier_hash_explains(
@@ -196,7 +190,7 @@ fn earlier_hash_explains(
 {
     let mut found = false;
     for hash in at.hashes {
-        if ad_fits_text(alloc, at, logged, hash)? {
+        if sealed_fits(alloc, at, logged, at.before.nonce, hash, at.text)? {
             found = true;
         }
     }
@@ -213,30 +207,11 @@ fn other_key_explains(
 {
     let mut found = false;
     for key in at.publics {
-        if key_fits_text(alloc, at, logged, key)? {
+        if sealed_fits(alloc, at, logged, at.before.nonce, &at.before.hash, key)? {
             found = true;
         }
     }
     Ok(found)
-}
-
-fn key_fits_text(
-    alloc: Global,
-    at: &Situation<'_>,
-    logged: &Logged,
-    key: &[u8; 32],
-) -> Result<bool, AllocError>
-    ensures { IfOk result (λ b. b ≡ key_fits_text at.now logged.now key.now) }
-{
-    let bytes = sealed_key(alloc, at, key)?;
-    Ok(bytes_fit(at, logged, &bytes))
-}
-
-fn sealed_key(alloc: Global, at: &Situation<'_>, key: &[u8; 32]) -> Result<Vec<u8>, AllocError>
-    ensures { IfOk result (λ v. v.items ≡ sealed_key at.now key.now) }
-{
-    let right = nonce(at.before.nonce);
-    sealed_under(alloc, &at.before.key, &right, &at.before.hash, key)
 }
 
 fn nonce_fits_text(
@@ -251,33 +226,21 @@ fn nonce_fits_text(
     Ok(bytes_fit(at, logged, &bytes))
 }
 
-fn ad_fits_text(
+// Whether a text under this nonce and with this associated data gives the logged values.
+fn sealed_fits(
     alloc: Global,
     at: &Situation<'_>,
     logged: &Logged,
+    number: u64,
     ad: &[u8],
+    text: &[u8],
 ) -> Result<bool, AllocError>
     requires ad_fits { length ad.now ≤ 65535 }
-    ensures value { IfOk result (λ b. b ≡ ad_fits_text at.now logged.now ad.now) }
+    requires text_fits { length text.now ≤ 65535 }
+    ensures value { IfOk result (λ b. b ≡ sealed_fits at.now logged.now number ad.now text.now) }
 {
-    let bytes = sealed_with(alloc, at, ad)?;
+    let bytes = sealed_by(alloc, &at.before.key, number, ad, text)?;
     Ok(bytes_fit(at, logged, &bytes))
-}
-
-// The text with this associated data.
-fn sealed_with(alloc: Global, at: &Situation<'_>, ad: &[u8]) -> Result<Vec<u8>, AllocError>
-    requires ad_fits { length ad.now ≤ 65535 }
-    ensures bytes { IfOk result (λ v. v.items ≡ sealed_with at.now ad.now) }
-{
-    let right = nonce(at.before.nonce);
-    sealed_under(alloc, &at.before.key, &right, ad, at.text)
-}
-
-// Whether these bytes, and MixHash of the text, are what was logged.
-fn text_hashed_fits(at: &Situation<'_>, logged: &Logged, bytes: &[u8]) -> bool
-    ensures { result ≡ fits logged.now bytes.now (hashed at.now at.now.text.now) }
-{
-    logged.fits(bytes, &hashed(at, at.text))
 }
 
 fn bytes_fit(at: &Situation<'_>, logged: &Logged, bytes: &[u8]) -> bool
@@ -293,7 +256,23 @@ pub(crate) fn without_tag(bytes: &[u8]) -> &[u8]
     &bytes[..end]
 }
 
-/// A text under a key, if there is one.
+/// A text under a key and a nonce, if there is a key.
+pub(crate) fn sealed_by(
+    alloc: Global,
+    key: &Option<[u8; 32]>,
+    number: u64,
+    ad: &[u8],
+    text: &[u8],
+) -> Result<Vec<u8>, AllocError>
+    requires ad_fits { length ad.now ≤ 65535 }
+    requires text_fits { length text.now ≤ 65535 }
+    ensures bytes { IfOk result (λ v. v.items ≡ sealed_under key.now (nonce_of number) ad.now text.now) }
+{
+    let nonce = nonce(number);
+    sealed_under(alloc, key, &nonce, ad, text)
+}
+
+/// The same with the bytes of a nonce.
 pub(crate) fn sealed_under(
     alloc: Global,
     key: &Option<[u8; 32]>,

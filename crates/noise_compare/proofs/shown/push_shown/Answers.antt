@@ -9,6 +9,6 @@ joined a b c d e f g u v w x y z first second third fourth fifth sixth =
 
 pub returns : goal.returns
 unfolding shown_text
-returns c = joined _ _ _ _ _ _ _ _ _ _ _ _ _ c.in_ok-push_head.ensures c.in_ok-push_value_line.ensures
+returns c = joined _ _ _ _ _ _ _ _ _ _ _ _ _ c.in_ok-push_line.ensures c.in_ok-push_value_line.ensures
     c.in_ok-push_value_line-2.ensures c.in_ok-push_value_line-3.ensures c.in_ok-push_value_line-4.ensures
     c.in_ok-push_nonce_line.ensures

@@ -1,8 +1,0 @@
-use Rattle.std.proofs.Common.{◌≡◌, ℕ, List, IfOk, subst}
-use Rattle.noise_compare.specs.Texts.{sealed_under}
-use Rattle.noise_compare.proofs.texts.sealed_without_steps.Goals as goal
-
-pub returns : goal.returns
-returns c = subst (λ (n : List ℕ). IfOk c.sealed_under.result
-    (λ v. v.items ≡ sealed_under c.args.at.now.agreed.key n c.args.at.now.agreed.hash c.args.at.now.text.now))
-    c.nonce-due.ensures c.sealed_under.ensures.bytes
