@@ -8,27 +8,23 @@ use crate::sentences::Sentences;
 use crate::text_advice::fault_advice;
 
 // What is wrong with a line of that pattern.
+#[rattlefmt::skip]
 pub(crate) fn block_reported(text: &[u8], number: usize, column: usize) -> Sentences {
     if lacks_block(text) {
         return NO_BLOCK;
     }
     match (block_of(text), block_fault(text)) {
         (Some(block), Some(fault)) if fault.line == number.saturating_sub(2) => {
-            Sentences::of(fault_advice(block, fault, column))
+            fault_advice(block, fault, column).sentences()
         }
-        _ => Sentences::new(
-            "The pattern's first line has the base and the psk modifiers of the protocol's name, and a colon, and this \
-             one doesn't.",
-            "Write it so, or change the name in the line above.",
-        ),
+        _ => ("The pattern's first line has the base and the psk modifiers of the protocol's name, and a colon, and this one doesn't.",
+            "Write it so, or change the name in the line above."),
     }
 }
 
-const NO_BLOCK: Sentences = Sentences {
-    says: "The pattern of this protocol isn't a fundamental one, so its text has to stand below line 2, and it \
-           doesn't.",
-    mends: "Put it there, and after it the line end.",
-};
+#[rattlefmt::skip]
+const NO_BLOCK: Sentences = ("The pattern of this protocol isn't a fundamental one, so its text has to stand below line 2, and it doesn't.",
+    "Put it there, and after it the line end.");
 
 // Whether the prologue's line stands where the pattern has to.
 fn lacks_block(text: &[u8]) -> bool {
@@ -38,7 +34,7 @@ fn lacks_block(text: &[u8]) -> bool {
 // What is missing after the last line.
 pub(crate) fn ending_reported(text: &[u8], number: usize, line: &[u8]) -> Sentences {
     if !line.is_empty() {
-        return Sentences::of(Advice::LineFeedMissing);
+        return Advice::LineFeedMissing.sentences();
     }
     if is_own(text) && !has_end(text) {
         return if lacks_block(text) { NO_BLOCK } else { NO_END };
@@ -46,38 +42,23 @@ pub(crate) fn ending_reported(text: &[u8], number: usize, line: &[u8]) -> Senten
     next_reported(first_word(line_at(text, number.saturating_sub(1))), text)
 }
 
-const NO_END: Sentences = Sentences {
-    says: "The line end has to stand after the pattern that the file spells, and the file ends before it.",
-    mends: "Put it after the pattern's last line.",
-};
+#[rattlefmt::skip]
+const NO_END: Sentences = ("The line end has to stand after the pattern that the file spells, and the file ends before it.",
+    "Put it after the pattern's last line.");
 
 // Which line has to follow the one that begins with this word.
+#[rattlefmt::skip]
 fn next_reported(last: &[u8], text: &[u8]) -> Sentences {
     if last == b"vector".as_slice() {
-        Sentences::new(
-            "The file ends before the protocol's line.",
-            "Add it, for example: protocol Noise_XX_25519_ChaChaPoly_SHA256",
-        )
+        ("The file ends before the protocol's line.", "Add it, for example: protocol Noise_XX_25519_ChaChaPoly_SHA256")
     } else if last == b"protocol".as_slice() || last == b"end".as_slice() {
-        Sentences::new(
-            "The file ends before the prologue's line.",
-            "Add it. Without a prologue it is: prologue -",
-        )
+        ("The file ends before the prologue's line.", "Add it. Without a prologue it is: prologue -")
     } else if last == b"prologue".as_slice() {
-        Sentences::new(
-            "The file ends before the interval's line.",
-            "Add it. Where no key is rekeyed it is: interval 0",
-        )
+        ("The file ends before the interval's line.", "Add it. Where no key is rekeyed it is: interval 0")
     } else if has_initiator(text) {
-        Sentences::new(
-            "The file ends before the responder's line.",
-            "Add it, for example: responder xor - -",
-        )
+        ("The file ends before the responder's line.", "Add it, for example: responder xor - -")
     } else {
-        Sentences::new(
-            "The file ends before the initiator's line.",
-            "Add it, for example: initiator xor - -",
-        )
+        ("The file ends before the initiator's line.", "Add it, for example: initiator xor - -")
     }
 }
 

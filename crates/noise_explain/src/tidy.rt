@@ -11,12 +11,12 @@ pub(crate) fn tidy_line(alloc: Global, line: &[u8], is_first: bool) -> Result<Ve
         return Ok(Vec::new(alloc));
     }
     if words.starts_with(b"..".as_slice()) || words.starts_with(b"\xe2\x80\xa6".as_slice()) {
-        return copy(alloc, b"  ...".as_slice());
+        return Vec::from_slice(alloc, b"  ...");
     }
     match after_arrow(words) {
         Some((arrow, list)) => listed(alloc, arrow, list),
         None if is_first => heading(alloc, words),
-        None => copy(alloc, words),
+        None => Vec::from_slice(alloc, words),
     }
 }
 
@@ -48,10 +48,13 @@ fn trimmed(line: &[u8]) -> &[u8] {
     kept
 }
 
-fn copy(alloc: Global, line: &[u8]) -> Result<Vec<u8>, AllocError> {
-    let mut same = Vec::new(alloc);
-    same.extend_from_slice(line)?;
-    Ok(same)
+// These pieces, one after the other.
+pub(crate) fn joined(alloc: Global, pieces: &[&[u8]]) -> Result<Vec<u8>, AllocError> {
+    let mut all = Vec::new(alloc);
+    for piece in pieces {
+        all.extend_from_slice(piece)?;
+    }
+    Ok(all)
 }
 
 // The arrow that is meant at the front, and what follows it.
@@ -77,7 +80,7 @@ fn after_arrow(words: &[u8]) -> Option<(&'static [u8], &[u8])> {
 
 // The line of an arrow and these words, in small letters, with a comma and a space between two.
 fn listed(alloc: Global, arrow: &[u8], list: &[u8]) -> Result<Vec<u8>, AllocError> {
-    let mut line = copy(alloc, arrow)?;
+    let mut line = Vec::from_slice(alloc, arrow)?;
     let mut is_between = false;
     let mut has_word = false;
     for byte in list {
