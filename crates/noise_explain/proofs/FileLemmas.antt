@@ -20,6 +20,7 @@ use Rattle.noise_names.specs.Tokens.{other}
 use Rattle.noise_names.specs.Validity.{is_among}
 use Rattle.noise_keys.specs.declared.keys.Own.{Own}
 use Rattle.noise_keys.specs.declared.keys.Own.TheVariants.{Ephemeral, Static}
+use Rattle.noise_keys.specs.Table.{TableEntry}
 use Rattle.noise_keys.specs.Table as table
 use Rattle.noise_events.specs.Events.{Event as Act, Say as Said, events_of}
 use Rattle.noise_events.specs.declared.event.Event.{Event}

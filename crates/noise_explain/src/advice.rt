@@ -4,8 +4,6 @@ ghost use Rattle.std.specs.Prelude.{IsTrue};
 ghost use Rattle.std.specs.List.{list_all};
 ghost use Rattle.noise_lines.specs.PrintedWords.{is_printed_byte};
 
-use crate::sentences::Sentences;
-
 /// What is wrong, as closely as an explanation reports it: its sentences say what each is.
 #[rattlefmt::skip]
 #[derive(Clone, Copy, Debug, PartialEq, Eq)]
@@ -18,9 +16,23 @@ pub(crate) enum Advice {
 }
 
 impl Advice {
-    // What has to stand there, or what stands there, and what mends it: of a file, and of a first line.
+    /// What has to stand there, or what stands there.
+    pub fn says(self) -> &'static str
+        ensures { IsTrue (list_all is_printed_byte result.now) }
+    {
+        self.sentences().0
+    }
+
+    /// What mends it.
+    pub fn mends(self) -> &'static str
+        ensures { IsTrue (list_all is_printed_byte result.now) }
+    {
+        self.sentences().1
+    }
+
+    // Both, of a file and of a first line.
     #[rattlefmt::skip]
-    pub fn sentences(self) -> Sentences
+    fn sentences(self) -> (&'static str, &'static str)
         ensures says { IsTrue (list_all is_printed_byte result.0.now) }
         ensures mends { IsTrue (list_all is_printed_byte result.1.now) }
     {
@@ -55,7 +67,7 @@ impl Advice {
 
     // The same of a line of tokens.
     #[rattlefmt::skip]
-    fn of_a_line(self) -> Sentences
+    fn of_a_line(self) -> (&'static str, &'static str)
         ensures says { IsTrue (list_all is_printed_byte result.0.now) }
         ensures mends { IsTrue (list_all is_printed_byte result.1.now) }
     {

@@ -28,7 +28,7 @@ impl Reading {
     }
 
     fn has(&self, token: Token) -> bool {
-        self.read.iter().any(|it| it.1 == token)
+        self.knows(Role::Initiator, token) || self.knows(Role::Responder, token)
     }
 
     // A rule that is broken, at a message and so many of its tokens. What a party lacks where it encrypts is told once,

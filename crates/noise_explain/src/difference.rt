@@ -1,6 +1,6 @@
 //! How two lines of a run differ.
 
-ghost use Rattle.std.specs.Prelude.{IfNone, IfOk, IfSome};
+ghost use Rattle.std.specs.Prelude.{◌≡◌, ◌⊎◌, IfNone, IfOk, IfSome};
 ghost use Rattle.noise_explain.specs.StateParts.{HaveNoDifference, SaysDifference};
 
 use crate::frame_piece::frame_difference;

@@ -5,7 +5,7 @@ ghost use Rattle.noise_lines.specs.Output.{IsCheckFault};
 ghost use Rattle.noise_lines.specs.declared.faults.Fault.TheVariants.{Rule, Text};
 ghost use Rattle.noise_names.specs.Text.{Spells};
 ghost use Rattle.noise_explain.specs.Corrections.{AreCorrection, IsFirst};
-ghost use Rattle.noise_explain.specs.Explained.{AreTwo, IsExplained, IsRuleTold, IsTextTold, IsTold, SaysLong, SaysWrong};
+ghost use Rattle.noise_explain.specs.Explained.{AreTwo, IsExplained, IsRuleTold, IsTextTold, SaysLong, SaysWrong};
 ghost use Rattle.noise_explain.specs.Facts.{facts_text};
 ghost use Rattle.noise_explain.specs.RuleWords.{rule_lines};
 ghost use Rattle.noise_explain.specs.Shown.{right_head};
@@ -107,12 +107,18 @@ fn explain_text(
     ensures said { IfOk result (SaysWrong name.now text.now) }
     ensures bound { IfOk result (λ e. e.status ≤ 2) }
 {
-    let found = Found {
-        fault: Fault::Text(fault),
-        position: text_position(text, fault),
-    };
-    let told = told_lines(alloc, text, fault, found)?;
-    reported(alloc, name, text, found, &told)
+    let position = text_position(text, fault);
+    let mut reported = wrong_head(alloc, name, position, Fault::Text(fault))?;
+    reported.extend_from_slice(&caret_lines(
+        alloc,
+        line_at(text, position.line),
+        position.column,
+    )?)?;
+    reported.extend_from_slice(&told_lines(alloc, text, fault, position)?)?;
+    Ok(Explained {
+        text: reported,
+        status: 2,
+    })
 }
 
 // Explains a pattern that breaks a rule.
@@ -128,34 +134,17 @@ fn explain_rule(
     ensures said { IfOk result (SaysWrong name.now text.now) }
     ensures bound { IfOk result (λ e. e.status ≤ 2) }
 {
-    let found = Found {
-        fault: Fault::Rule(fault),
-        position: rule_place(pattern, fault),
-    };
-    let told = all_rule_lines(alloc, text, pattern, fault, found)?;
-    reported(alloc, name, text, found, &told)
-}
-
-// The first fault of a text, the line of it with a caret, and what is told of it.
-fn reported(
-    alloc: Global,
-    name: &str,
-    text: &[u8],
-    found: Found,
-    told: &[u8],
-) -> Result<Explained, AllocError>
-    requires first { IsFirst text.now found.fault found.position }
-    requires told { IsTold text.now found.fault told.now }
-    ensures said { IfOk result (SaysWrong name.now text.now) }
-    ensures bound { IfOk result (λ e. e.status ≤ 2) }
-{
-    let Position { line, column } = found.position;
-    let mut said = wrong_head(alloc, name, found.position, found.fault)?;
-    said.extend_from_slice(&caret_lines(alloc, line_at(text, line), column)?)?;
-    said.extend_from_slice(told)?;
+    let position = rule_place(pattern, fault);
+    let mut reported = wrong_head(alloc, name, position, Fault::Rule(fault))?;
+    reported.extend_from_slice(&caret_lines(
+        alloc,
+        line_at(text, position.line),
+        position.column,
+    )?)?;
+    reported.extend_from_slice(&all_rule_lines(alloc, text, pattern, fault, position)?)?;
     Ok(Explained {
-        text: said,
-        status: found.fault.status(),
+        text: reported,
+        status: 1,
     })
 }
 
@@ -164,20 +153,22 @@ fn told_lines(
     alloc: Global,
     text: &[u8],
     fault: TextFault,
-    found: Found,
+    position: Position,
 ) -> Result<Vec<u8>, AllocError>
-    requires first { IsFirst text.now found.fault found.position }
+    requires first { IsFirst text.now (Text fault) position }
     ensures told { IfOk result (λ told. IsTextTold text.now told.items) }
 {
-    let column = found.position.column;
-    let advice = fault_advice(text, fault, column);
-    let (says, _) = advice.sentences();
+    let advice = fault_advice(text, fault, position.column);
     let mut said = Vec::new(alloc);
-    push_sentence(says, &mut said)?;
+    push_sentence(advice.says(), &mut said)?;
+    let found = Found {
+        fault: Fault::Text(fault),
+        position,
+    };
     let candidates = if advice == Advice::VectorHeading {
         Vec::new(alloc)
     } else {
-        text_candidates(alloc, text, fault, column)?
+        text_candidates(alloc, text, fault, position.column)?
     };
     said.extend_from_slice(&correction_lines(alloc, text, found, candidates)?)?;
     said.extend_from_slice(&other_lines(alloc, text, fault.line, advice)?)?;
@@ -190,13 +181,17 @@ fn all_rule_lines(
     text: &[u8],
     pattern: &Pattern,
     fault: RuleFault,
-    found: Found,
+    position: Position,
 ) -> Result<Vec<u8>, AllocError>
-    requires first { IsFirst text.now found.fault found.position }
+    requires first { IsFirst text.now (Rule fault) position }
     requires spells { Spells text.now pattern.now }
     ensures told { IfOk result (λ told. IsRuleTold text.now fault told.items) }
 {
     let mut said = rule_lines(alloc, pattern, fault)?;
+    let found = Found {
+        fault: Fault::Rule(fault),
+        position,
+    };
     let candidates = rule_candidates(alloc, pattern, fault)?;
     said.extend_from_slice(&correction_lines(alloc, text, found, candidates)?)?;
     said.extend_from_slice(&other_rule_lines(alloc, pattern, fault)?)?;
@@ -240,10 +235,9 @@ fn other_rule_lines(
 fn advice_lines(alloc: Global, advice: Advice) -> Result<Vec<u8>, AllocError>
     ensures { IfOk result (λ text. AreTwo text.items) }
 {
-    let (says, mends) = advice.sentences();
     let mut text = Vec::new(alloc);
-    push_sentence(says, &mut text)?;
-    push_sentence(mends, &mut text)?;
+    push_sentence(advice.says(), &mut text)?;
+    push_sentence(advice.mends(), &mut text)?;
     Ok(text)
 }
 

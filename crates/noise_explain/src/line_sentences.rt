@@ -15,7 +15,7 @@ use noise_vectors::LineKind;
 #[rattlefmt::skip]
 pub(crate) fn line_reported(kind: LineKind, text: &[u8], number: usize, line: &[u8]) -> Sentences {
     if line.starts_with(b"#".as_slice()) {
-        return ("A vector file has no comments, and this line begins as one.", "Leave it out.");
+        return Sentences::new("A vector file has no comments, and this line begins as one.", "Leave it out.");
     }
     if let Some(advice) = slip(line) {
         return slip_reported(advice, line);
@@ -36,12 +36,13 @@ fn slip_reported(advice: Advice, line: &[u8]) -> Sentences {
     if line == b"expect ".as_slice() {
         return EXPECT_EMPTY;
     }
-    advice.sentences()
+    Sentences::of(advice)
 }
 
-#[rattlefmt::skip]
-const EXPECT_EMPTY: Sentences = ("LINE has at least one byte, and none stands here.",
-    "Write the line that is expected, or leave this one out.");
+const EXPECT_EMPTY: Sentences = Sentences {
+    says: "LINE has at least one byte, and none stands here.",
+    mends: "Write the line that is expected, or leave this one out.",
+};
 
 // What is wrong with the word that so many bytes of a line stand before.
 #[rattlefmt::skip]
@@ -51,9 +52,9 @@ fn place_reported(shapes: &[Shape], line: &[u8], at: usize) -> Sentences {
     let word = word_from(line, at);
     match shapes.get(index).copied() {
         Some(shape) if !word.is_empty() => word_reported(shape, word),
-        _ if at >= line.len() => ("A word is missing at the end of the line.", "Write it after a space."),
-        _ if word.is_empty() => ("One space stands between two words, and here is another one.", "Take it out."),
-        _ => ("The line has a word too many.", "Leave it out."),
+        _ if at >= line.len() => Sentences::new("A word is missing at the end of the line.", "Write it after a space."),
+        _ if word.is_empty() => Sentences::new("One space stands between two words, and here is another one.", "Take it out."),
+        _ => Sentences::new("The line has a word too many.", "Leave it out."),
     }
 }
 
@@ -61,17 +62,18 @@ fn place_reported(shapes: &[Shape], line: &[u8], at: usize) -> Sentences {
 #[rattlefmt::skip]
 fn first_reported(kind: LineKind, text: &[u8], number: usize, line: &[u8]) -> Sentences {
     if line.starts_with(b" ".as_slice()) {
-        return ("A line begins with its first word, and a space stands before it.", "Take it out.");
+        return Sentences::new("A line begins with its first word, and a space stands before it.", "Take it out.");
     }
     match kind {
-        LineKind::Header => ("The first line says that it is a vector file, and its version.", "Write vector 1 or vector 2."),
-        LineKind::Protocol => ("The protocol's line has to stand here, and another one does.",
+        LineKind::Header => Sentences::new("The first line says that it is a vector file, and its version.",
+            "Write vector 1 or vector 2."),
+        LineKind::Protocol => Sentences::new("The protocol's line has to stand here, and another one does.",
             "Put it above this one, for example: protocol Noise_XX_25519_ChaChaPoly_SHA256"),
-        LineKind::Prologue if line.ends_with(b":".as_slice()) => ("The prologue's line has to stand here: the pattern of this name is a fundamental one, which no file spells.",
+        LineKind::Prologue if line.ends_with(b":".as_slice()) => Sentences::new("The prologue's line has to stand here: the pattern of this name is a fundamental one, which no file spells.",
             "Leave the lines of the pattern and the line end out if they are those of this name, or write their own name."),
-        LineKind::Prologue => ("The prologue's line has to stand here, and another one does.",
-        "Put it above this one. Without a prologue it is: prologue -"),
-        LineKind::Interval => ("The interval's line has to stand here, and another one does.",
+        LineKind::Prologue => Sentences::new("The prologue's line has to stand here, and another one does.",
+            "Put it above this one. Without a prologue it is: prologue -"),
+        LineKind::Interval => Sentences::new("The interval's line has to stand here, and another one does.",
             "Put it above this one. Where no key is rekeyed it is: interval 0"),
         LineKind::Keys => keys_reported(needed_role(text, number), first_word(line)),
         LineKind::Event => event_reported(text, number, line),
@@ -80,21 +82,23 @@ fn first_reported(kind: LineKind, text: &[u8], number: usize, line: &[u8]) -> Se
     }
 }
 
-#[rattlefmt::skip]
-const OTHER: Sentences = ("Another line has to stand here.", "The lines and their order are those of the format.");
+const OTHER: Sentences = Sentences {
+    says: "Another line has to stand here.",
+    mends: "The lines and their order are those of the format.",
+};
 
 #[rattlefmt::skip]
 fn keys_reported(role: Role, first: &[u8]) -> Sentences {
     if first == b"answer".as_slice() {
-        return ("DH results stand below a line of keys of the kind table alone, and above this one no such line stands.",
+        return Sentences::new("DH results stand below a line of keys of the kind table alone, and above this one no such line stands.",
             "Write table in place of xor, or leave the DH results out.");
     }
     match role {
-        Role::Initiator if first == b"psk".as_slice() => ("A psk's line has a key, and none stands here.",
+        Role::Initiator if first == b"psk".as_slice() => Sentences::new("A psk's line has a key, and none stands here.",
             "Write it after a space."),
-        Role::Initiator => ("The initiator's line has to stand here, and another one does.",
+        Role::Initiator => Sentences::new("The initiator's line has to stand here, and another one does.",
             "Put it above this one, for example: initiator xor - -"),
-        Role::Responder => ("The responder's line has to stand here, and another one does.",
+        Role::Responder => Sentences::new("The responder's line has to stand here, and another one does.",
             "Put it above this one, for example: responder xor - -"),
     }
 }
@@ -103,39 +107,32 @@ fn keys_reported(role: Role, first: &[u8]) -> Sentences {
 fn event_reported(text: &[u8], number: usize, line: &[u8]) -> Sentences {
     let first = first_word(line);
     if first == b"expect".as_slice() {
-        return if is_first_version(text) {
-            FIRST_VERSION
-        } else {
-            expect_reported(line)
-        };
+        return if is_first_version(text) { FIRST_VERSION } else { expect_reported(line) };
     }
     if first == b"psk".as_slice() {
-        return ("An event has to stand here, and a line of this name stands above the events.", "Move it up.");
+        return Sentences::new("An event has to stand here, and a line of this name stands above the events.", "Move it up.");
     }
-    if is_upper_line(first) {
-        return ("An event has to stand here, and a line of this name stands above the events.", "Move it up, or leave it out.");
+    if UPPER.contains(&first) {
+        return Sentences::new("An event has to stand here, and a line of this name stands above the events.",
+            "Move it up, or leave it out.");
     }
     if is_after_datagrams(text, number) {
-        return ("An event of datagrams has to stand here, and none has this name.", "The names are seal, open and foreign.");
+        return Sentences::new("An event of datagrams has to stand here, and none has this name.",
+            "The names are seal, open and foreign.");
     }
-    ("An event has to stand here, and none has this name.",
+    Sentences::new("An event has to stand here, and none has this name.",
         "The names are say, write, deliver and raw, and after the line of datagrams seal, open and foreign.")
 }
 
-#[rattlefmt::skip]
-const FIRST_VERSION: Sentences = ("Version 1 has no datagrams and no expected output.", "Write vector 2 in the first line.");
+const FIRST_VERSION: Sentences = Sentences {
+    says: "Version 1 has no datagrams and no expected output.",
+    mends: "Write vector 2 in the first line.",
+};
 
-// Whether it is the first word of a line above the events.
-fn is_upper_line(first: &[u8]) -> bool {
-    first == b"vector".as_slice()
-        || first == b"protocol".as_slice()
-        || first == b"prologue".as_slice()
-        || first == b"interval".as_slice()
-        || first == b"psk".as_slice()
-        || first == b"initiator".as_slice()
-        || first == b"responder".as_slice()
-        || first == b"answer".as_slice()
-}
+// The first words of the lines above the events.
+#[rattlefmt::skip]
+const UPPER: [&[u8]; 8] =
+    [b"vector", b"protocol", b"prologue", b"interval", b"psk", b"initiator", b"responder", b"answer"];
 
 #[rattlefmt::skip]
 fn expect_reported(line: &[u8]) -> Sentences {
@@ -143,25 +140,26 @@ fn expect_reported(line: &[u8]) -> Sentences {
         return EXPECT_EMPTY;
     }
     if line.starts_with(b"expect ".as_slice()) {
-        return ("LINE has bytes from 32 (a space) to 126 (~) alone, and another one stands in this.",
+        return Sentences::new("LINE has bytes from 32 (a space) to 126 (~) alone, and another one stands in this.",
             "Take it out: no line of output has it.");
     }
-    ("After the first line of expected output only such lines stand, and this is none.", "Move it above them, or leave it out.")
+    Sentences::new("After the first line of expected output only such lines stand, and this is none.",
+        "Move it above them, or leave it out.")
 }
 
 // What is wrong with a line whose words are each of their shape.
 #[rattlefmt::skip]
 fn whole_reported(kind: LineKind, text: &[u8], number: usize, line: &[u8]) -> Sentences {
     match kind {
-        LineKind::Psk => ("A file has at most 9 psk lines, and this is one more.",
+        LineKind::Psk => Sentences::new("A file has at most 9 psk lines, and this is one more.",
             "Write one psk line for each psk token, in the order of the tokens."),
         LineKind::Keys => match needed_role(text, number) {
-            Role::Initiator => ("The initiator's line has to stand here, and this is the responder's.",
-            "Put the initiator's above this one, for example: initiator xor - -"),
-            Role::Responder => ("The responder's line has to stand here, and this is the initiator's.",
-            "Put the responder's here, for example: responder xor - -"),
+            Role::Initiator => Sentences::new("The initiator's line has to stand here, and this is the responder's.",
+                "Put the initiator's above this one, for example: initiator xor - -"),
+            Role::Responder => Sentences::new("The responder's line has to stand here, and this is the initiator's.",
+                "Put the responder's here, for example: responder xor - -"),
         },
-        LineKind::Answer => ("A table has at most 8 DH results, and this is one more.", "Leave it out."),
+        LineKind::Answer => Sentences::new("A table has at most 8 DH results, and this is one more.", "Leave it out."),
         LineKind::Event => whole_event_reported(text, number, line),
         _ => OTHER,
     }
@@ -177,12 +175,12 @@ fn whole_event_reported(text: &[u8], number: usize, line: &[u8]) -> Sentences {
     if (is_datagrams || is_of_datagrams) && is_first_version(text) {
         FIRST_VERSION
     } else if is_datagrams {
-        ("The line of datagrams stands once, and this is another one.", "Leave it out.")
+        Sentences::new("The line of datagrams stands once, and this is another one.", "Leave it out.")
     } else if is_of_datagrams && !is_after {
-        ("An event of datagrams stands below the line of datagrams, and above this one no such line stands.",
+        Sentences::new("An event of datagrams stands below the line of datagrams, and above this one no such line stands.",
             "Put it above this one, for example: datagrams 64")
     } else if is_after && !is_of_datagrams {
-        ("Below the line of datagrams only seal, open and foreign stand, and this is another event.",
+        Sentences::new("Below the line of datagrams only seal, open and foreign stand, and this is another event.",
             "Move it above that line, or leave it out.")
     } else {
         OTHER

@@ -1,4 +1,22 @@
 //! What is wrong, and what mends it.
 
-/// What had to stand there, and what stands there; and what mends it.
-pub(crate) type Sentences = (&'static str, &'static str);
+use crate::advice::Advice;
+
+/// Two sentences.
+#[derive(Clone, Copy)]
+pub(crate) struct Sentences {
+    /// What had to stand there, and what stands there.
+    pub says: &'static str,
+    /// What mends it.
+    pub mends: &'static str,
+}
+
+impl Sentences {
+    pub fn new(says: &'static str, mends: &'static str) -> Sentences {
+        Sentences { says, mends }
+    }
+
+    pub fn of(advice: Advice) -> Sentences {
+        Sentences::new(advice.says(), advice.mends())
+    }
+}

@@ -1,6 +1,6 @@
 //! The part in which two states of a party differ.
 
-ghost use Rattle.std.specs.Prelude.{◌≡◌, ◌<◌, IfNone, IfOk, IfSome, string_bytes, take};
+ghost use Rattle.std.specs.Prelude.{◌≡◌, ◌≢◌, ◌<◌, ◌≤◌, ℕ, IfNone, IfOk, IfSome, length, string_bytes, take};
 ghost use Rattle.noise_explain.specs.StateParts.{HasNoState, HaveNoState, SaysState, SaysStateOf, spaces, state_front, state_part, state_text};
 
 use crate::frame_piece::{first_difference, word_after};

@@ -2,10 +2,11 @@
 
 use crate::change::{Change, corrected};
 use crate::judged::Correction;
+use crate::line_column::first_word;
 use crate::position::{after_line, from_line, line_at};
 use crate::text_advice::is_keys;
 use crate::tidy::{has_psk, joined, push_modifiers, tidy_line};
-use noise_names::{TextFault, TextFaultKind};
+use noise_names::{TextFault, TextFaultKind, base_len};
 use std::alloc::{AllocError, Global};
 
 // The changes that one correction makes. In a table each comes where it is told first.
@@ -42,23 +43,12 @@ enum Repair {
 }
 
 // How a line of tokens is written.
+#[rattlefmt::skip]
 #[derive(Clone, Copy)]
-enum Rewriting {
-    Tidy,
-    ArrowTurned,
-    WithE,
-    AfterE,
-    OnceEach,
-    PsksMoved,
-    PieceLeftOut,
-}
+enum Rewriting { Tidy, ArrowTurned, WithE, AfterE, OnceEach, PsksMoved, PieceLeftOut }
 
-const ALWAYS: [Repair; 4] = [
-    Repair::LineFeed,
-    Repair::NoReturns,
-    Repair::Tidy,
-    Repair::AllTidy,
-];
+#[rattlefmt::skip]
+const ALWAYS: [Repair; 4] = [Repair::LineFeed, Repair::NoReturns, Repair::Tidy, Repair::AllTidy];
 
 // Those that only a fault of this kind may need.
 #[rattlefmt::skip]
@@ -96,21 +86,15 @@ struct Wrong<'a> {
 }
 
 // The corrections to try of a text with this fault at this column, those first that are told first.
+#[rattlefmt::skip]
 pub(crate) fn text_candidates(
     alloc: Global,
     text: &[u8],
     fault: TextFault,
     column: usize,
 ) -> Result<Vec<Correction>, AllocError> {
-    let number = fault.line;
-    let line = line_at(text, number);
-    let at = Wrong {
-        alloc,
-        text,
-        number,
-        line,
-        column,
-    };
+    let (number, line) = (fault.line, line_at(text, fault.line));
+    let at = Wrong { alloc, text, number, line, column };
     let mut found = Vec::new(alloc);
     push_repairs(at, &ALWAYS, &mut found)?;
     push_repairs(at, repairs_of(fault.kind), &mut found)?;
@@ -206,11 +190,7 @@ fn named(at: Wrong<'_>) -> Result<Change, AllocError> {
 // The heading with the places of the psks of the messages.
 fn placed(alloc: Global, text: &[u8]) -> Result<Change, AllocError> {
     let heading = line_at(text, 1);
-    let count = heading
-        .iter()
-        .take_while(|b| b.is_ascii_uppercase() || b.is_ascii_digit())
-        .count();
-    let (base, _) = heading.split_at(count.min(heading.len()));
+    let (base, _) = heading.split_at(base_len(heading).min(heading.len()));
     let mut line = Vec::from_slice(alloc, base)?;
     push_places(text, &mut line)?;
     line.push(b':')?;
@@ -300,32 +280,44 @@ fn turned(alloc: Global, line: &[u8]) -> Result<Vec<u8>, AllocError> {
     joined(alloc, &[other, list])
 }
 
-// The line with its psk at the end; one of two at the front.
-fn psks_moved(alloc: Global, arrow: &[u8], list: &[u8]) -> Result<Option<Vec<u8>>, AllocError> {
-    let count = list
-        .split(|b| *b == b',')
-        .filter(|word| name_of(*word) == b"psk".as_slice())
-        .count();
-    let front: &[u8] = match count {
-        1 => b"",
-        2 => b"psk, ",
-        _ => return Ok(None),
-    };
-    let mut made = joined(alloc, &[arrow, front])?;
+// The words of a list, each without the space that stands before it.
+fn names_in(alloc: Global, list: &[u8]) -> Result<Vec<&[u8]>, AllocError> {
+    let mut names = Vec::new(alloc);
     for word in list.split(|b| *b == b',') {
-        let name = name_of(word);
-        if name != b"psk".as_slice() {
-            made.extend_from_slice(name)?;
-            made.extend_from_slice(b", ")?;
-        }
+        names.push(word.strip_prefix(b" ").unwrap_or(word))?;
     }
-    made.extend_from_slice(b"psk")?;
-    Ok(Some(made))
+    Ok(names)
 }
 
-// A word of a list, without the space that stands before it.
-fn name_of(word: &[u8]) -> &[u8] {
-    word.strip_prefix(b" ").unwrap_or(word)
+// The line of an arrow and these words, with a comma and a space between two.
+fn listed(alloc: Global, arrow: &[u8], names: &[&[u8]]) -> Result<Vec<u8>, AllocError> {
+    let mut line = Vec::from_slice(alloc, arrow)?;
+    let mut between: &[u8] = b"";
+    for name in names {
+        line.extend_from_slice(between)?;
+        line.extend_from_slice(name)?;
+        between = b", ";
+    }
+    Ok(line)
+}
+
+// The line with its psk at the end; one of two at the front.
+fn psks_moved(alloc: Global, arrow: &[u8], list: &[u8]) -> Result<Option<Vec<u8>>, AllocError> {
+    let psk: &[u8] = b"psk";
+    let names = names_in(alloc, list)?;
+    let mut moved = Vec::new(alloc);
+    for name in &names {
+        if *name != psk {
+            moved.push(*name)?;
+        }
+    }
+    match names.len().saturating_sub(moved.len()) {
+        1 => {}
+        2 => moved.insert(0, psk)?,
+        _ => return Ok(None),
+    }
+    moved.push(psk)?;
+    Ok(Some(listed(alloc, arrow, &moved)?))
 }
 
 // The line without the piece at the column, and without the space or the comma between, unless a psk stands in it.
@@ -333,8 +325,7 @@ fn piece_left_out(at: Wrong<'_>) -> Result<Option<Vec<u8>>, AllocError> {
     let (front, rest) = at
         .line
         .split_at(at.column.saturating_sub(1).min(at.line.len()));
-    let len = rest.iter().take_while(|b| **b != b' ').count();
-    let (piece, after) = rest.split_at(len.min(rest.len()));
+    let (piece, after) = rest.split_at(first_word(rest).len().min(rest.len()));
     if has_psk(piece) {
         return Ok(None);
     }
@@ -351,22 +342,12 @@ fn piece_left_out(at: Wrong<'_>) -> Result<Option<Vec<u8>>, AllocError> {
 
 // The line with each of its tokens once, by its first place; no psk is taken away.
 fn once_each(alloc: Global, arrow: &[u8], list: &[u8]) -> Result<Vec<u8>, AllocError> {
-    let mut made = Vec::from_slice(alloc, arrow)?;
-    for word in list.split(|b| *b == b',') {
-        push_once(word, &mut made)?;
+    let psk: &[u8] = b"psk";
+    let mut kept = Vec::new(alloc);
+    for name in &names_in(alloc, list)? {
+        if *name == psk || !kept.contains(name) {
+            kept.push(*name)?;
+        }
     }
-    Ok(made)
-}
-
-fn push_once(word: &[u8], made: &mut Vec<u8>) -> Result<(), AllocError> {
-    let (_, before) = made.split_at(made.len().min(5));
-    let name = name_of(word);
-    let has = before.split(|b| *b == b',').any(|it| name_of(it) == name);
-    if has && name != b"psk".as_slice() {
-        return Ok(());
-    }
-    if !before.is_empty() {
-        made.extend_from_slice(b", ")?;
-    }
-    made.extend_from_slice(name)
+    listed(alloc, arrow, &kept)
 }

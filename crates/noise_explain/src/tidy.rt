@@ -1,5 +1,6 @@
 //! Lines as the format has them: their arrows, spaces, commas and letters.
 
+use crate::text_advice::without_spaces;
 use std::alloc::{AllocError, Global};
 
 // A line as the format has it, where it is nearly so: the first one is the heading, unless it has an arrow. What can't
@@ -41,8 +42,7 @@ fn plain(alloc: Global, line: &[u8]) -> Result<Vec<u8>, AllocError> {
 }
 
 fn trimmed(line: &[u8]) -> &[u8] {
-    let front = line.iter().take_while(|b| **b == b' ').count();
-    let (_, words) = line.split_at(front);
+    let words = without_spaces(line);
     let back = words.iter().rev().take_while(|b| **b == b' ').count();
     let (kept, _) = words.split_at(words.len().saturating_sub(back));
     kept
@@ -59,24 +59,20 @@ pub(crate) fn joined(alloc: Global, pieces: &[&[u8]]) -> Result<Vec<u8>, AllocEr
 
 // The arrow that is meant at the front, and what follows it.
 fn after_arrow(words: &[u8]) -> Option<(&'static [u8], &[u8])> {
-    let right = b"  -> ".as_slice();
-    let left = b"  <- ".as_slice();
-    if let Some(list) = words.strip_prefix(b"->") {
-        Some((right, list))
-    } else if let Some(list) = words.strip_prefix(b"=>") {
-        Some((right, list))
-    } else if let Some(list) = words.strip_prefix(b"\xe2\x86\x92") {
-        Some((right, list))
-    } else if let Some(list) = words.strip_prefix(b"<-") {
-        Some((left, list))
-    } else if let Some(list) = words.strip_prefix(b"<=") {
-        Some((left, list))
-    } else if let Some(list) = words.strip_prefix(b"\xe2\x86\x90") {
-        Some((left, list))
-    } else {
-        None
+    for (written, meant) in &ARROWS {
+        if words.starts_with(written) {
+            let (_, list) = words.split_at(written.len().min(words.len()));
+            return Some((meant, list));
+        }
     }
+    None
 }
+
+#[rattlefmt::skip]
+static ARROWS: [(&[u8], &[u8]); 6] = [
+    (b"->", b"  -> "), (b"=>", b"  -> "), (b"\xe2\x86\x92", b"  -> "),
+    (b"<-", b"  <- "), (b"<=", b"  <- "), (b"\xe2\x86\x90", b"  <- "),
+];
 
 // The line of an arrow and these words, in small letters, with a comma and a space between two.
 fn listed(alloc: Global, arrow: &[u8], list: &[u8]) -> Result<Vec<u8>, AllocError> {
