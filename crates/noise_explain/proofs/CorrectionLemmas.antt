@@ -1,10 +1,9 @@
 -- Changes that correct a text.
-use Rattle.std.proofs.Common.{◌≡◌, ◌∙◌, ◌≤◌, ◌<◌, ◌-◌, ◌++◌, ◌⊎◌, ap, append_assoc, codes, inl, inr, length, subst, sym, take, ℕ, List}
-use Rattle.std.specs.Prelude.{Err, IfSome, None, Ok, OnOk, Option, Result, Some}
+use Rattle.std.proofs.Common.{◌≡◌, ◌∙◌, ◌≤◌, ◌<◌, ◌-◌, ◌++◌, ◌⊎◌, ap, inl, inr, length, subst, sym, take, ℕ, List}
+use Rattle.std.specs.Prelude.{IfSome, None, Option, Some}
 use Rattle.noise_lines.specs.Faults.{status_of}
 use Rattle.noise_lines.specs.declared.faults.Fault.{Fault}
 use Rattle.noise_explain.specs.Corrections.{Holds, IsBehind, IsFirst, IsLater, IsRight, corrected, left_from}
-use Rattle.noise_explain.specs.Shown.{sentence_line}
 use Rattle.noise_explain.specs.declared.change.Change.{Change}
 use Rattle.noise_explain.specs.declared.position.Position.{Position}
 
@@ -42,25 +41,3 @@ pub later-holds : (text made : List ℕ) (changes : List Change) (r : Option ℕ
     → IfSome r (λ _. Holds text changes)
 later-holds text made changes None same later = tt
 later-holds text made changes (Some left) same later = inr (subst (IsLater text) same later)
-
--- ---- rows
-
--- two spaces, words, a number, words, a line and its end are a row
-pub line-row : {T E : Type 0} (r : Result T E) (old n1 n2 n3 n4 first front number second middle line : List ℕ) → first ≡ codes "  " ++ front
-    → second ≡ middle → n1 ≡ old ++ first → n2 ≡ n1 ++ number → n3 ≡ n2 ++ second → OnOk r (n4 ≡ n3 ++ line ++ codes "\".\n")
-    → OnOk r (n4 ≡ old ++ sentence_line (front ++ number ++ middle ++ line ++ codes "\"."))
-line-row (Ok u) old n1 n2 n3 n4 first front number second middle line first_is second_is e1 e2 e3 e4 =
-    e4
-    ∙ ap (λ (t : List ℕ). t ++ line ++ codes "\".\n")
-    (e3 ∙ ap (λ (t : List ℕ). n2 ++ t) second_is
-    ∙ ap (λ (t : List ℕ). t ++ middle) (e2 ∙ ap (λ (t : List ℕ). t ++ number) (e1 ∙ ap (λ (t : List ℕ). old ++ t) first_is)))
-    ∙ simp append_assoc
-line-row (Err u) old n1 n2 n3 n4 first front number second middle line first_is second_is e1 e2 e3 e4 = tt
-
--- two spaces, words, a number and words are a row
-pub number-row : (old n1 n2 n3 first front number second last : List ℕ) → first ≡ codes "  " ++ front → second ≡ last ++ codes "\n" → n1 ≡ old ++ first
-    → n2 ≡ n1 ++ number → n3 ≡ n2 ++ second → n3 ≡ old ++ sentence_line (front ++ number ++ last)
-number-row old n1 n2 n3 first front number second last first_is second_is e1 e2 e3 =
-    e3 ∙ ap (λ (t : List ℕ). n2 ++ t) second_is
-    ∙ ap (λ (t : List ℕ). t ++ (last ++ codes "\n")) (e2 ∙ ap (λ (t : List ℕ). t ++ number) (e1 ∙ ap (λ (t : List ℕ). old ++ t) first_is))
-    ∙ simp append_assoc

@@ -1,5 +1,5 @@
 -- Corrections of a pattern text: changes of its lines, after which it is valid, or its first fault comes later.
-use Rattle.std.specs.Prelude.{◌≡◌, ◌≤◌, ◌<◌, ◌⊎◌, ℕ, ◌-◌, List, [], ◌∷◌, ◌++◌, Option, None, Some, codes, decimal, drop, flat_map, length, nat_eq, nat_le, take, if◌then◌else◌}
+use Rattle.std.specs.Prelude.{◌≡◌, ◌≤◌, ◌<◌, ◌⊎◌, ℕ, ◌-◌, List, [], ◌∷◌, ◌++◌, codes, decimal, drop, flat_map, length, nat_eq, nat_lt, take, if◌then◌else◌}
 use Rattle.noise_names.specs.Plan.{Plan}
 use Rattle.noise_names.specs.Text.{Spells}
 use Rattle.noise_names.specs.Validity.{IsValid}
@@ -9,8 +9,8 @@ use Rattle.noise_lines.specs.Shown.{shown_text}
 use Rattle.noise_lines.specs.declared.faults.Fault.{Fault}
 use Rattle.noise_explain.specs.FaultPlaces.{IsAt}
 use Rattle.noise_explain.specs.Positions.{after_line, from_line}
-use Rattle.noise_explain.specs.Shown.{sentence_line}
 use Rattle.noise_explain.specs.declared.change.Change.{Change}
+use Rattle.noise_explain.specs.declared.change.TheConstants.{ORDER}
 use Rattle.noise_explain.specs.declared.change.Change.TheVariants.{Write, Put, Out, LineFeed, NoReturns}
 use Rattle.noise_explain.specs.declared.position.Position.{Position}
 
@@ -78,22 +78,16 @@ Holds text changes = IsRight (corrected changes text) ⊎ IsLater text (correcte
 
 abbrev pub change_row : Change → List ℕ
 change_row (Write number line) =
-    sentence_line (codes "Write line " ++ decimal number ++ codes " so: \"" ++ shown_text line.items ++ codes "\".")
+    codes "  Write line " ++ decimal number ++ codes " so: \"" ++ shown_text line.items ++ codes "\".\n"
 change_row (Put number line) =
-    sentence_line (codes "Put in as line " ++ decimal number ++ codes ": \"" ++ shown_text line.items ++ codes "\".")
-change_row (Out number) = sentence_line (codes "Leave line " ++ decimal number ++ codes " out.")
-change_row LineFeed = sentence_line (codes "End the last line with a line feed.")
-change_row NoReturns = sentence_line (codes "End each line with a line feed alone.")
+    codes "  Put in as line " ++ decimal number ++ codes ": \"" ++ shown_text line.items ++ codes "\".\n"
+change_row (Out number) = codes "  Leave line " ++ decimal number ++ codes " out.\n"
+change_row LineFeed = codes "  End the last line with a line feed.\n"
+change_row NoReturns = codes "  End each line with a line feed alone.\n"
 
--- that each of several changes is one of the text that the one before gives
-abbrev pub order_row : List Change → List ℕ
-order_row changes =
-    if nat_le 2 (length changes)
-    then sentence_line (codes "Make these changes one after another, each on the text that the one before leaves.")
-    else []
-
+-- each of several changes is one of the text that the one before gives
 abbrev pub change_rows : List Change → List ℕ
-change_rows changes = order_row changes ++ flat_map change_row changes
+change_rows changes = (if nat_lt 1 (length changes) then ORDER.now else []) ++ flat_map change_row changes
 
 -- these rows are those of changes that correct the text; or there is none
 abbrev pub AreCorrection : List ℕ → List ℕ → Type 0

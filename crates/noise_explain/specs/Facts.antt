@@ -1,5 +1,5 @@
 -- What an explanation says of a valid pattern: all its lines below the first.
-use Rattle.std.specs.Prelude.{ℕ, zero, suc, ◌+◌, ◌-◌, Bool, true, false, List, [], ◌++◌, codes, length, slice_index_or, if◌then◌else◌}
+use Rattle.std.specs.Prelude.{ℕ, zero, suc, ◌+◌, ◌-◌, Bool, true, false, List, [], ◌++◌, codes, flat_map, length, slice_index_or, if◌then◌else◌}
 use Rattle.noise_names.specs.declared.token.Role.{Role}
 use Rattle.noise_names.specs.declared.token.Role.TheVariants.{Initiator, Responder}
 use Rattle.noise_names.specs.declared.token.Token.{Token}
@@ -14,6 +14,7 @@ use Rattle.noise_explain.specs.FramePieces.{sender_of}
 use Rattle.noise_explain.specs.MixedKeys.{mixed_before}
 use Rattle.noise_explain.specs.Shown.{sentence_line}
 use Rattle.noise_explain.specs.Parties.{chooses, is_fresh, is_unmixed, own_part, without_e}
+use Rattle.noise_explain.specs.declared.facts.TheConstants.{INITIATOR_UNMIXED, NOTES, RESPONDER_UNMIXED, UNTAGGED}
 use Rattle.noise_explain.specs.declared.mixed.Mixed.{Mixed}
 use Rattle.noise_explain.specs.declared.parties.Part.{Part}
 use Rattle.noise_explain.specs.declared.parties.Part.TheVariants.{Neither}
@@ -37,29 +38,22 @@ if_keyed true front text = front ++ text
 
 -- ---- who can have written a message
 
--- Who can have written what a party has tagged after the first k messages (what 7.7 asks of its source). The DHs of an
--- ephemeral key that the party chooses need no other key.
-unfoldable pub rest_of : Plan → Role → ℕ → Mixed → Mixed
+-- the DHs for which an ephemeral key of the writer's choice isn't enough
+abbrev pub rest_of : Plan → Role → ℕ → Mixed → Mixed
 rest_of p writer k m = if chooses p writer E k then without_e writer m else m
 
-unfoldable pub source_text : Plan → Role → ℕ → List ℕ
-source_text p writer k = writer_text (mixed_before p k 0) (rest_of p writer k (mixed_before p k 0))
-
--- whether a recording of it is accepted by this party, which its own e prevents (7.7, on replay)
-unfoldable pub replay_text : Plan → Role → ℕ → List ℕ
-replay_text p reader k = again_text reader (is_fresh p reader k)
-
+-- Who can have written what a party has tagged after the first k messages (what 7.7 asks of its source), and whether a
+-- recording of it is accepted by the other party, which its own e prevents (7.7, on replay).
 unfoldable pub tagged_text : Plan → Role → ℕ → List ℕ
 tagged_text p writer k =
-    source_text p writer k ++ codes "\n    a recording of it is " ++ replay_text p (other writer) k ++ codes "\n"
-
-unfoldable pub untagged_text : List ℕ
-untagged_text = codes "anyone: it has no tag.\n    a recording of it is accepted again: it has no tag.\n"
+    writer_text (mixed_before p k 0) (rest_of p writer k (mixed_before p k 0)) ++ codes "\n    a recording of it is "
+    ++ again_text (other writer) (is_fresh p (other writer) k)
+    ++ codes "\n"
 
 -- the same of message n, which has a tag where there is a key after its tokens (5.2)
 unfoldable pub written_text : Bool → Plan → ℕ → List ℕ
 written_text true p n = tagged_text p (sender_of n) n
-written_text false p n = untagged_text
+written_text false p n = UNTAGGED.now
 
 unfoldable pub origin_text : Plan → ℕ → List ℕ
 origin_text p n = codes "    it can be written by " ++ written_text (has_key p (first_places p n)) p n
@@ -95,7 +89,7 @@ messages_text p (suc k) = messages_text p k ++ message_text p (k + 1)
 
 -- ---- the transport
 
-unfoldable pub transport_line : Bool → List ℕ
+abbrev pub transport_line : Bool → List ℕ
 transport_line true = codes "  transport, of the initiator alone\n    key of a recording: "
 transport_line false = codes "  transport, of both parties\n    key of a recording: "
 
@@ -116,41 +110,15 @@ transport_text p =
 
 -- ---- the whole
 
-unfoldable pub unmixed_line : Role → List ℕ
-unmixed_line Initiator =
-    codes "  Warning: the initiator's s is named, and no DH mixes it: nothing shows that the initiator has its "
-    ++ codes "private key.\n"
-unmixed_line Responder =
-    codes "  Warning: the responder's s is named, and no DH mixes it: nothing shows that the responder has its "
-    ++ codes "private key.\n"
+abbrev pub unmixed_line : Role → List ℕ
+unmixed_line Initiator = INITIATOR_UNMIXED.now
+unmixed_line Responder = RESPONDER_UNMIXED.now
 
 unfoldable pub unmixed_text : Plan → Role → List ℕ
 unmixed_text p party =
     if is_unmixed p party (mixed_before p (length p.messages) 0) then unmixed_line party else []
 
--- what these lines mean, and what they don't say
-unfoldable pub meaning : List ℕ
-meaning =
-    codes "Private keys are meant, and all public keys count as known; e is made for one handshake, s is kept."
-
-unfoldable pub either : List ℕ
-either =
-    codes "\"Or\" parts ways of which each is enough. Where an s comes in a message, the application has to compare it."
-
-unfoldable pub unjudged : List ℕ
-unjudged =
-    codes "These are facts of tokens. Not judged: how well payloads are authenticated and kept secret, and how well "
-    ++ codes "identities are hidden."
-
-unfoldable pub elsewhere : List ℕ
-elsewhere =
-    codes "Sections 7.7 and 7.8 of the standard grade the fundamental patterns; Noise Explorer grades and analyses "
-    ++ codes "one's own."
-
-unfoldable pub meaning_text : List ℕ
-meaning_text = sentence_line meaning ++ sentence_line either ++ sentence_line unjudged ++ sentence_line elsewhere
-
 unfoldable pub facts_text : Plan → List ℕ
 facts_text p =
     messages_text p (length p.messages) ++ transport_text p ++ unmixed_text p Initiator ++ unmixed_text p Responder
-    ++ meaning_text
+    ++ flat_map (λ note. sentence_line note.now) NOTES

@@ -4,7 +4,7 @@ use Rattle.noise_names.specs.declared.faults.RuleFault.{RuleFault}
 use Rattle.noise_names.specs.declared.token.Role.{Role}
 use Rattle.noise_names.specs.declared.token.Role.TheVariants.{Initiator, Responder}
 use Rattle.noise_names.specs.declared.token.Token.{Token}
-use Rattle.noise_names.specs.declared.token.Token.TheVariants.{E, S, Ee, Es, Se, Ss, Psk}
+use Rattle.noise_names.specs.declared.token.Token.TheVariants.{E, S, Ee, Es, Se, Ss}
 use Rattle.noise_names.specs.Plan.{Plan, pre_of}
 use Rattle.noise_names.specs.Text.{word_of}
 use Rattle.noise_names.specs.Tokens.{same_role}

@@ -2,12 +2,14 @@
 
 use crate::advice::Advice;
 use crate::line_column::{block_fault, block_of, first_word};
-use crate::line_place::{has_end, is_own};
+use crate::line_place::{has_end, is_own, needed_role};
 use crate::position::line_at;
 use crate::sentences::Sentences;
 use crate::text_advice::fault_advice;
+use noise_names::Role;
 
 // What is wrong with a line of that pattern.
+#[rattlefmt::skip]
 pub(crate) fn block_reported(text: &[u8], number: usize, column: usize) -> Sentences {
     if lacks_block(text) {
         return NO_BLOCK;
@@ -16,17 +18,13 @@ pub(crate) fn block_reported(text: &[u8], number: usize, column: usize) -> Sente
         (Some(block), Some(fault)) if fault.line == number.saturating_sub(2) => {
             Sentences::of(fault_advice(block, fault, column))
         }
-        _ => Sentences::new(
-            "The pattern's first line has the base and the psk modifiers of the protocol's name, and a colon, and this \
-             one doesn't.",
-            "Write it so, or change the name in the line above.",
-        ),
+        _ => Sentences::new("The pattern's first line has the base and the psk modifiers of the protocol's name, and a colon, and this one doesn't.",
+            "Write it so, or change the name in the line above."),
     }
 }
 
 const NO_BLOCK: Sentences = Sentences {
-    says: "The pattern of this protocol isn't a fundamental one, so its text has to stand below line 2, and it \
-           doesn't.",
+    says: "The pattern of this protocol isn't a fundamental one, so its text has to stand below line 2, and it doesn't.",
     mends: "Put it there, and after it the line end.",
 };
 
@@ -52,36 +50,18 @@ const NO_END: Sentences = Sentences {
 };
 
 // Which line has to follow the one that begins with this word.
+#[rattlefmt::skip]
 fn next_reported(last: &[u8], text: &[u8]) -> Sentences {
     if last == b"vector".as_slice() {
-        Sentences::new(
-            "The file ends before the protocol's line.",
-            "Add it, for example: protocol Noise_XX_25519_ChaChaPoly_SHA256",
-        )
+        Sentences::new("The file ends before the protocol's line.",
+            "Add it, for example: protocol Noise_XX_25519_ChaChaPoly_SHA256")
     } else if last == b"protocol".as_slice() || last == b"end".as_slice() {
-        Sentences::new(
-            "The file ends before the prologue's line.",
-            "Add it. Without a prologue it is: prologue -",
-        )
+        Sentences::new("The file ends before the prologue's line.", "Add it. Without a prologue it is: prologue -")
     } else if last == b"prologue".as_slice() {
-        Sentences::new(
-            "The file ends before the interval's line.",
-            "Add it. Where no key is rekeyed it is: interval 0",
-        )
-    } else if has_initiator(text) {
-        Sentences::new(
-            "The file ends before the responder's line.",
-            "Add it, for example: responder xor - -",
-        )
+        Sentences::new("The file ends before the interval's line.", "Add it. Where no key is rekeyed it is: interval 0")
+    } else if needed_role(text, usize::MAX) == Role::Responder {
+        Sentences::new("The file ends before the responder's line.", "Add it, for example: responder xor - -")
     } else {
-        Sentences::new(
-            "The file ends before the initiator's line.",
-            "Add it, for example: initiator xor - -",
-        )
+        Sentences::new("The file ends before the initiator's line.", "Add it, for example: initiator xor - -")
     }
-}
-
-fn has_initiator(text: &[u8]) -> bool {
-    text.split(|b| *b == b'\n')
-        .any(|line| line.starts_with(b"initiator ".as_slice()))
 }

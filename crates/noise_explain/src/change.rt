@@ -2,9 +2,10 @@
 
 ghost use Rattle.std.specs.Prelude.{◌≡◌, ◌++◌, ◌∷◌, [], IfOk, OnOk, codes, flat_map, nat_eq, if◌then◌else◌};
 ghost use Rattle.noise_lines.specs.Shown.{shown_text};
-ghost use Rattle.noise_explain.specs.Corrections.{before_line, change_row, change_rows, changed, corrected, order_row, without_byte};
+ghost use Rattle.noise_explain.specs.Corrections.{before_line, change_row, change_rows, changed, corrected, without_byte};
 
 use crate::excerpt::push_number;
+use crate::fact_words::push;
 use crate::position::{after_line, from_line};
 use noise_lines::push_shown;
 use std::alloc::{AllocError, Global};
@@ -33,9 +34,7 @@ pub(crate) fn corrected(
     ensures { IfOk result (λ made. made.items ≡ corrected changes.now text.now) }
 {
     let Some((first, later)) = changes.split_first() else {
-        let mut same = Vec::new(alloc);
-        same.extend_from_slice(text)?;
-        return Ok(same);
+        return Vec::from_slice(alloc, text);
     };
     corrected(alloc, &changed(alloc, text, first)?, later)
 }
@@ -74,9 +73,7 @@ fn before_line(alloc: Global, text: &[u8], number: usize) -> Result<Vec<u8>, All
 {
     let count = text.len().saturating_sub(from_line(text, number).len());
     let (before, _) = text.split_at(count);
-    let mut made = Vec::new(alloc);
-    made.extend_from_slice(before)?;
-    Ok(made)
+    Vec::from_slice(alloc, before)
 }
 
 // Appends a line with its line feed, and what follows it.
@@ -116,31 +113,24 @@ pub(crate) fn push_changes(
 ) -> Result<(), AllocError>
     ensures { OnOk result (text.new.items ≡ text.old.items ++ change_rows changes.now) }
 {
-    push_order(changes, text)?;
+    if changes.len() > 1 {
+        push(&[ORDER], text)?;
+    }
     push_rows(alloc, changes, text)
 }
 
-// Appends that several changes are made one after another.
-fn push_order(changes: &[Change], text: &mut Vec<u8>) -> Result<(), AllocError>
-    ensures { OnOk result (text.new.items ≡ text.old.items ++ order_row changes.now) }
-{
-    if changes.len() < 2 {
-        return Ok(());
-    }
-    text.extend_from_slice(
-        b"  Make these changes one after another, each on the text that the one before leaves.\n".as_slice(),
-    )
-}
+#[rattlefmt::skip]
+pub(crate) const ORDER: &str =
+    "  Make these changes one after another, each on the text that the one before leaves.\n";
 
 // Appends a line for each change.
 fn push_rows(alloc: Global, changes: &[Change], text: &mut Vec<u8>) -> Result<(), AllocError>
     ensures { OnOk result (text.new.items ≡ text.old.items ++ flat_map change_row changes.now) }
 {
-    let Some((first, later)) = changes.split_first() else {
-        return Ok(());
-    };
-    push_row(alloc, first, text)?;
-    push_rows(alloc, later, text)
+    for change in changes {
+        push_row(alloc, change, text)?;
+    }
+    Ok(())
 }
 
 fn push_row(alloc: Global, change: &Change, text: &mut Vec<u8>) -> Result<(), AllocError>
@@ -148,28 +138,24 @@ fn push_row(alloc: Global, change: &Change, text: &mut Vec<u8>) -> Result<(), Al
 {
     match change {
         Change::Write(number, line) => {
-            text.extend_from_slice(b"  Write line ".as_slice())?;
+            push(&["  Write line "], text)?;
             push_number(alloc, *number, text)?;
-            text.extend_from_slice(b" so: \"".as_slice())?;
+            push(&[" so: \""], text)?;
             push_quoted(line, text)
         }
         Change::Put(number, line) => {
-            text.extend_from_slice(b"  Put in as line ".as_slice())?;
+            push(&["  Put in as line "], text)?;
             push_number(alloc, *number, text)?;
-            text.extend_from_slice(b": \"".as_slice())?;
+            push(&[": \""], text)?;
             push_quoted(line, text)
         }
         Change::Out(number) => {
-            text.extend_from_slice(b"  Leave line ".as_slice())?;
+            push(&["  Leave line "], text)?;
             push_number(alloc, *number, text)?;
-            text.extend_from_slice(b" out.\n".as_slice())
+            push(&[" out.\n"], text)
         }
-        Change::LineFeed => {
-            text.extend_from_slice(b"  End the last line with a line feed.\n".as_slice())
-        }
-        Change::NoReturns => {
-            text.extend_from_slice(b"  End each line with a line feed alone.\n".as_slice())
-        }
+        Change::LineFeed => push(&["  End the last line with a line feed.\n"], text),
+        Change::NoReturns => push(&["  End each line with a line feed alone.\n"], text),
     }
 }
 
@@ -178,5 +164,5 @@ fn push_quoted(line: &[u8], text: &mut Vec<u8>) -> Result<(), AllocError>
     ensures { OnOk result (text.new.items ≡ text.old.items ++ shown_text line.now ++ codes "\".\n") }
 {
     push_shown(line, text)?;
-    text.extend_from_slice(b"\".\n".as_slice())
+    push(&["\".\n"], text)
 }

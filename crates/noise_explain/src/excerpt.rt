@@ -1,6 +1,7 @@
 //! The first line of an explanation, and a line of the text with a caret below it.
 
-ghost use Rattle.std.specs.Prelude.{◌≡◌, ◌++◌, IfOk, OnOk, codes, decimal, replicate};
+ghost use Rattle.std.specs.Prelude.{◌≡◌, ◌++◌, IfOk, OnOk, decimal, replicate};
+ghost use Rattle.std.specs.List.{flat_map};
 ghost use Rattle.noise_names.specs.Names.{section_bytes};
 ghost use Rattle.noise_explain.specs.Shown.{caret_text, right_head, sentence_line, shown_end, shown_start, unread_head, wrong_head};
 
@@ -128,6 +129,16 @@ fn push_start(bytes: &[u8], text: &mut Vec<u8>) -> Result<(), AllocError>
         return Ok(());
     }
     text.extend_from_slice(b"[..]".as_slice())
+}
+
+// Appends such a line for each sentence.
+pub(crate) fn push_sentences(sentences: &[&str], text: &mut Vec<u8>) -> Result<(), AllocError>
+    ensures { OnOk result (text.new.items ≡ text.old.items ++ flat_map (λ s. sentence_line s.now) sentences.now) }
+{
+    for sentence in sentences {
+        push_sentence(sentence, text)?;
+    }
+    Ok(())
 }
 
 /// Appends a line of two spaces and a sentence.

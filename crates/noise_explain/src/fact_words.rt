@@ -1,247 +1,154 @@
 //! The words of what the tokens show. The page of web/ has the same.
 
-ghost use Rattle.std.specs.Prelude.{◌≡◌, ◌++◌, IfOk, OnOk};
-ghost use Rattle.noise_explain.specs.FactWords.{add_word, again_text, alone_text, comma, dh_text, dh_words, enough_text, keys, mixed_words, one_key, or_nothing, own_text, part_text, taker_text, way, ways_text, ways_words, with_psks, without_dh, writer_text};
+ghost use Rattle.std.specs.Prelude.{◌≡◌, ◌++◌, [], IfOk, OnOk, codes, fold};
+ghost use Rattle.std.specs.List.{flat_map};
+ghost use Rattle.noise_explain.specs.MixedKeys.{are_least};
+ghost use Rattle.noise_explain.specs.FactWords.{add_word, again_text, alone_text, enough_text, if_psks, mixed_words, own_text, part_text, ways_text, ways_words, without_dh, writer_text};
 
-use crate::mixed::{Keys, Mixed, Psks};
+use crate::mixed::{Keys, Mixed, NO_KEY, Psks};
 use crate::parties::Part;
 use noise_lines::role_word;
 use noise_names::Role;
 use std::alloc::{AllocError, Global};
 
-// Appends a text.
-pub(crate) fn push(words: &str, text: &mut Vec<u8>) -> Result<(), AllocError>
-    ensures { OnOk result (text.new.items ≡ text.old.items ++ words.now) }
+// Appends texts.
+pub(crate) fn push(texts: &[&str], text: &mut Vec<u8>) -> Result<(), AllocError>
+    ensures { OnOk result (text.new.items ≡ text.old.items ++ flat_map (λ t. t.now) texts.now) }
 {
-    text.extend_from_slice(words.as_bytes())
+    for t in texts {
+        text.extend_from_slice(t.as_bytes())?;
+    }
+    Ok(())
 }
 
-// Appends a word to a list, where it is meant.
-#[tactic(auto, unfolding(crate::specs::FactWords::add_word))]
-fn push_listed(
-    is_meant: bool,
-    word: &str,
-    between: &str,
-    list: &mut Vec<u8>,
-) -> Result<(), AllocError>
+// The words that are meant, with a text between two.
+fn listed(alloc: Global, between: &str, words: &[(bool, &str)]) -> Result<Vec<u8>, AllocError>
+    ensures { IfOk result (λ list. list.items ≡ fold (λ list w. add_word between.now w.0 w.1.now list) [] words.now) }
+{
+    let mut list = Vec::new(alloc);
+    for (is_meant, word) in words {
+        add_word(*is_meant, word, between, &mut list)?;
+    }
+    Ok(list)
+}
+
+fn add_word(is_meant: bool, word: &str, between: &str, list: &mut Vec<u8>) -> Result<(), AllocError>
     ensures { OnOk result (list.new.items ≡ add_word between.now is_meant word.now list.old.items) }
 {
     if !is_meant {
         return Ok(());
     }
     if !list.is_empty() {
-        push(between, list)?;
+        list.extend_from_slice(between.as_bytes())?;
     }
-    push(word, list)
-}
-
-#[tactic(auto, unfolding(crate::specs::FactWords::comma))]
-fn push_comma(is_meant: bool, word: &str, list: &mut Vec<u8>) -> Result<(), AllocError>
-    ensures { OnOk result (list.new.items ≡ comma is_meant word.now list.old.items) }
-{
-    push_listed(is_meant, word, ", ", list)
+    list.extend_from_slice(word.as_bytes())
 }
 
 // What is mixed in, by name.
 #[tactic(auto, unfolding(crate::specs::FactWords::mixed_words))]
-pub(crate) fn mixed_words(alloc: Global, mixed: Mixed) -> Result<Vec<u8>, AllocError>
-    ensures { IfOk result (λ list. list.items ≡ mixed_words mixed) }
+pub(crate) fn mixed_words(alloc: Global, m: Mixed) -> Result<Vec<u8>, AllocError>
+    ensures { IfOk result (λ list. list.items ≡ mixed_words m) }
 {
-    let mut list = dh_words(alloc, mixed)?;
-    push_comma(mixed.psks.is_some(), mixed.psks.word(), &mut list)?;
-    or_nothing(list)
-}
-
-#[tactic(auto, unfolding(crate::specs::FactWords::dh_words))]
-fn dh_words(alloc: Global, mixed: Mixed) -> Result<Vec<u8>, AllocError>
-    ensures { IfOk result (λ list. list.items ≡ dh_words mixed) }
-{
-    let mut list = Vec::new(alloc);
-    push_comma(mixed.ee, "ee", &mut list)?;
-    push_comma(mixed.es, "es", &mut list)?;
-    push_comma(mixed.se, "se", &mut list)?;
-    push_comma(mixed.ss, "ss", &mut list)?;
-    Ok(list)
-}
-
-#[tactic(auto, unfolding(crate::specs::FactWords::or_nothing))]
-fn or_nothing(list: Vec<u8>) -> Result<Vec<u8>, AllocError>
-    ensures { IfOk result (λ whole. whole.items ≡ or_nothing list.items) }
-{
-    let mut list = list;
+    let mut list = listed(
+        alloc,
+        ", ",
+        &[
+            (m.ee, "ee"),
+            (m.es, "es"),
+            (m.se, "se"),
+            (m.ss, "ss"),
+            (m.psks.is_some(), m.psks.word()),
+        ],
+    )?;
     if list.is_empty() {
-        push("nothing", &mut list)?;
+        list.extend_from_slice(b"nothing".as_slice())?;
     }
     Ok(list)
 }
 
-// The least sets of private keys that are enough for some DHs: those of one key.
-#[tactic(auto, unfolding(crate::specs::FactWords::one_key))]
-fn one_key(alloc: Global, m: Mixed) -> Result<Vec<u8>, AllocError>
-    ensures { IfOk result (λ list. list.items ≡ one_key m) }
-{
-    let mut list = Vec::new(alloc);
-    push_way(
-        m,
-        keys(true, false, false, false),
-        "the initiator's e",
-        &mut list,
-    )?;
-    push_way(
-        m,
-        keys(false, true, false, false),
-        "the initiator's s",
-        &mut list,
-    )?;
-    push_way(
-        m,
-        keys(false, false, true, false),
-        "the responder's e",
-        &mut list,
-    )?;
-    push_way(
-        m,
-        keys(false, false, false, true),
-        "the responder's s",
-        &mut list,
-    )?;
-    Ok(list)
-}
+// The least sets of private keys that are enough for some DHs: those of one key, and then those of two. None has three,
+// since the two keys of a party are always enough.
+#[rattlefmt::skip]
+pub(crate) static WAYS: [(Keys, &str); 10] = [
+    (Keys { initiator_e: true, ..NO_KEY }, "the initiator's e"),
+    (Keys { initiator_s: true, ..NO_KEY }, "the initiator's s"),
+    (Keys { responder_e: true, ..NO_KEY }, "the responder's e"),
+    (Keys { responder_s: true, ..NO_KEY }, "the responder's s"),
+    (Keys { initiator_e: true, initiator_s: true, ..NO_KEY }, "the initiator's e and s"),
+    (Keys { initiator_e: true, responder_e: true, ..NO_KEY }, "both parties' e"),
+    (Keys { initiator_s: true, responder_e: true, ..NO_KEY }, "the initiator's s and the responder's e"),
+    (Keys { initiator_e: true, responder_s: true, ..NO_KEY }, "the initiator's e and the responder's s"),
+    (Keys { initiator_s: true, responder_s: true, ..NO_KEY }, "both parties' s"),
+    (Keys { responder_e: true, responder_s: true, ..NO_KEY }, "the responder's e and s"),
+];
 
-// Those, and then those of two. None has three, since a party's own keys are always enough.
 #[tactic(auto, unfolding(crate::specs::FactWords::ways_words))]
-pub(crate) fn ways_words(alloc: Global, m: Mixed) -> Result<Vec<u8>, AllocError>
+fn ways_words(alloc: Global, m: Mixed) -> Result<Vec<u8>, AllocError>
     ensures { IfOk result (λ list. list.items ≡ ways_words m) }
 {
-    let mut list = one_key(alloc, m)?;
-    push_way(
-        m,
-        keys(true, true, false, false),
-        "the initiator's e and s",
-        &mut list,
-    )?;
-    push_way(
-        m,
-        keys(true, false, true, false),
-        "both parties' e",
-        &mut list,
-    )?;
-    push_way(
-        m,
-        keys(false, true, true, false),
-        "the initiator's s and the responder's e",
-        &mut list,
-    )?;
-    push_way(
-        m,
-        keys(true, false, false, true),
-        "the initiator's e and the responder's s",
-        &mut list,
-    )?;
-    push_way(
-        m,
-        keys(false, true, false, true),
-        "both parties' s",
-        &mut list,
-    )?;
-    push_way(
-        m,
-        keys(false, false, true, true),
-        "the responder's e and s",
-        &mut list,
-    )?;
+    ways_among(alloc, m, &WAYS)
+}
+
+fn ways_among(alloc: Global, m: Mixed, ways: &[(Keys, &str)]) -> Result<Vec<u8>, AllocError>
+    ensures { IfOk result (λ list. list.items ≡ fold (λ list w. add_word (codes ", or ") (are_least m w.0) w.1.now list) [] ways.now) }
+{
+    let mut list = Vec::new(alloc);
+    for (keys, words) in ways {
+        add_word(m.is_least(*keys), words, ", or ", &mut list)?;
+    }
     Ok(list)
 }
 
-fn keys(initiator_e: bool, initiator_s: bool, responder_e: bool, responder_s: bool) -> Keys
-    ensures { result ≡ keys initiator_e initiator_s responder_e responder_s }
+// The ways, the psk, and a full stop.
+#[tactic(auto, unfolding(crate::specs::FactWords::ways_text))]
+fn push_ways(alloc: Global, m: Mixed, text: &mut Vec<u8>) -> Result<(), AllocError>
+    ensures { OnOk result (text.new.items ≡ text.old.items ++ ways_text m) }
 {
-    Keys {
-        initiator_e,
-        initiator_s,
-        responder_e,
-        responder_s,
-    }
+    text.extend_from_slice(&ways_words(alloc, m)?)?;
+    push(
+        &[
+            if_psks("; and in each case the ", m.psks),
+            m.psks.word(),
+            ".",
+        ],
+        text,
+    )
 }
 
-#[tactic(auto, unfolding(crate::specs::FactWords::way))]
-fn push_way(mixed: Mixed, keys: Keys, words: &str, list: &mut Vec<u8>) -> Result<(), AllocError>
-    ensures { OnOk result (list.new.items ≡ way mixed keys words.now list.old.items) }
+fn if_psks(front: &'static str, psks: Psks) -> &'static str
+    ensures { result.now ≡ if_psks front.now psks }
 {
-    push_listed(mixed.is_least(keys), words, ", or ", list)
+    if psks.is_some() { front } else { "" }
 }
 
 // Which private keys are enough to compute a key, and what somebody needs who takes a party's part.
 #[tactic(auto, unfolding(crate::specs::FactWords::enough_text))]
 pub(crate) fn push_enough(
     alloc: Global,
-    mixed: Mixed,
+    m: Mixed,
     party: Role,
     part: Part,
     text: &mut Vec<u8>,
 ) -> Result<(), AllocError>
-    ensures { OnOk result (text.new.items ≡ text.old.items ++ enough_text mixed party part) }
+    ensures { OnOk result (text.new.items ≡ text.old.items ++ enough_text m party part) }
 {
-    if mixed.has_dh() {
-        push_dh(alloc, mixed, party, part, text)
-    } else {
-        push_without_dh(mixed.psks, text)
+    if !m.has_dh() {
+        return push(&[without_dh(m.psks)], text);
     }
-}
-
-#[tactic(auto, unfolding(crate::specs::FactWords::dh_text))]
-fn push_dh(
-    alloc: Global,
-    mixed: Mixed,
-    party: Role,
-    part: Part,
-    text: &mut Vec<u8>,
-) -> Result<(), AllocError>
-    ensures { OnOk result (text.new.items ≡ text.old.items ++ dh_text mixed party part) }
-{
-    push("Enough: ", text)?;
-    push_ways(alloc, mixed, text)?;
-    push_part(party, part, mixed.psks, text)
+    push(&["Enough: "], text)?;
+    push_ways(alloc, m, text)?;
+    push_part(party, part, m.psks, text)
 }
 
 #[tactic(auto, unfolding(crate::specs::FactWords::without_dh))]
-fn push_without_dh(psks: Psks, text: &mut Vec<u8>) -> Result<(), AllocError>
-    ensures { OnOk result (text.new.items ≡ text.old.items ++ without_dh psks) }
+fn without_dh(psks: Psks) -> &'static str
+    ensures { result.now ≡ without_dh psks }
 {
     match psks {
-        Psks::None => push("No DH is mixed in: everybody can compute it.", text),
-        Psks::One => push("Enough: the psk alone.", text),
-        Psks::More => push("Enough: the psks alone.", text),
+        Psks::None => "No DH is mixed in: everybody can compute it.",
+        Psks::One => "Enough: the psk alone.",
+        Psks::More => "Enough: the psks alone.",
     }
-}
-
-// The ways, the psk, and a full stop.
-#[tactic(auto, unfolding(crate::specs::FactWords::ways_text))]
-fn push_ways(alloc: Global, mixed: Mixed, text: &mut Vec<u8>) -> Result<(), AllocError>
-    ensures { OnOk result (text.new.items ≡ text.old.items ++ ways_text mixed) }
-{
-    text.extend_from_slice(&ways_words(alloc, mixed)?)?;
-    push_psks("; and in each case the ", mixed.psks, text)?;
-    push(".", text)
-}
-
-// These words and the psks, where there are some.
-#[tactic(auto, unfolding(crate::specs::FactWords::with_psks))]
-fn push_psks(front: &str, psks: Psks, text: &mut Vec<u8>) -> Result<(), AllocError>
-    ensures { OnOk result (text.new.items ≡ text.old.items ++ with_psks front.now psks) }
-{
-    match psks {
-        Psks::None => Ok(()),
-        Psks::One => push_two(front, "psk", text),
-        Psks::More => push_two(front, "psks", text),
-    }
-}
-
-pub(crate) fn push_two(first: &str, second: &str, text: &mut Vec<u8>) -> Result<(), AllocError>
-    ensures { OnOk result (text.new.items ≡ text.old.items ++ (first.now ++ second.now)) }
-{
-    push(first, text)?;
-    push(second, text)
 }
 
 #[tactic(auto, unfolding(crate::specs::FactWords::part_text))]
@@ -257,24 +164,25 @@ fn push_part(party: Role, part: Part, psks: Psks, text: &mut Vec<u8>) -> Result<
 }
 
 #[tactic(auto, unfolding(crate::specs::FactWords::own_text))]
-fn push_own(party: Role, keys: &str, psks: Psks, text: &mut Vec<u8>) -> Result<(), AllocError>
+fn push_own(
+    party: Role,
+    keys: &'static str,
+    psks: Psks,
+    text: &mut Vec<u8>,
+) -> Result<(), AllocError>
     ensures { OnOk result (text.new.items ≡ text.old.items ++ own_text party keys.now psks) }
 {
-    push_taker(party, text)?;
-    push(keys, text)?;
-    push(" of its own", text)?;
-    push_psks(" and the ", psks, text)?;
-    push(".", text)
-}
-
-#[tactic(auto, unfolding(crate::specs::FactWords::taker_text))]
-fn push_taker(party: Role, text: &mut Vec<u8>) -> Result<(), AllocError>
-    ensures { OnOk result (text.new.items ≡ text.old.items ++ taker_text party) }
-{
-    push_three(
-        " Whoever takes the ",
-        role_word(party),
-        "'s part needs only ",
+    push(
+        &[
+            " Whoever takes the ",
+            role_word(party),
+            "'s part needs only ",
+            keys,
+            " of its own",
+            if_psks(" and the ", psks),
+            psks.word(),
+            ".",
+        ],
         text,
     )
 }
@@ -283,30 +191,29 @@ fn push_taker(party: Role, text: &mut Vec<u8>) -> Result<(), AllocError>
 #[tactic(auto, unfolding(crate::specs::FactWords::writer_text))]
 pub(crate) fn push_writer(
     alloc: Global,
-    mixed: Mixed,
+    m: Mixed,
     rest: Mixed,
     text: &mut Vec<u8>,
 ) -> Result<(), AllocError>
-    ensures { OnOk result (text.new.items ≡ text.old.items ++ writer_text mixed rest) }
+    ensures { OnOk result (text.new.items ≡ text.old.items ++ writer_text m rest) }
 {
-    if rest.has_dh() {
-        push("whoever has ", text)?;
-        push_ways(alloc, rest, text)
-    } else {
-        push_alone(mixed.has_dh(), mixed.psks, text)
+    if !rest.has_dh() {
+        return push(&[alone(m.has_dh(), m.psks)], text);
     }
+    push(&["whoever has "], text)?;
+    push_ways(alloc, rest, text)
 }
 
 // The same where no DH is left.
 #[tactic(auto, unfolding(crate::specs::FactWords::alone_text))]
-fn push_alone(any_dh: bool, psks: Psks, text: &mut Vec<u8>) -> Result<(), AllocError>
-    ensures { OnOk result (text.new.items ≡ text.old.items ++ alone_text any_dh psks) }
+fn alone(any_dh: bool, psks: Psks) -> &'static str
+    ensures { result.now ≡ alone_text any_dh psks }
 {
     match psks {
-        Psks::None if any_dh => push("anyone, with an e of its own.", text),
-        Psks::None => push("anyone: everybody can compute the key.", text),
-        Psks::One => push("whoever has the psk.", text),
-        Psks::More => push("whoever has the psks.", text),
+        Psks::None if any_dh => "anyone, with an e of its own.",
+        Psks::None => "anyone: everybody can compute the key.",
+        Psks::One => "whoever has the psk.",
+        Psks::More => "whoever has the psks.",
     }
 }
 
@@ -315,27 +222,13 @@ fn push_alone(any_dh: bool, psks: Psks, text: &mut Vec<u8>) -> Result<(), AllocE
 pub(crate) fn push_again(party: Role, is_fresh: bool, text: &mut Vec<u8>) -> Result<(), AllocError>
     ensures { OnOk result (text.new.items ≡ text.old.items ++ again_text party is_fresh) }
 {
+    let party = role_word(party);
     if is_fresh {
-        push_three(
-            "refused: the ",
-            role_word(party),
-            "'s e is new each time.",
-            text,
-        )
+        push(&["refused: the ", party, "'s e is new each time."], text)
     } else {
-        push_three(
-            "accepted again: the ",
-            role_word(party),
-            " puts in no e before.",
+        push(
+            &["accepted again: the ", party, " puts in no e before."],
             text,
         )
     }
-}
-
-fn push_three(first: &str, second: &str, third: &str, text: &mut Vec<u8>) -> Result<(), AllocError>
-    ensures { OnOk result (text.new.items ≡ text.old.items ++ (first.now ++ (second.now ++ third.now))) }
-{
-    push(first, text)?;
-    push(second, text)?;
-    push(third, text)
 }

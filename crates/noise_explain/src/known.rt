@@ -14,13 +14,6 @@ pub struct Spot {
     pub token: usize,
 }
 
-impl Spot {
-    /// Whether what ends at this place stands before the other one.
-    pub fn is_before(self, other: Spot) -> bool {
-        self.message < other.message || (self.message == other.message && self.token <= other.token)
-    }
-}
-
 // Who sends the message of this number, from 1 on.
 pub(crate) fn sender_of(message: usize) -> Role
     ensures { result ≡ sender_of message }
@@ -66,7 +59,7 @@ pub(crate) fn key_spot(pattern: &Pattern, role: Role, key: Token) -> Option<Spot
         if sender_of(message) != role {
             continue;
         }
-        if let Some(at) = position(tokens.tokens(), key) {
+        if let Some(at) = tokens.tokens().iter().position(|t| *t == key) {
             return Some(Spot {
                 message,
                 token: at.saturating_add(1),
@@ -74,31 +67,4 @@ pub(crate) fn key_spot(pattern: &Pattern, role: Role, key: Token) -> Option<Spot
         }
     }
     None
-}
-
-// Where a DH or a psk is mixed first: the place after its token.
-pub(crate) fn mixed_spot(pattern: &Pattern, token: Token) -> Option<Spot> {
-    let mut message: usize = 0;
-    for tokens in pattern.messages() {
-        message = message.saturating_add(1);
-        if let Some(at) = position(tokens.tokens(), token) {
-            return Some(Spot {
-                message,
-                token: at.saturating_add(1),
-            });
-        }
-    }
-    None
-}
-
-fn position(tokens: &[Token], wanted: Token) -> Option<usize> {
-    tokens.iter().position(|t| *t == wanted)
-}
-
-// Whether it stands before this place.
-pub(crate) fn is_by(found: Option<Spot>, spot: Spot) -> bool {
-    match found {
-        Some(found) => found.is_before(spot),
-        None => false,
-    }
 }

@@ -1,21 +1,14 @@
 //! What stands above a line of a vector file.
 
 use crate::position::line_at;
-use noise_names::{ProtocolName, fundamental};
-
-// The party whose line has to stand next.
-#[derive(Clone, Copy)]
-pub(crate) enum NeededRole {
-    Initiator,
-    Responder,
-}
+use noise_names::{ProtocolName, Role, fundamental};
 
 // The party whose keys have to stand in the line of this number.
-pub(crate) fn needed_role(text: &[u8], number: usize) -> NeededRole {
+pub(crate) fn needed_role(text: &[u8], number: usize) -> Role {
     if has_above(text, number, b"initiator ".as_slice()) {
-        NeededRole::Responder
+        Role::Responder
     } else {
-        NeededRole::Initiator
+        Role::Initiator
     }
 }
 

@@ -2,21 +2,20 @@
 
 use crate::advice::Advice;
 use crate::line_column::{first_word, word_from, wrong_at};
-use crate::line_place::{NeededRole, is_after_datagrams, is_first_version, needed_role};
+use crate::line_place::{is_after_datagrams, is_first_version, needed_role};
 use crate::line_shapes::shapes_of;
 use crate::sentences::Sentences;
 use crate::shapes::Shape;
 use crate::text_advice::slip;
 use crate::word_sentences::word_reported;
+use noise_names::Role;
 use noise_vectors::LineKind;
 
 // What is wrong with a line of a text, which has to be of this kind.
+#[rattlefmt::skip]
 pub(crate) fn line_reported(kind: LineKind, text: &[u8], number: usize, line: &[u8]) -> Sentences {
     if line.starts_with(b"#".as_slice()) {
-        return Sentences::new(
-            "A vector file has no comments, and this line begins as one.",
-            "Leave it out.",
-        );
+        return Sentences::new("A vector file has no comments, and this line begins as one.", "Leave it out.");
     }
     if let Some(advice) = slip(line) {
         return slip_reported(advice, line);
@@ -46,129 +45,83 @@ const EXPECT_EMPTY: Sentences = Sentences {
 };
 
 // What is wrong with the word that so many bytes of a line stand before.
+#[rattlefmt::skip]
 fn place_reported(shapes: &[Shape], line: &[u8], at: usize) -> Sentences {
     let (before, _) = line.split_at(at.min(line.len()));
     let index = before.iter().filter(|b| **b == b' ').count();
     let word = word_from(line, at);
     match shapes.get(index).copied() {
         Some(shape) if !word.is_empty() => word_reported(shape, word),
-        _ if at >= line.len() => Sentences::new(
-            "A word is missing at the end of the line.",
-            "Write it after a space.",
-        ),
-        _ if word.is_empty() => Sentences::new(
-            "One space stands between two words, and here is another one.",
-            "Take it out.",
-        ),
+        _ if at >= line.len() => Sentences::new("A word is missing at the end of the line.", "Write it after a space."),
+        _ if word.is_empty() => Sentences::new("One space stands between two words, and here is another one.", "Take it out."),
         _ => Sentences::new("The line has a word too many.", "Leave it out."),
     }
 }
 
 // What is wrong with a line that begins as no line of its kind does.
+#[rattlefmt::skip]
 fn first_reported(kind: LineKind, text: &[u8], number: usize, line: &[u8]) -> Sentences {
     if line.starts_with(b" ".as_slice()) {
-        return Sentences::new(
-            "A line begins with its first word, and a space stands before it.",
-            "Take it out.",
-        );
+        return Sentences::new("A line begins with its first word, and a space stands before it.", "Take it out.");
     }
     match kind {
-        LineKind::Header => Sentences::new(
-            "The first line says that it is a vector file, and its version.",
-            "Write vector 1 or vector 2.",
-        ),
-        LineKind::Protocol => Sentences::new(
-            "The protocol's line has to stand here, and another one does.",
-            "Put it above this one, for example: protocol Noise_XX_25519_ChaChaPoly_SHA256",
-        ),
-        LineKind::Prologue => prologue_reported(line),
-        LineKind::Interval => Sentences::new(
-            "The interval's line has to stand here, and another one does.",
-            "Put it above this one. Where no key is rekeyed it is: interval 0",
-        ),
+        LineKind::Header => Sentences::new("The first line says that it is a vector file, and its version.",
+            "Write vector 1 or vector 2."),
+        LineKind::Protocol => Sentences::new("The protocol's line has to stand here, and another one does.",
+            "Put it above this one, for example: protocol Noise_XX_25519_ChaChaPoly_SHA256"),
+        LineKind::Prologue if line.ends_with(b":".as_slice()) => Sentences::new("The prologue's line has to stand here: the pattern of this name is a fundamental one, which no file spells.",
+            "Leave the lines of the pattern and the line end out if they are those of this name, or write their own name."),
+        LineKind::Prologue => Sentences::new("The prologue's line has to stand here, and another one does.",
+            "Put it above this one. Without a prologue it is: prologue -"),
+        LineKind::Interval => Sentences::new("The interval's line has to stand here, and another one does.",
+            "Put it above this one. Where no key is rekeyed it is: interval 0"),
         LineKind::Keys => keys_reported(needed_role(text, number), first_word(line)),
         LineKind::Event => event_reported(text, number, line),
         LineKind::Expect => expect_reported(line),
-        LineKind::Pattern | LineKind::Psk | LineKind::Answer | LineKind::Ending => other_reported(),
+        LineKind::Pattern | LineKind::Psk | LineKind::Answer | LineKind::Ending => OTHER,
     }
 }
 
-fn other_reported() -> Sentences {
-    Sentences::new(
-        "Another line has to stand here.",
-        "The lines and their order are those of the format.",
-    )
-}
+const OTHER: Sentences = Sentences {
+    says: "Another line has to stand here.",
+    mends: "The lines and their order are those of the format.",
+};
 
-fn prologue_reported(line: &[u8]) -> Sentences {
-    if line.ends_with(b":".as_slice()) {
-        return Sentences::new(
-            "The prologue's line has to stand here: the pattern of this name is a fundamental one, which no file \
-             spells.",
-            "Leave the lines of the pattern and the line end out if they are those of this name, or write their own \
-             name.",
-        );
-    }
-    Sentences::new(
-        "The prologue's line has to stand here, and another one does.",
-        "Put it above this one. Without a prologue it is: prologue -",
-    )
-}
-
-fn keys_reported(role: NeededRole, first: &[u8]) -> Sentences {
+#[rattlefmt::skip]
+fn keys_reported(role: Role, first: &[u8]) -> Sentences {
     if first == b"answer".as_slice() {
-        return Sentences::new(
-            "DH results stand below a line of keys of the kind table alone, and above this one no such line stands.",
-            "Write table in place of xor, or leave the DH results out.",
-        );
+        return Sentences::new("DH results stand below a line of keys of the kind table alone, and above this one no such line stands.",
+            "Write table in place of xor, or leave the DH results out.");
     }
     match role {
-        NeededRole::Initiator if first == b"psk".as_slice() => Sentences::new(
-            "A psk's line has a key, and none stands here.",
-            "Write it after a space.",
-        ),
-        NeededRole::Initiator => Sentences::new(
-            "The initiator's line has to stand here, and another one does.",
-            "Put it above this one, for example: initiator xor - -",
-        ),
-        NeededRole::Responder => Sentences::new(
-            "The responder's line has to stand here, and another one does.",
-            "Put it above this one, for example: responder xor - -",
-        ),
+        Role::Initiator if first == b"psk".as_slice() => Sentences::new("A psk's line has a key, and none stands here.",
+            "Write it after a space."),
+        Role::Initiator => Sentences::new("The initiator's line has to stand here, and another one does.",
+            "Put it above this one, for example: initiator xor - -"),
+        Role::Responder => Sentences::new("The responder's line has to stand here, and another one does.",
+            "Put it above this one, for example: responder xor - -"),
     }
 }
 
+#[rattlefmt::skip]
 fn event_reported(text: &[u8], number: usize, line: &[u8]) -> Sentences {
     let first = first_word(line);
     if first == b"expect".as_slice() {
-        return if is_first_version(text) {
-            FIRST_VERSION
-        } else {
-            expect_reported(line)
-        };
+        return if is_first_version(text) { FIRST_VERSION } else { expect_reported(line) };
     }
     if first == b"psk".as_slice() {
-        return Sentences::new(
-            "An event has to stand here, and a line of this name stands above the events.",
-            "Move it up.",
-        );
+        return Sentences::new("An event has to stand here, and a line of this name stands above the events.", "Move it up.");
     }
-    if is_upper_line(first) {
-        return Sentences::new(
-            "An event has to stand here, and a line of this name stands above the events.",
-            "Move it up, or leave it out.",
-        );
+    if UPPER.contains(&first) {
+        return Sentences::new("An event has to stand here, and a line of this name stands above the events.",
+            "Move it up, or leave it out.");
     }
     if is_after_datagrams(text, number) {
-        return Sentences::new(
-            "An event of datagrams has to stand here, and none has this name.",
-            "The names are seal, open and foreign.",
-        );
+        return Sentences::new("An event of datagrams has to stand here, and none has this name.",
+            "The names are seal, open and foreign.");
     }
-    Sentences::new(
-        "An event has to stand here, and none has this name.",
-        "The names are say, write, deliver and raw, and after the line of datagrams seal, open and foreign.",
-    )
+    Sentences::new("An event has to stand here, and none has this name.",
+        "The names are say, write, deliver and raw, and after the line of datagrams seal, open and foreign.")
 }
 
 const FIRST_VERSION: Sentences = Sentences {
@@ -176,71 +129,44 @@ const FIRST_VERSION: Sentences = Sentences {
     mends: "Write vector 2 in the first line.",
 };
 
-// Whether it is the first word of a line above the events.
-fn is_upper_line(first: &[u8]) -> bool {
-    first == b"vector".as_slice()
-        || first == b"protocol".as_slice()
-        || first == b"prologue".as_slice()
-        || first == b"interval".as_slice()
-        || first == b"psk".as_slice()
-        || first == b"initiator".as_slice()
-        || first == b"responder".as_slice()
-        || first == b"answer".as_slice()
-}
+// The first words of the lines above the events.
+#[rattlefmt::skip]
+const UPPER: [&[u8]; 8] =
+    [b"vector", b"protocol", b"prologue", b"interval", b"psk", b"initiator", b"responder", b"answer"];
 
+#[rattlefmt::skip]
 fn expect_reported(line: &[u8]) -> Sentences {
     if line == b"expect".as_slice() {
         return EXPECT_EMPTY;
     }
     if line.starts_with(b"expect ".as_slice()) {
-        return Sentences::new(
-            "LINE has bytes from 32 (a space) to 126 (~) alone, and another one stands in this.",
-            "Take it out: no line of output has it.",
-        );
+        return Sentences::new("LINE has bytes from 32 (a space) to 126 (~) alone, and another one stands in this.",
+            "Take it out: no line of output has it.");
     }
-    Sentences::new(
-        "After the first line of expected output only such lines stand, and this is none.",
-        "Move it above them, or leave it out.",
-    )
+    Sentences::new("After the first line of expected output only such lines stand, and this is none.",
+        "Move it above them, or leave it out.")
 }
 
 // What is wrong with a line whose words are each of their shape.
+#[rattlefmt::skip]
 fn whole_reported(kind: LineKind, text: &[u8], number: usize, line: &[u8]) -> Sentences {
     match kind {
-        LineKind::Psk => Sentences::new(
-            "A file has at most 9 psk lines, and this is one more.",
-            "Write one psk line for each psk token, in the order of the tokens.",
-        ),
-        LineKind::Keys => other_party_reported(needed_role(text, number)),
-        LineKind::Answer => Sentences::new(
-            "A table has at most 8 DH results, and this is one more.",
-            "Leave it out.",
-        ),
+        LineKind::Psk => Sentences::new("A file has at most 9 psk lines, and this is one more.",
+            "Write one psk line for each psk token, in the order of the tokens."),
+        LineKind::Keys => match needed_role(text, number) {
+            Role::Initiator => Sentences::new("The initiator's line has to stand here, and this is the responder's.",
+                "Put the initiator's above this one, for example: initiator xor - -"),
+            Role::Responder => Sentences::new("The responder's line has to stand here, and this is the initiator's.",
+                "Put the responder's here, for example: responder xor - -"),
+        },
+        LineKind::Answer => Sentences::new("A table has at most 8 DH results, and this is one more.", "Leave it out."),
         LineKind::Event => whole_event_reported(text, number, line),
-        LineKind::Header
-        | LineKind::Protocol
-        | LineKind::Pattern
-        | LineKind::Prologue
-        | LineKind::Interval
-        | LineKind::Expect
-        | LineKind::Ending => other_reported(),
-    }
-}
-
-fn other_party_reported(role: NeededRole) -> Sentences {
-    match role {
-        NeededRole::Initiator => Sentences::new(
-            "The initiator's line has to stand here, and this is the responder's.",
-            "Put the initiator's above this one, for example: initiator xor - -",
-        ),
-        NeededRole::Responder => Sentences::new(
-            "The responder's line has to stand here, and this is the initiator's.",
-            "Put the responder's here, for example: responder xor - -",
-        ),
+        _ => OTHER,
     }
 }
 
 // An event that may not stand there.
+#[rattlefmt::skip]
 fn whole_event_reported(text: &[u8], number: usize, line: &[u8]) -> Sentences {
     let first = first_word(line);
     let is_datagrams = first == b"datagrams".as_slice();
@@ -249,22 +175,15 @@ fn whole_event_reported(text: &[u8], number: usize, line: &[u8]) -> Sentences {
     if (is_datagrams || is_of_datagrams) && is_first_version(text) {
         FIRST_VERSION
     } else if is_datagrams {
-        Sentences::new(
-            "The line of datagrams stands once, and this is another one.",
-            "Leave it out.",
-        )
+        Sentences::new("The line of datagrams stands once, and this is another one.", "Leave it out.")
     } else if is_of_datagrams && !is_after {
-        Sentences::new(
-            "An event of datagrams stands below the line of datagrams, and above this one no such line stands.",
-            "Put it above this one, for example: datagrams 64",
-        )
+        Sentences::new("An event of datagrams stands below the line of datagrams, and above this one no such line stands.",
+            "Put it above this one, for example: datagrams 64")
     } else if is_after && !is_of_datagrams {
-        Sentences::new(
-            "Below the line of datagrams only seal, open and foreign stand, and this is another event.",
-            "Move it above that line, or leave it out.",
-        )
+        Sentences::new("Below the line of datagrams only seal, open and foreign stand, and this is another event.",
+            "Move it above that line, or leave it out.")
     } else {
-        other_reported()
+        OTHER
     }
 }
 

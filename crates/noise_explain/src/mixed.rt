@@ -2,7 +2,7 @@
 
 ghost use Rattle.std.specs.Prelude.{◌≡◌, fold};
 ghost use Rattle.noise_explain.specs.FactWords.{has_dh, has_psks, psks_word};
-ghost use Rattle.noise_explain.specs.MixedKeys.{add_token, are_enough, are_least, mixed_before, nothing, one_more};
+ghost use Rattle.noise_explain.specs.MixedKeys.{add_token, are_enough, are_least, mixed_before, one_more};
 ghost use Rattle.noise_explain.specs.Parties.{keys_of, static_of, without_e};
 
 use crate::rule_place::tokens_at;
@@ -66,62 +66,48 @@ impl Psks {
     }
 }
 
+pub(crate) const NO_KEY: Keys = Keys {
+    initiator_e: false,
+    initiator_s: false,
+    responder_e: false,
+    responder_s: false,
+};
+
 impl Keys {
     // The ephemeral key of a party, and its static one where that is asked for.
+    #[rattlefmt::skip]
     pub fn of(party: Role, has_s: bool) -> Keys
         ensures { result ≡ keys_of party has_s }
     {
         match party {
-            Role::Initiator => Keys {
-                initiator_e: true,
-                initiator_s: has_s,
-                responder_e: false,
-                responder_s: false,
-            },
-            Role::Responder => Keys {
-                initiator_e: false,
-                initiator_s: false,
-                responder_e: true,
-                responder_s: has_s,
-            },
+            Role::Initiator => Keys { initiator_e: true, initiator_s: has_s, ..NO_KEY },
+            Role::Responder => Keys { responder_e: true, responder_s: has_s, ..NO_KEY },
         }
     }
 
     // The static key of a party.
+    #[rattlefmt::skip]
     pub fn static_of(party: Role) -> Keys
         ensures { result ≡ static_of party }
     {
         match party {
-            Role::Initiator => Keys {
-                initiator_e: false,
-                initiator_s: true,
-                responder_e: false,
-                responder_s: false,
-            },
-            Role::Responder => Keys {
-                initiator_e: false,
-                initiator_s: false,
-                responder_e: false,
-                responder_s: true,
-            },
+            Role::Initiator => Keys { initiator_s: true, ..NO_KEY },
+            Role::Responder => Keys { responder_s: true, ..NO_KEY },
         }
     }
 }
 
-impl Mixed {
-    pub fn nothing() -> Mixed
-        ensures { result ≡ nothing }
-    {
-        Mixed {
-            ee: false,
-            es: false,
-            se: false,
-            ss: false,
-            psks: Psks::None,
-        }
-    }
+pub(crate) const NOTHING: Mixed = Mixed {
+    ee: false,
+    es: false,
+    se: false,
+    ss: false,
+    psks: Psks::None,
+};
 
+impl Mixed {
     // With one more token.
+    #[rattlefmt::skip]
     fn add(self, token: Token) -> Mixed
         ensures { result ≡ add_token self token }
     {
@@ -131,10 +117,7 @@ impl Mixed {
             Token::Es => Mixed { es: true, ..self },
             Token::Se => Mixed { se: true, ..self },
             Token::Ss => Mixed { ss: true, ..self },
-            Token::Psk => Mixed {
-                psks: self.psks.one_more(),
-                ..self
-            },
+            Token::Psk => Mixed { psks: self.psks.one_more(), ..self },
         }
     }
 
@@ -149,7 +132,6 @@ impl Mixed {
         mixed
     }
 
-    #[tactic(auto, unfolding(crate::specs::FactWords::has_dh))]
     pub fn has_dh(self) -> bool
         ensures { result ≡ has_dh self }
     {
@@ -157,20 +139,13 @@ impl Mixed {
     }
 
     // The DHs that need another key than this party's ephemeral one.
+    #[rattlefmt::skip]
     pub fn without_e(self, party: Role) -> Mixed
         ensures { result ≡ without_e party self }
     {
         match party {
-            Role::Initiator => Mixed {
-                ee: false,
-                es: false,
-                ..self
-            },
-            Role::Responder => Mixed {
-                ee: false,
-                se: false,
-                ..self
-            },
+            Role::Initiator => Mixed { ee: false, es: false, ..self },
+            Role::Responder => Mixed { ee: false, se: false, ..self },
         }
     }
 
@@ -185,30 +160,15 @@ impl Mixed {
     }
 
     // The same, and none of the keys can be left out.
+    #[rattlefmt::skip]
     pub fn is_least(self, keys: Keys) -> bool
         ensures { result ≡ are_least self keys }
     {
         self.is_by(keys)
-            && !(keys.initiator_e
-                && self.is_by(Keys {
-                    initiator_e: false,
-                    ..keys
-                }))
-            && !(keys.initiator_s
-                && self.is_by(Keys {
-                    initiator_s: false,
-                    ..keys
-                }))
-            && !(keys.responder_e
-                && self.is_by(Keys {
-                    responder_e: false,
-                    ..keys
-                }))
-            && !(keys.responder_s
-                && self.is_by(Keys {
-                    responder_s: false,
-                    ..keys
-                }))
+            && !(keys.initiator_e && self.is_by(Keys { initiator_e: false, ..keys }))
+            && !(keys.initiator_s && self.is_by(Keys { initiator_s: false, ..keys }))
+            && !(keys.responder_e && self.is_by(Keys { responder_e: false, ..keys }))
+            && !(keys.responder_s && self.is_by(Keys { responder_s: false, ..keys }))
     }
 }
 
@@ -216,7 +176,7 @@ impl Mixed {
 pub(crate) fn mixed_by(pattern: &Pattern, passed: usize, count: usize) -> Mixed
     ensures { result ≡ mixed_before pattern.now passed count }
 {
-    let mut mixed = Mixed::nothing();
+    let mut mixed = NOTHING;
     for index in 0..passed {
         mixed = mixed.add_tokens(tokens_at(pattern.messages(), index));
     }

@@ -31,13 +31,12 @@ pub(crate) fn push_message_line(
     requires last { message ≤ length pattern.now.messages }
     ensures appended { OnOk result (text.new.items ≡ text.old.items ++ message_line pattern.now message) }
 {
-    push("  message ", text)?;
+    push(&["  message "], text)?;
     push_number(alloc, usize::from(message), text)?;
-    push(", of the ", text)?;
-    push(role_word(sender_of(usize::from(message))), text)?;
-    push(", is ", text)?;
+    let role = role_word(sender_of(usize::from(message)));
+    push(&[", of the ", role, ", is "], text)?;
     push_number(alloc, usize::from(pattern.overhead(message)), text)?;
-    push(" bytes longer than its payload\n", text)
+    push(&[" bytes longer than its payload\n"], text)
 }
 
 // The line of a key that is sent: its bytes, counted from 0, and whether it is encrypted.
@@ -57,13 +56,14 @@ pub(crate) fn push_key_line(
 {
     let from = usize::from(pattern.bytes_before(message, token));
     let next = usize::from(pattern.bytes_before(message, token + 1));
-    push("    ", text)?;
-    push(token_word(key), text)?;
-    push(": bytes ", text)?;
+    push(&["    ", token_word(key), ": bytes "], text)?;
     push_number(alloc, from, text)?;
-    push(" to ", text)?;
+    push(&[" to "], text)?;
     push_number(alloc, next.saturating_sub(1), text)?;
-    push(key_how(key, pattern.has_key_before(message, token)), text)
+    push(
+        &[key_how(key, pattern.has_key_before(message, token))],
+        text,
+    )
 }
 
 fn key_how(key: Token, has_key: bool) -> &'static str
@@ -89,13 +89,13 @@ pub(crate) fn push_payload_line(
     requires token { count ≤ length (tokens_of pattern.now message) }
     ensures appended { OnOk result (text.new.items ≡ text.old.items ++ payload_line pattern.now message count) }
 {
-    push("    payload: from byte ", text)?;
+    push(&["    payload: from byte "], text)?;
     push_number(
         alloc,
         usize::from(pattern.bytes_before(message, count)),
         text,
     )?;
-    push(payload_how(pattern.has_key_before(message, count)), text)
+    push(&[payload_how(pattern.has_key_before(message, count))], text)
 }
 
 fn payload_how(has_key: bool) -> &'static str

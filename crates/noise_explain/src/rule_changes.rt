@@ -4,7 +4,7 @@ use crate::change::Change;
 use crate::judged::Correction;
 use crate::known::{Spot, key_spot, keys_of, sender_of};
 use crate::rule_place::{pre_line_count, tokens_at};
-use crate::rule_sentences::{Broken, broken_at, missing_key, unfresh};
+use crate::rule_sentences::{broken_at, missing_key, unfresh};
 use noise_lines::token_word;
 use noise_names::{Pattern, Role, RuleFault, Token};
 use std::alloc::{AllocError, Global};
@@ -16,324 +16,234 @@ pub(crate) fn rule_candidates(
     fault: RuleFault,
 ) -> Result<Vec<Correction>, AllocError> {
     let broken = broken_at(pattern, fault);
-    let mut found = Vec::new(alloc);
+    let mut tried = Tried {
+        alloc,
+        pattern,
+        found: Vec::new(alloc),
+    };
     match broken.token {
         Some(dh) if broken.rule == 1 => {
-            let missing = missing_key(pattern, fault, dh);
-            push_for_key(alloc, pattern, broken, missing, &mut found)?;
+            let (owner, key) = missing_key(pattern, fault, dh);
+            tried.push_for_key(broken.spot, owner, key)?;
         }
         Some(key) if broken.rule == 2 => {
-            push_out(alloc, pattern, place_of(broken), &mut found)?;
-            push_unnamed(alloc, pattern, broken.sender, key, &mut found)?;
+            tried.push_out(broken.spot)?;
+            tried.push_unnamed(broken.sender, key)?;
         }
-        Some(_) if broken.rule == 3 => push_out(alloc, pattern, place_of(broken), &mut found)?,
+        Some(_) if broken.rule == 3 => tried.push_out(broken.spot)?,
         _ if broken.rule == 4 => {
-            push_for_dh(
-                alloc,
-                pattern,
-                broken,
-                unfresh(pattern, fault).1,
-                &mut found,
-            )?;
+            let (_, missing) = unfresh(pattern, fault);
+            tried.push_for_dh(broken.spot.message, missing)?;
         }
-        _ => push_puts(alloc, pattern, broken.spot.message, &[Token::E], &mut found)?,
+        _ => tried.push_puts(broken.spot.message, &[Token::E])?,
     }
-    Ok(found)
+    Ok(tried.found)
 }
 
-// A token, by its message and its place there, both from 0.
-#[derive(Clone, Copy)]
-struct At {
-    message: usize,
-    token: usize,
-}
-
-fn place_of(broken: Broken) -> At {
-    At {
-        message: broken.spot.message.saturating_sub(1),
-        token: broken.spot.token,
-    }
-}
-
-fn before_spot(spot: Spot) -> At {
-    At {
-        message: spot.message.saturating_sub(1),
-        token: spot.token.saturating_sub(1),
-    }
-}
-
-// Rule 1. A key that comes in a later message stays in one: the DH goes after it, or the key before the DH. Else the
-// key is sent before, or named. At last the DH is left out.
-fn push_for_key(
+// The corrections of a pattern so far.
+#[derive(Drop)]
+struct Tried<'a> {
     alloc: Global,
-    pattern: &Pattern,
-    broken: Broken,
-    (owner, key): (Role, Token),
-    found: &mut Vec<Correction>,
-) -> Result<(), AllocError> {
-    let place = place_of(broken);
-    match key_spot(pattern, owner, key) {
-        Some(spot) => {
-            push_moves(alloc, pattern, place, (place.message, 8), found)?;
-            push_moves(
-                alloc,
-                pattern,
-                before_spot(spot),
-                (0, broken.spot.message),
-                found,
-            )?;
-        }
-        None => {
-            push_puts(alloc, pattern, broken.spot.message, &[key], found)?;
-            if key == Token::S {
-                found.reverse();
+    pattern: &'a Pattern,
+    found: Vec<Correction>,
+}
+
+impl<'a> Tried<'a> {
+    // Rule 1. A key that comes in a later message stays in one: the DH goes after it, or the key before the DH. Else
+    // the key is sent before, or named. At last the DH is left out.
+    fn push_for_key(&mut self, place: Spot, owner: Role, key: Token) -> Result<(), AllocError> {
+        match key_spot(self.pattern, owner, key) {
+            Some(after) => {
+                self.push_moves(place, place.message.saturating_sub(1), 8)?;
+                let token = after.token.saturating_sub(1);
+                self.push_moves(Spot { token, ..after }, 0, place.message)?;
             }
-            push_named(alloc, pattern, owner, key, found)?;
+            None => {
+                self.push_puts(place.message, &[key])?;
+                if key == Token::S {
+                    self.found.reverse();
+                }
+                self.push_named(owner, key)?;
+            }
         }
+        self.push_out(place)
     }
-    push_out(alloc, pattern, place, found)
-}
 
-// Rule 4. The DH that is missing is mixed, if need be after a key that is sent for it.
-fn push_for_dh(
-    alloc: Global,
-    pattern: &Pattern,
-    broken: Broken,
-    missing: Token,
-    found: &mut Vec<Correction>,
-) -> Result<(), AllocError> {
-    let (first, second) = keys_of(missing);
-    let last = broken.spot.message;
-    push_puts(alloc, pattern, last, &[missing], found)?;
-    push_puts(alloc, pattern, last, &[first, missing], found)?;
-    push_puts(alloc, pattern, last, &[second, missing], found)
-}
+    // Rule 4. The DH that is missing is mixed, if need be after a key that is sent for it.
+    fn push_for_dh(&mut self, last: usize, missing: Token) -> Result<(), AllocError> {
+        let (first, second) = keys_of(missing);
+        self.push_puts(last, &[missing])?;
+        self.push_puts(last, &[first, missing])?;
+        self.push_puts(last, &[second, missing])
+    }
 
-// These tokens at each place of the first messages.
-fn push_puts(
-    alloc: Global,
-    pattern: &Pattern,
-    last: usize,
-    tokens: &[Token],
-    found: &mut Vec<Correction>,
-) -> Result<(), AllocError> {
-    let mut message: usize = 0;
-    for old in pattern.messages() {
-        if message < last {
-            push_puts_in(alloc, pattern, message, old.tokens(), tokens, found)?;
+    // These tokens at each place of the first messages.
+    fn push_puts(&mut self, last: usize, tokens: &[Token]) -> Result<(), AllocError> {
+        for message in 0..last.min(self.pattern.messages().len()) {
+            self.push_puts_in(message, tokens)?;
         }
-        message = message.saturating_add(1);
+        Ok(())
     }
-    Ok(())
-}
 
-fn push_puts_in(
-    alloc: Global,
-    pattern: &Pattern,
-    message: usize,
-    old: &[Token],
-    tokens: &[Token],
-    found: &mut Vec<Correction>,
-) -> Result<(), AllocError> {
-    for place in 0..old.len().saturating_add(1) {
-        let put = with_tokens(alloc, old, place, tokens)?;
-        push_one(alloc, rewritten(alloc, pattern, message, &put)?, found)?;
-    }
-    Ok(())
-}
-
-// The token at a place moved to each place of these messages.
-fn push_moves(
-    alloc: Global,
-    pattern: &Pattern,
-    from: At,
-    (first, end): (usize, usize),
-    found: &mut Vec<Correction>,
-) -> Result<(), AllocError> {
-    let old = tokens_at(pattern.messages(), from.message);
-    let Some(token) = old.get(from.token).copied() else {
-        return Ok(());
-    };
-    let left = without_token(alloc, old, from.token)?;
-    for message in first..end.min(pattern.messages().len()) {
-        push_moves_to(alloc, pattern, (from.message, &left), message, token, found)?;
-    }
-    Ok(())
-}
-
-// The token, which was taken out of the first message, put at each place of the other one.
-fn push_moves_to(
-    alloc: Global,
-    pattern: &Pattern,
-    from: (usize, &[Token]),
-    message: usize,
-    token: Token,
-    found: &mut Vec<Correction>,
-) -> Result<(), AllocError> {
-    let old = if message == from.0 {
-        from.1
-    } else {
-        tokens_at(pattern.messages(), message)
-    };
-    for place in 0..old.len().saturating_add(1) {
-        let put = with_tokens(alloc, old, place, &[token])?;
-        let mut changes = Vec::new(alloc);
-        if message != from.0 {
-            changes.push(rewritten(alloc, pattern, from.0, from.1)?)?;
+    fn push_puts_in(&mut self, message: usize, tokens: &[Token]) -> Result<(), AllocError> {
+        let old = tokens_at(self.pattern.messages(), message);
+        for place in 0..old.len().saturating_add(1) {
+            let put = replaced(self.alloc, old, place, 0, tokens)?;
+            let change = self.written(message, &put)?;
+            self.push_one(change)?;
         }
-        changes.push(rewritten(alloc, pattern, message, &put)?)?;
-        found.push(Correction { changes })?;
+        Ok(())
     }
-    Ok(())
-}
 
-// A token left out; or its message, where that has no other one and is the last.
-fn push_out(
-    alloc: Global,
-    pattern: &Pattern,
-    place: At,
-    found: &mut Vec<Correction>,
-) -> Result<(), AllocError> {
-    let old = tokens_at(pattern.messages(), place.message);
-    if old.len() > 1 {
-        let left = without_token(alloc, old, place.token)?;
-        push_one(
-            alloc,
-            rewritten(alloc, pattern, place.message, &left)?,
-            found,
-        )
-    } else {
-        push_one(alloc, Change::Out(line_of(pattern, place.message)), found)
-    }
-}
-
-// A key of a party named above the messages.
-fn push_named(
-    alloc: Global,
-    pattern: &Pattern,
-    owner: Role,
-    key: Token,
-    found: &mut Vec<Correction>,
-) -> Result<(), AllocError> {
-    let number = known_line(pattern, owner);
-    let mut changes = Vec::new(alloc);
-    if pattern.pre(owner).is_empty() {
-        changes.push(Change::Put(number, body(alloc, owner, &[key])?))?;
-        if pattern.pre(owner.other()).is_empty() {
-            changes.push(Change::Put(3, dots(alloc)?))?;
+    // The token at a place moved to each place of these messages, which count from 0.
+    fn push_moves(&mut self, from: Spot, first: usize, end: usize) -> Result<(), AllocError> {
+        let at = from.message.saturating_sub(1);
+        let old = tokens_at(self.pattern.messages(), at);
+        let Some(token) = old.get(from.token).copied() else {
+            return Ok(());
+        };
+        let left = replaced(self.alloc, old, from.token, 1, &[])?;
+        for message in first..end.min(self.pattern.messages().len()) {
+            self.push_moves_to(at, &left, message, token)?;
         }
-    } else {
-        let line = body(alloc, owner, &[Token::E, Token::S])?;
-        changes.push(Change::Write(number, line))?;
+        Ok(())
     }
-    found.push(Correction { changes })?;
-    Ok(())
-}
 
-// A key of a party that is named above the messages, no longer named.
-fn push_unnamed(
-    alloc: Global,
-    pattern: &Pattern,
-    owner: Role,
-    key: Token,
-    found: &mut Vec<Correction>,
-) -> Result<(), AllocError> {
-    let number = known_line(pattern, owner);
-    let known = pattern.pre(owner);
-    let mut changes = Vec::new(alloc);
-    match known {
-        [] => return Ok(()),
-        [_] => {
-            changes.push(Change::Out(number))?;
-            if pattern.pre(owner.other()).is_empty() {
+    // The token, which was taken out of the first message, put at each place of the other one.
+    fn push_moves_to(
+        &mut self,
+        from: usize,
+        left: &[Token],
+        message: usize,
+        token: Token,
+    ) -> Result<(), AllocError> {
+        let old = if message == from {
+            left
+        } else {
+            tokens_at(self.pattern.messages(), message)
+        };
+        for place in 0..old.len().saturating_add(1) {
+            let mut changes = Vec::new(self.alloc);
+            if message != from {
+                changes.push(self.written(from, left)?)?;
+            }
+            let put = replaced(self.alloc, old, place, 0, &[token])?;
+            changes.push(self.written(message, &put)?)?;
+            self.found.push(Correction { changes })?;
+        }
+        Ok(())
+    }
+
+    // A token left out; or its message, where that has no other one and is the last.
+    fn push_out(&mut self, place: Spot) -> Result<(), AllocError> {
+        let message = place.message.saturating_sub(1);
+        let old = tokens_at(self.pattern.messages(), message);
+        let change = if old.len() > 1 {
+            let left = replaced(self.alloc, old, place.token, 1, &[])?;
+            self.written(message, &left)?
+        } else {
+            Change::Out(self.line_of(message))
+        };
+        self.push_one(change)
+    }
+
+    // A key of a party named above the messages.
+    fn push_named(&mut self, owner: Role, key: Token) -> Result<(), AllocError> {
+        let number = self.known_line(owner);
+        let mut changes = Vec::new(self.alloc);
+        if self.pattern.pre(owner).is_empty() {
+            changes.push(Change::Put(number, body(self.alloc, owner, &[key])?))?;
+            if self.pattern.pre(owner.other()).is_empty() {
+                let dots = Vec::from_slice(self.alloc, b"  ...")?;
+                changes.push(Change::Put(3, dots))?;
+            }
+        } else {
+            let line = body(self.alloc, owner, &[Token::E, Token::S])?;
+            changes.push(Change::Write(number, line))?;
+        }
+        self.found.push(Correction { changes })?;
+        Ok(())
+    }
+
+    // A key of a party that is named above the messages, no longer named.
+    fn push_unnamed(&mut self, owner: Role, key: Token) -> Result<(), AllocError> {
+        let number = self.known_line(owner);
+        let mut changes = Vec::new(self.alloc);
+        match self.pattern.pre(owner) {
+            [] => return Ok(()),
+            [_] => {
                 changes.push(Change::Out(number))?;
+                if self.pattern.pre(owner.other()).is_empty() {
+                    changes.push(Change::Out(number))?;
+                }
+            }
+            _ => {
+                let other = if key == Token::E { Token::S } else { Token::E };
+                changes.push(Change::Write(number, body(self.alloc, owner, &[other])?))?;
             }
         }
-        _ => {
-            let other = if key == Token::E { Token::S } else { Token::E };
-            changes.push(Change::Write(number, body(alloc, owner, &[other])?))?;
+        self.found.push(Correction { changes })?;
+        Ok(())
+    }
+
+    fn push_one(&mut self, change: Change) -> Result<(), AllocError> {
+        let mut changes = Vec::new(self.alloc);
+        changes.push(change)?;
+        self.found.push(Correction { changes })?;
+        Ok(())
+    }
+
+    // The line of a party's keys that are known before.
+    fn known_line(&self, owner: Role) -> usize {
+        if owner == Role::Initiator || self.pattern.pre(Role::Initiator).is_empty() {
+            2
+        } else {
+            3
         }
     }
-    found.push(Correction { changes })?;
-    Ok(())
-}
 
-// The line of a party's keys that are known before.
-fn known_line(pattern: &Pattern, owner: Role) -> usize {
-    if owner == Role::Initiator || pattern.pre(Role::Initiator).is_empty() {
-        2
-    } else {
-        3
+    // The line of a message, which counts from 0.
+    fn line_of(&self, message: usize) -> usize {
+        message
+            .saturating_add(pre_line_count(self.pattern))
+            .saturating_add(2)
     }
-}
 
-// The line of a message, which counts from 0.
-fn line_of(pattern: &Pattern, message: usize) -> usize {
-    message
-        .saturating_add(pre_line_count(pattern))
-        .saturating_add(2)
-}
-
-fn rewritten(
-    alloc: Global,
-    pattern: &Pattern,
-    message: usize,
-    tokens: &[Token],
-) -> Result<Change, AllocError> {
-    let sender = sender_of(message.saturating_add(1));
-    Ok(Change::Write(line_of(pattern, message), body(alloc, sender, tokens)?))
-}
-
-fn push_one(alloc: Global, change: Change, found: &mut Vec<Correction>) -> Result<(), AllocError> {
-    let mut changes = Vec::new(alloc);
-    changes.push(change)?;
-    found.push(Correction { changes })?;
-    Ok(())
+    // The line of a message with these tokens.
+    fn written(&self, message: usize, tokens: &[Token]) -> Result<Change, AllocError> {
+        let line = body(self.alloc, sender_of(message.saturating_add(1)), tokens)?;
+        Ok(Change::Write(self.line_of(message), line))
+    }
 }
 
 // A line of tokens, without its line feed.
 fn body(alloc: Global, sender: Role, tokens: &[Token]) -> Result<Vec<u8>, AllocError> {
-    let arrow = match sender {
-        Role::Initiator => b"  -> ".as_slice(),
-        Role::Responder => b"  <- ".as_slice(),
-    };
     let mut line = Vec::new(alloc);
-    line.extend_from_slice(arrow)?;
-    for (index, token) in tokens.iter().enumerate() {
-        if index > 0 {
-            line.extend_from_slice(b", ".as_slice())?;
-        }
+    line.extend_from_slice(match sender {
+        Role::Initiator => b"  -> ",
+        Role::Responder => b"  <- ",
+    })?;
+    let mut between: &[u8] = b"";
+    for token in tokens {
+        line.extend_from_slice(between)?;
         line.extend_from_slice(token_word(*token).as_bytes())?;
+        between = b", ";
     }
     Ok(line)
 }
 
-fn dots(alloc: Global) -> Result<Vec<u8>, AllocError> {
-    let mut line = Vec::new(alloc);
-    line.extend_from_slice(b"  ...".as_slice())?;
-    Ok(line)
-}
-
-fn with_tokens(
+// Tokens with others in place of so many at a place.
+fn replaced(
     alloc: Global,
     old: &[Token],
     place: usize,
-    tokens: &[Token],
+    count: usize,
+    put: &[Token],
 ) -> Result<Vec<Token>, AllocError> {
     let (front, back) = old.split_at(place.min(old.len()));
-    let mut all = Vec::new(alloc);
-    all.extend_from_slice(front)?;
-    all.extend_from_slice(tokens)?;
-    all.extend_from_slice(back)?;
+    let (_, after) = back.split_at(count.min(back.len()));
+    let mut all = Vec::from_slice(alloc, front)?;
+    all.extend_from_slice(put)?;
+    all.extend_from_slice(after)?;
     Ok(all)
-}
-
-fn without_token(alloc: Global, old: &[Token], place: usize) -> Result<Vec<Token>, AllocError> {
-    let (front, back) = old.split_at(place.min(old.len()));
-    let mut left = Vec::new(alloc);
-    left.extend_from_slice(front)?;
-    if let Some((_, after)) = back.split_first() {
-        left.extend_from_slice(after)?;
-    }
-    Ok(left)
 }

@@ -136,45 +136,20 @@ const NONE: PartyCounts = PartyCounts {
 
 impl PartyCounts {
     // After one act more, of a handshake of so many messages.
+    #[rattlefmt::skip]
     fn after(self, act: Act, messages: usize) -> PartyCounts
         ensures counted { (acts : List Act) → length acts < 2 ^ 64 - 1
             → CountsParty messages acts self → CountsParty messages (acts ++ act ∷ []) result }
     {
         match (act, self.passed < messages) {
-            (Act::Wrote, true) => PartyCounts {
-                passed: more(self.passed),
-                wrote: more(self.wrote),
-                ..self
-            },
-            (Act::Wrote, false) => PartyCounts {
-                sent: more(self.sent),
-                ..self
-            },
-            (Act::Accepted, true) => PartyCounts {
-                passed: more(self.passed),
-                accepted: more(self.accepted),
-                ..self
-            },
-            (Act::Accepted, false) => PartyCounts {
-                received: more(self.received),
-                ..self
-            },
-            (Act::Dropped, _) => PartyCounts {
-                dropped: more(self.dropped),
-                ..self
-            },
-            (Act::Sealed, _) => PartyCounts {
-                sealed: more(self.sealed),
-                ..self
-            },
-            (Act::Opened, _) => PartyCounts {
-                opened: more(self.opened),
-                ..self
-            },
-            (Act::Rejected, _) => PartyCounts {
-                rejected: more(self.rejected),
-                ..self
-            },
+            (Act::Wrote, true) => PartyCounts { passed: more(self.passed), wrote: more(self.wrote), ..self },
+            (Act::Wrote, false) => PartyCounts { sent: more(self.sent), ..self },
+            (Act::Accepted, true) => PartyCounts { passed: more(self.passed), accepted: more(self.accepted), ..self },
+            (Act::Accepted, false) => PartyCounts { received: more(self.received), ..self },
+            (Act::Dropped, _) => PartyCounts { dropped: more(self.dropped), ..self },
+            (Act::Sealed, _) => PartyCounts { sealed: more(self.sealed), ..self },
+            (Act::Opened, _) => PartyCounts { opened: more(self.opened), ..self },
+            (Act::Rejected, _) => PartyCounts { rejected: more(self.rejected), ..self },
         }
     }
 }

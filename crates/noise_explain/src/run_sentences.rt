@@ -48,38 +48,22 @@ fn count_lines(alloc: Global, counts: &RunCounts) -> Result<Vec<u8>, AllocError>
 }
 
 // What is counted, and how a party makes one.
-#[derive(Clone, Copy)]
-struct Kind {
-    what: &'static str,
-    verb: &'static str,
-}
+type Kind = (&'static str, &'static str);
 
-const HANDSHAKE: Kind = Kind {
-    what: "handshake messages",
-    verb: "wrote",
-};
+const HANDSHAKE: Kind = ("handshake messages", "wrote");
 
-const TRANSPORT: Kind = Kind {
-    what: "transport messages",
-    verb: "wrote",
-};
+const TRANSPORT: Kind = ("transport messages", "wrote");
 
-const DATAGRAMS: Kind = Kind {
-    what: "datagrams",
-    verb: "sealed",
-};
+const DATAGRAMS: Kind = ("datagrams", "sealed");
 
 // How many of these each party made and accepted.
 fn push_counts(
     alloc: Global,
-    kind: Kind,
-    initiator: (usize, usize),
-    responder: (usize, usize),
+    (what, verb): Kind,
+    (first, second): (usize, usize),
+    (third, fourth): (usize, usize),
     text: &mut Vec<u8>,
 ) -> Result<(), AllocError> {
-    let Kind { what, verb } = kind;
-    let (first, second) = initiator;
-    let (third, fourth) = responder;
     let line = format!(in alloc;
         "{what}: the initiator {verb} {first} and accepted {second}, the responder {verb} {third} and accepted {fourth}"
     )?;
@@ -89,15 +73,13 @@ fn push_counts(
 // How many of these each party refused, where any.
 fn push_refused(
     alloc: Global,
-    kind: Kind,
-    refused: (usize, usize),
+    (what, _): Kind,
+    (first, second): (usize, usize),
     text: &mut Vec<u8>,
 ) -> Result<(), AllocError> {
-    let (first, second) = refused;
     if first == 0 && second == 0 {
         return Ok(());
     }
-    let what = kind.what;
     let line = format!(in alloc; "{what}: the initiator refused {first}, the responder {second}")?;
     push_fact(line.as_str(), text)
 }
@@ -116,19 +98,18 @@ fn push_refusal(
         cause,
     } = refusal;
     let who = role_word(role);
-    let piece = piece_name(pattern, message, usize::from(token));
+    let token_spot = Spot {
+        message,
+        token: usize::from(token),
+    };
+    let piece = match token_at(pattern.messages(), token_spot) {
+        Some(token) => token_word(token),
+        None => "its payload",
+    };
     let line = format!(in alloc;
         "The {who} refused message {message} at token {token}, {piece}: {cause}"
     )?;
     push_fact(line.as_str(), text)
-}
-
-// The token of this number in a message, or the payload after the last.
-fn piece_name(pattern: &Pattern, message: usize, token: usize) -> &'static str {
-    match token_at(pattern.messages(), Spot { message, token }) {
-        Some(token) => token_word(token),
-        None => "its payload",
-    }
 }
 
 fn session_says(initiator: bool, responder: bool) -> &'static str {

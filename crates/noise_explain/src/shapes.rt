@@ -8,33 +8,12 @@ use noise_vectors::{
     is_hex_word, read_cuts, read_key, read_number, read_optional_key, read_own, read_role,
 };
 
-/// What a word has to be.
+/// What a word has to be: its shape is told in `word_sentences`.
+#[rattlefmt::skip]
 #[derive(Clone, Copy, Debug, PartialEq, Eq)]
 pub(crate) enum Shape {
-    /// The first word of the line, by which the others are reported.
-    First,
-    /// A protocol's name.
-    Name,
-    /// `1` or `2`.
-    Version,
-    /// `xor` or `table`.
-    Kind,
-    /// `initiator` or `responder`.
-    Role,
-    /// `e` or `s`.
-    Own,
-    /// `64`, `256` or `1024`.
-    Window,
-    /// At most so many bytes in hex.
-    Hex(usize),
-    /// A key in hex.
-    Key,
-    /// A key in hex, or `-`.
-    MaybeKey,
-    /// A number, at most this one.
-    Number(u64),
-    /// The pieces of a frame.
-    Cuts,
+    // `First` is the first word of the line, by which the others are reported; the numbers are the greatest.
+    First, Name, Version, Kind, Role, Own, Window, Hex(usize), Key, MaybeKey, Number(u64), Cuts,
 }
 
 // Whether a word is what this shape says.

@@ -62,35 +62,21 @@ fn heading_advice(line: &[u8], piece: &[u8]) -> Advice {
         return Advice::VectorHeading;
     }
     let words = without_spaces(line);
-    if has_arrow(words) {
+    if words.starts_with(b"->".as_slice()) || words.starts_with(b"<-".as_slice()) {
         return Advice::HeadingMissing;
     }
     if words.len() < line.len() {
         return Advice::HeadingIndented;
     }
-    let Some(first) = piece.first().copied() else {
-        return Advice::ColonMissing;
-    };
-    if piece.starts_with(b"psk".as_slice()) {
-        modifiers_advice(piece)
-    } else if first.is_ascii_digit() && line.len() == piece.len() {
-        Advice::NameFirst
-    } else if first.is_ascii_uppercase() || first.is_ascii_digit() {
-        Advice::NameLength
-    } else if piece.len() < line.len() && is_modifier(piece) {
-        Advice::Modifier
-    } else if first.is_ascii_lowercase() {
-        Advice::NameCase
-    } else {
-        Advice::Heading
-    }
-}
-
-fn modifiers_advice(piece: &[u8]) -> Advice {
-    if piece.contains(&b':') {
-        Advice::Modifiers
-    } else {
-        Advice::ColonMissing
+    match piece.first().copied() {
+        None => Advice::ColonMissing,
+        _ if piece.starts_with(b"psk".as_slice()) && piece.contains(&b':') => Advice::Modifiers,
+        _ if piece.starts_with(b"psk".as_slice()) => Advice::ColonMissing,
+        Some(b'0'..=b'9') if line.len() == piece.len() => Advice::NameFirst,
+        Some(b'A'..=b'Z') | Some(b'0'..=b'9') => Advice::NameLength,
+        _ if piece.len() < line.len() && is_modifier(piece) => Advice::Modifier,
+        Some(b'a'..=b'z') => Advice::NameCase,
+        _ => Advice::Heading,
     }
 }
 
@@ -108,10 +94,6 @@ fn is_modifier(piece: &[u8]) -> bool {
     piece.starts_with(b"fallback".as_slice()) || piece.starts_with(b"hfs".as_slice())
 }
 
-fn has_arrow(line: &[u8]) -> bool {
-    line.starts_with(b"->".as_slice()) || line.starts_with(b"<-".as_slice())
-}
-
 // What is wrong with a line of no arrow.
 fn arrow_advice(line: &[u8]) -> Advice {
     match without_spaces(line).first().copied() {
@@ -121,7 +103,7 @@ fn arrow_advice(line: &[u8]) -> Advice {
     }
 }
 
-fn without_spaces(line: &[u8]) -> &[u8] {
+pub(crate) fn without_spaces(line: &[u8]) -> &[u8] {
     let count = line.iter().take_while(|b| **b == b' ').count();
     let (_, words) = line.split_at(count);
     words
@@ -141,8 +123,7 @@ fn token_advice(rest: &[u8]) -> Advice {
         return Advice::Token;
     }
     match after.first().copied() {
-        Some(b' ') => Advice::TokensJoined,
-        Some(b',') => Advice::TokensJoined,
+        Some(b' ') | Some(b',') => Advice::TokensJoined,
         _ => Advice::Token,
     }
 }

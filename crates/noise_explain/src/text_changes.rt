@@ -2,89 +2,153 @@
 
 use crate::change::{Change, corrected};
 use crate::judged::Correction;
+use crate::line_column::first_word;
 use crate::position::{after_line, from_line, line_at};
 use crate::text_advice::is_keys;
-use crate::tidy::{has_psk, push_modifiers, tidy_line};
-use noise_names::{TextFault, TextFaultKind};
+use crate::tidy::{has_psk, joined, push_modifiers, tidy_line};
+use noise_names::{TextFault, TextFaultKind, base_len};
 use std::alloc::{AllocError, Global};
 
+// The changes that one correction makes. In a table each comes where it is told first.
+#[derive(Clone, Copy)]
+enum Repair {
+    // A line feed at the end.
+    LineFeed,
+    // No carriage returns.
+    NoReturns,
+    // The line as the format has it, or left out where nothing stands in it.
+    Tidy,
+    // The same of all lines.
+    AllTidy,
+    // The heading with the places of the psks of the messages.
+    Placed,
+    // The heading with a name of one's own.
+    Named,
+    // A heading above.
+    HeadingAbove,
+    // The line left out, unless it has a psk.
+    Out,
+    // The line and the one before it in the other order.
+    Swapped,
+    // "..." below the line, where it may be one of keys that are known before.
+    DotsBelow,
+    // A first message.
+    Message,
+    // A first message, and a heading of one's own.
+    NamedMessage,
+    // The line written so.
+    Line(Rewriting),
+    // The line written so, and then the heading with the places of the psks.
+    LineAndPlaces(Rewriting),
+}
+
+// How a line of tokens is written.
+#[rattlefmt::skip]
+#[derive(Clone, Copy)]
+enum Rewriting { Tidy, ArrowTurned, WithE, AfterE, OnceEach, PsksMoved, PieceLeftOut }
+
+#[rattlefmt::skip]
+const ALWAYS: [Repair; 4] = [Repair::LineFeed, Repair::NoReturns, Repair::Tidy, Repair::AllTidy];
+
+// Those that only a fault of this kind may need.
+#[rattlefmt::skip]
+fn repairs_of(kind: TextFaultKind) -> &'static [Repair] {
+    match kind {
+        TextFaultKind::Heading | TextFaultKind::NameTaken => &[Repair::Placed, Repair::Named, Repair::HeadingAbove],
+        TextFaultKind::PskPlace => &[
+            Repair::Placed, Repair::Named, Repair::HeadingAbove,
+            Repair::Line(Rewriting::PsksMoved), Repair::LineAndPlaces(Rewriting::PsksMoved),
+        ],
+        TextFaultKind::Arrow => &[Repair::Out],
+        TextFaultKind::Token => &[
+            Repair::Line(Rewriting::Tidy), Repair::LineAndPlaces(Rewriting::Tidy),
+            Repair::Line(Rewriting::PieceLeftOut), Repair::LineAndPlaces(Rewriting::PieceLeftOut),
+        ],
+        TextFaultKind::PreMessage => &[Repair::Swapped, Repair::Out],
+        TextFaultKind::Turn => &[Repair::DotsBelow, Repair::Line(Rewriting::ArrowTurned)],
+        TextFaultKind::Limit => &[
+            Repair::Line(Rewriting::OnceEach), Repair::LineAndPlaces(Rewriting::OnceEach),
+            Repair::Line(Rewriting::WithE), Repair::LineAndPlaces(Rewriting::WithE),
+            Repair::Line(Rewriting::AfterE), Repair::LineAndPlaces(Rewriting::AfterE),
+        ],
+        TextFaultKind::Ending => &[Repair::Message, Repair::NamedMessage],
+    }
+}
+
+// A text, and the line and the column of its fault.
+#[derive(Clone, Copy)]
+struct Wrong<'a> {
+    alloc: Global,
+    text: &'a [u8],
+    number: usize,
+    line: &'a [u8],
+    column: usize,
+}
+
 // The corrections to try of a text with this fault at this column, those first that are told first.
+#[rattlefmt::skip]
 pub(crate) fn text_candidates(
     alloc: Global,
     text: &[u8],
     fault: TextFault,
     column: usize,
 ) -> Result<Vec<Correction>, AllocError> {
+    let (number, line) = (fault.line, line_at(text, fault.line));
+    let at = Wrong { alloc, text, number, line, column };
     let mut found = Vec::new(alloc);
-    if text.last() != Some(&b'\n') {
-        push_one(alloc, Change::LineFeed, &mut found)?;
-    }
-    if text.contains(&b'\r') {
-        push_one(alloc, Change::NoReturns, &mut found)?;
-    }
-    let line = line_at(text, fault.line);
-    push_tidy_one(alloc, fault.line, line, &mut found)?;
-    push_tidy_all(alloc, text, &mut found)?;
-    push_by_kind(alloc, text, fault, column, &mut found)?;
+    push_repairs(at, &ALWAYS, &mut found)?;
+    push_repairs(at, repairs_of(fault.kind), &mut found)?;
     Ok(found)
 }
 
-// Those that only a fault of this kind may need.
-fn push_by_kind(
-    alloc: Global,
-    text: &[u8],
-    fault: TextFault,
-    column: usize,
+fn push_repairs(
+    at: Wrong<'_>,
+    repairs: &[Repair],
     found: &mut Vec<Correction>,
 ) -> Result<(), AllocError> {
-    let number = fault.line;
-    let line = line_at(text, number);
-    match fault.kind {
-        TextFaultKind::Heading | TextFaultKind::NameTaken => push_headings(alloc, text, found),
-        TextFaultKind::PskPlace => {
-            push_headings(alloc, text, found)?;
-            push_psks_moved(alloc, text, number, line, found)
-        }
-        TextFaultKind::Arrow => push_out(alloc, number, line, found),
-        TextFaultKind::Token => {
-            push_placed(alloc, text, number, tidy_line(alloc, line, false)?, found)?;
-            push_without_piece(alloc, text, number, column, found)
-        }
-        TextFaultKind::PreMessage => {
-            push_swapped(alloc, text, number, line, found)?;
-            push_out(alloc, number, line, found)
-        }
-        TextFaultKind::Turn => push_turned(alloc, number, line, found),
-        TextFaultKind::Limit => {
-            push_placed(alloc, text, number, once_each(alloc, line)?, found)?;
-            push_placed(alloc, text, number, with_e(alloc, line)?, found)?;
-            push_placed(alloc, text, number, after_e(alloc, line)?, found)
-        }
-        TextFaultKind::Ending => push_message(alloc, text, number, found),
+    for repair in repairs {
+        let mut changes = Vec::new(at.alloc);
+        push_changes(at, *repair, &mut changes)?;
+        found.push(Correction { changes })?;
     }
-}
-
-fn push_one(alloc: Global, change: Change, found: &mut Vec<Correction>) -> Result<(), AllocError> {
-    let mut changes = Vec::new(alloc);
-    changes.push(change)?;
-    found.push(Correction { changes })?;
     Ok(())
 }
 
-fn copy(alloc: Global, line: &[u8]) -> Result<Vec<u8>, AllocError> {
-    let mut same = Vec::new(alloc);
-    same.extend_from_slice(line)?;
-    Ok(same)
+// Appends the changes of a correction; none where it can't be made.
+fn push_changes(at: Wrong<'_>, by: Repair, changes: &mut Vec<Change>) -> Result<(), AllocError> {
+    let number = at.number;
+    match by {
+        Repair::LineFeed if at.text.last() != Some(&b'\n') => changes.push(Change::LineFeed)?,
+        Repair::NoReturns if at.text.contains(&b'\r') => changes.push(Change::NoReturns)?,
+        Repair::Tidy => changes.push(tidied(at.alloc, number, at.line)?)?,
+        Repair::AllTidy => push_tidy(at.alloc, at.text, changes)?,
+        Repair::Placed => changes.push(placed(at.alloc, at.text)?)?,
+        Repair::Named => changes.push(named(at)?)?,
+        Repair::HeadingAbove => changes.push(put(at, 1, b"MINE:")?)?,
+        Repair::Out if !has_psk(at.line) => changes.push(Change::Out(number))?,
+        Repair::Swapped if number > 2 => push_swapped(at, changes)?,
+        Repair::DotsBelow if number == 2 && is_keys(at.line) => {
+            changes.push(put(at, 3, b"  ...")?)?;
+        }
+        Repair::Message => changes.push(put(at, number, b"  -> e")?)?,
+        Repair::NamedMessage => {
+            changes.push(named(at)?)?;
+            changes.push(put(at, number, b"  -> e")?)?;
+        }
+        Repair::Line(words) => push_line(at, words, changes)?,
+        Repair::LineAndPlaces(words) => push_placed(at, words, changes)?,
+        _ => {}
+    }
+    Ok(())
+}
+
+fn put(at: Wrong<'_>, number: usize, line: &[u8]) -> Result<Change, AllocError> {
+    Ok(Change::Put(number, Vec::from_slice(at.alloc, line)?))
 }
 
 // The line as the format has it, or left out where nothing stands in it.
-fn tidy_change(
-    alloc: Global,
-    number: usize,
-    line: &[u8],
-    is_first: bool,
-) -> Result<Change, AllocError> {
-    let made = tidy_line(alloc, line, is_first)?;
+fn tidied(alloc: Global, number: usize, line: &[u8]) -> Result<Change, AllocError> {
+    let made = tidy_line(alloc, line, number == 1)?;
     Ok(if made.is_empty() {
         Change::Out(number)
     } else {
@@ -92,111 +156,60 @@ fn tidy_change(
     })
 }
 
-fn push_tidy_one(
-    alloc: Global,
-    number: usize,
-    line: &[u8],
-    found: &mut Vec<Correction>,
-) -> Result<(), AllocError> {
-    push_one(alloc, tidy_change(alloc, number, line, number == 1)?, found)
-}
-
-// All lines as the format has them. A pattern has at most 12.
-fn push_tidy_all(
-    alloc: Global,
-    text: &[u8],
-    found: &mut Vec<Correction>,
-) -> Result<(), AllocError> {
-    let mut changes = Vec::new(alloc);
+// Appends the changes of all lines that aren't as the format has them. A pattern has at most 12.
+fn push_tidy(alloc: Global, text: &[u8], changes: &mut Vec<Change>) -> Result<(), AllocError> {
     let mut rest = text;
     let mut number: usize = 1;
     for _ in 0..40 {
         if rest.is_empty() {
-            break;
+            return Ok(());
         }
         let line = line_at(rest, 1);
-        let change = tidy_change(alloc, number, line, number == 1)?;
-        if let Some(is_out) = is_changed(&change, line) {
-            changes.push(change)?;
-            number = number.saturating_sub(usize::from(is_out));
+        let made = tidy_line(alloc, line, number == 1)?;
+        rest = after_line(rest);
+        if made.is_empty() {
+            changes.push(Change::Out(number))?;
+            continue;
+        }
+        if made.as_slice() != line {
+            changes.push(Change::Write(number, made))?;
         }
         number = number.saturating_add(1);
-        rest = after_line(rest);
     }
-    found.push(Correction { changes })?;
     Ok(())
 }
 
-// Whether a change leaves this line out, where it does change it.
-fn is_changed(change: &Change, line: &[u8]) -> Option<bool> {
-    match change {
-        Change::Write(_, made) => {
-            let is_same = made.as_slice() == line;
-            if is_same { None } else { Some(false) }
-        }
-        _ => Some(true),
-    }
-}
-
-// Another heading, or one above.
-fn push_headings(
-    alloc: Global,
-    text: &[u8],
-    found: &mut Vec<Correction>,
-) -> Result<(), AllocError> {
-    push_one(alloc, Change::Write(1, placed(alloc, text)?), found)?;
-    push_one(
-        alloc,
-        Change::Write(1, own_heading(alloc, line_at(text, 1))?),
-        found,
-    )?;
-    push_one(
-        alloc,
-        Change::Put(1, copy(alloc, b"MINE:".as_slice())?),
-        found,
-    )
-}
-
 // The heading with a name of one's own.
-fn own_heading(alloc: Global, heading: &[u8]) -> Result<Vec<u8>, AllocError> {
-    let mut line = copy(alloc, b"MINE".as_slice())?;
-    push_modifiers(heading, &mut line)?;
+fn named(at: Wrong<'_>) -> Result<Change, AllocError> {
+    let mut line = Vec::from_slice(at.alloc, b"MINE")?;
+    push_modifiers(line_at(at.text, 1), &mut line)?;
     line.push(b':')?;
-    Ok(line)
+    Ok(Change::Write(1, line))
 }
 
 // The heading with the places of the psks of the messages.
-fn placed(alloc: Global, text: &[u8]) -> Result<Vec<u8>, AllocError> {
+fn placed(alloc: Global, text: &[u8]) -> Result<Change, AllocError> {
     let heading = line_at(text, 1);
-    let count = heading
-        .iter()
-        .take_while(|b| b.is_ascii_uppercase() || b.is_ascii_digit())
-        .count();
-    let (base, _) = heading.split_at(count.min(heading.len()));
-    let mut line = copy(alloc, base)?;
+    let (base, _) = heading.split_at(base_len(heading).min(heading.len()));
+    let mut line = Vec::from_slice(alloc, base)?;
     push_places(text, &mut line)?;
     line.push(b':')?;
-    Ok(line)
+    Ok(Change::Write(1, line))
 }
 
 // Appends a modifier for each message with a psk at its end, and for a first one with one at its front.
 fn push_places(text: &[u8], line: &mut Vec<u8>) -> Result<(), AllocError> {
     let mut rest = first_message(text);
-    let mut has = false;
+    let mut front: &[u8] = b"psk";
     if line_at(rest, 1).get(5..8) == Some(b"psk".as_slice()) {
-        line.extend_from_slice(b"psk0".as_slice())?;
-        has = true;
+        line.extend_from_slice(b"psk0")?;
+        front = b"+psk";
     }
     for digit in b'1'..b'9' {
-        let message = line_at(rest, 1);
-        if message.ends_with(b", psk".as_slice()) {
-            line.extend_from_slice(if has {
-                b"+psk".as_slice()
-            } else {
-                b"psk".as_slice()
-            })?;
+        if line_at(rest, 1).ends_with(b", psk") {
+            line.extend_from_slice(front)?;
             line.push(digit)?;
-            has = true;
+            front = b"+psk";
         }
         rest = after_line(rest);
     }
@@ -213,177 +226,110 @@ fn first_message(text: &[u8]) -> &[u8] {
     from_line(text, 2)
 }
 
-// The line left out, unless it has a psk.
-fn push_out(
-    alloc: Global,
-    number: usize,
-    line: &[u8],
-    found: &mut Vec<Correction>,
-) -> Result<(), AllocError> {
-    if has_psk(line) {
-        return Ok(());
-    }
-    push_one(alloc, Change::Out(number), found)
-}
-
-// The line and the one before it in the other order.
-fn push_swapped(
-    alloc: Global,
-    text: &[u8],
-    number: usize,
-    line: &[u8],
-    found: &mut Vec<Correction>,
-) -> Result<(), AllocError> {
-    let above = number.saturating_sub(1);
-    if above < 2 {
-        return Ok(());
-    }
-    let mut changes = Vec::new(alloc);
-    changes.push(Change::Write(above, copy(alloc, line)?))?;
-    changes.push(Change::Write(number, copy(alloc, line_at(text, above))?))?;
-    found.push(Correction { changes })?;
+fn push_swapped(at: Wrong<'_>, changes: &mut Vec<Change>) -> Result<(), AllocError> {
+    let number = at.number.saturating_sub(1);
+    let above = line_at(at.text, number);
+    changes.push(Change::Write(number, Vec::from_slice(at.alloc, at.line)?))?;
+    changes.push(Change::Write(at.number, Vec::from_slice(at.alloc, above)?))?;
     Ok(())
 }
 
-// "..." below the line, where it may be one of keys that are known before; or its arrow turned around.
-fn push_turned(
-    alloc: Global,
-    number: usize,
-    line: &[u8],
-    found: &mut Vec<Correction>,
-) -> Result<(), AllocError> {
-    if number == 2 && is_keys(line) {
-        let dots = copy(alloc, b"  ...".as_slice())?;
-        push_one(alloc, Change::Put(3, dots), found)?;
+fn push_line(at: Wrong<'_>, by: Rewriting, changes: &mut Vec<Change>) -> Result<(), AllocError> {
+    if let Some(line) = rewritten(at, by)? {
+        changes.push(Change::Write(at.number, line))?;
     }
-    push_one(alloc, Change::Write(number, turned(alloc, line)?), found)
+    Ok(())
+}
+
+fn push_placed(at: Wrong<'_>, by: Rewriting, changes: &mut Vec<Change>) -> Result<(), AllocError> {
+    let mut first = Vec::new(at.alloc);
+    push_line(at, by, &mut first)?;
+    if first.is_empty() {
+        return Ok(());
+    }
+    let made = corrected(at.alloc, at.text, &first)?;
+    let line = Vec::from_slice(at.alloc, line_at(&made, at.number))?;
+    changes.push(placed(at.alloc, &made)?)?;
+    changes.push(Change::Write(at.number, line))?;
+    Ok(())
+}
+
+// The line of the fault, written so, if it can be.
+fn rewritten(at: Wrong<'_>, by: Rewriting) -> Result<Option<Vec<u8>>, AllocError> {
+    let alloc = at.alloc;
+    let (arrow, list) = at.line.split_at(at.line.len().min(5));
+    let made = match by {
+        Rewriting::Tidy => tidy_line(alloc, at.line, false)?,
+        Rewriting::ArrowTurned => turned(alloc, at.line)?,
+        Rewriting::WithE => joined(alloc, &[at.line, b", e"])?,
+        Rewriting::AfterE => joined(alloc, &[arrow, b"e, ", list])?,
+        Rewriting::OnceEach => once_each(alloc, arrow, list)?,
+        Rewriting::PsksMoved => return psks_moved(alloc, arrow, list),
+        Rewriting::PieceLeftOut => return piece_left_out(at),
+    };
+    Ok(Some(made))
 }
 
 fn turned(alloc: Global, line: &[u8]) -> Result<Vec<u8>, AllocError> {
-    let arrow = if line.starts_with(b"  ->".as_slice()) {
-        b"  <-".as_slice()
+    let (arrow, list) = line.split_at(line.len().min(4));
+    let other: &[u8] = if arrow == b"  ->".as_slice() {
+        b"  <-"
     } else {
-        b"  ->".as_slice()
+        b"  ->"
     };
-    let (_, list) = line.split_at(line.len().min(4));
-    let mut made = copy(alloc, arrow)?;
-    made.extend_from_slice(list)?;
-    Ok(made)
+    joined(alloc, &[other, list])
 }
 
-// The line written so; and then the heading with the places of the psks.
-fn push_placed(
-    alloc: Global,
-    text: &[u8],
-    number: usize,
-    line: Vec<u8>,
-    found: &mut Vec<Correction>,
-) -> Result<(), AllocError> {
-    let mut changes = Vec::new(alloc);
-    changes.push(Change::Write(number, line))?;
-    let made = corrected(alloc, text, &changes)?;
-    let mut both = Vec::new(alloc);
-    both.push(Change::Write(1, placed(alloc, &made)?))?;
-    both.push(Change::Write(number, copy(alloc, line_at(&made, number))?))?;
-    found.push(Correction { changes })?;
-    found.push(Correction { changes: both })?;
-    Ok(())
+// The words of a list, each without the space that stands before it.
+fn names_in(alloc: Global, list: &[u8]) -> Result<Vec<&[u8]>, AllocError> {
+    let mut names = Vec::new(alloc);
+    for word in list.split(|b| *b == b',') {
+        names.push(word.strip_prefix(b" ").unwrap_or(word))?;
+    }
+    Ok(names)
+}
+
+// The line of an arrow and these words, with a comma and a space between two.
+fn listed(alloc: Global, arrow: &[u8], names: &[&[u8]]) -> Result<Vec<u8>, AllocError> {
+    let mut line = Vec::from_slice(alloc, arrow)?;
+    let mut between: &[u8] = b"";
+    for name in names {
+        line.extend_from_slice(between)?;
+        line.extend_from_slice(name)?;
+        between = b", ";
+    }
+    Ok(line)
 }
 
 // The line with its psk at the end; one of two at the front.
-fn push_psks_moved(
-    alloc: Global,
-    text: &[u8],
-    number: usize,
-    line: &[u8],
-    found: &mut Vec<Correction>,
-) -> Result<(), AllocError> {
-    let (arrow, list) = line.split_at(line.len().min(5));
-    let count = list
-        .split(|b| *b == b',')
-        .filter(|word| name_of(*word) == b"psk".as_slice())
-        .count();
-    let mut made = copy(alloc, arrow)?;
-    match count {
-        1 => {}
-        2 => made.extend_from_slice(b"psk, ".as_slice())?,
-        _ => return Ok(()),
-    }
-    push_others(list, &mut made)?;
-    made.extend_from_slice(b"psk".as_slice())?;
-    push_placed(alloc, text, number, made, found)
-}
-
-// Appends the words of a list that aren't psk, each with a comma and a space.
-fn push_others(list: &[u8], made: &mut Vec<u8>) -> Result<(), AllocError> {
-    for word in list.split(|b| *b == b',') {
-        let name = name_of(word);
-        if name != b"psk".as_slice() {
-            made.extend_from_slice(name)?;
-            made.extend_from_slice(b", ".as_slice())?;
+fn psks_moved(alloc: Global, arrow: &[u8], list: &[u8]) -> Result<Option<Vec<u8>>, AllocError> {
+    let psk: &[u8] = b"psk";
+    let names = names_in(alloc, list)?;
+    let mut moved = Vec::new(alloc);
+    for name in &names {
+        if *name != psk {
+            moved.push(*name)?;
         }
     }
-    Ok(())
-}
-
-// A word of a list, without the space that stands before it.
-fn name_of(word: &[u8]) -> &[u8] {
-    word.strip_prefix(b" ").unwrap_or(word)
-}
-
-// The line with an e after its other words.
-fn with_e(alloc: Global, line: &[u8]) -> Result<Vec<u8>, AllocError> {
-    let mut made = copy(alloc, line)?;
-    made.extend_from_slice(b", e".as_slice())?;
-    Ok(made)
-}
-
-// The line with an e before its other words.
-fn after_e(alloc: Global, line: &[u8]) -> Result<Vec<u8>, AllocError> {
-    let (arrow, list) = line.split_at(line.len().min(5));
-    let mut made = copy(alloc, arrow)?;
-    made.extend_from_slice(b"e, ".as_slice())?;
-    made.extend_from_slice(list)?;
-    Ok(made)
-}
-
-// A first message; and with it a heading of one's own.
-fn push_message(
-    alloc: Global,
-    text: &[u8],
-    number: usize,
-    found: &mut Vec<Correction>,
-) -> Result<(), AllocError> {
-    let message = copy(alloc, b"  -> e".as_slice())?;
-    push_one(alloc, Change::Put(number, message), found)?;
-    let mut changes = Vec::new(alloc);
-    changes.push(Change::Write(1, own_heading(alloc, line_at(text, 1))?))?;
-    changes.push(Change::Put(number, copy(alloc, b"  -> e".as_slice())?))?;
-    found.push(Correction { changes })?;
-    Ok(())
-}
-
-// The line without the piece at this column, unless a psk stands in it.
-fn push_without_piece(
-    alloc: Global,
-    text: &[u8],
-    number: usize,
-    column: usize,
-    found: &mut Vec<Correction>,
-) -> Result<(), AllocError> {
-    let line = line_at(text, number);
-    let (front, rest) = line.split_at(column.saturating_sub(1).min(line.len()));
-    let len = rest.iter().take_while(|b| **b != b' ').count();
-    let (piece, after) = rest.split_at(len.min(rest.len()));
-    if has_psk(piece) {
-        return Ok(());
+    match names.len().saturating_sub(moved.len()) {
+        1 => {}
+        2 => moved.insert(0, psk)?,
+        _ => return Ok(None),
     }
-    push_placed(alloc, text, number, joined(alloc, front, after)?, found)
+    moved.push(psk)?;
+    Ok(Some(listed(alloc, arrow, &moved)?))
 }
 
-// What stands before a piece, and what follows it, without the space or the comma between.
-fn joined(alloc: Global, front: &[u8], after: &[u8]) -> Result<Vec<u8>, AllocError> {
-    let mut left = copy(alloc, front)?;
+// The line without the piece at the column, and without the space or the comma between, unless a psk stands in it.
+fn piece_left_out(at: Wrong<'_>) -> Result<Option<Vec<u8>>, AllocError> {
+    let (front, rest) = at
+        .line
+        .split_at(at.column.saturating_sub(1).min(at.line.len()));
+    let (piece, after) = rest.split_at(first_word(rest).len().min(rest.len()));
+    if has_psk(piece) {
+        return Ok(None);
+    }
+    let mut left = Vec::from_slice(at.alloc, front)?;
     match after.split_first() {
         Some((_, next)) if !next.is_empty() => left.extend_from_slice(next)?,
         _ => {
@@ -391,28 +337,17 @@ fn joined(alloc: Global, front: &[u8], after: &[u8]) -> Result<Vec<u8>, AllocErr
             left.truncate(kept);
         }
     }
-    Ok(left)
+    Ok(Some(left))
 }
 
 // The line with each of its tokens once, by its first place; no psk is taken away.
-fn once_each(alloc: Global, line: &[u8]) -> Result<Vec<u8>, AllocError> {
-    let (arrow, list) = line.split_at(line.len().min(5));
-    let mut made = copy(alloc, arrow)?;
-    for word in list.split(|b| *b == b',') {
-        push_once(word, &mut made)?;
+fn once_each(alloc: Global, arrow: &[u8], list: &[u8]) -> Result<Vec<u8>, AllocError> {
+    let psk: &[u8] = b"psk";
+    let mut kept = Vec::new(alloc);
+    for name in &names_in(alloc, list)? {
+        if *name == psk || !kept.contains(name) {
+            kept.push(*name)?;
+        }
     }
-    Ok(made)
-}
-
-fn push_once(word: &[u8], made: &mut Vec<u8>) -> Result<(), AllocError> {
-    let (_, before) = made.split_at(made.len().min(5));
-    let name = name_of(word);
-    let has = before.split(|b| *b == b',').any(|it| name_of(it) == name);
-    if has && name != b"psk".as_slice() {
-        return Ok(());
-    }
-    if !before.is_empty() {
-        made.extend_from_slice(b", ".as_slice())?;
-    }
-    made.extend_from_slice(name)
+    listed(alloc, arrow, &kept)
 }

@@ -1,5 +1,6 @@
 //! Lines as the format has them: their arrows, spaces, commas and letters.
 
+use crate::text_advice::without_spaces;
 use std::alloc::{AllocError, Global};
 
 // A line as the format has it, where it is nearly so: the first one is the heading, unless it has an arrow. What can't
@@ -11,12 +12,12 @@ pub(crate) fn tidy_line(alloc: Global, line: &[u8], is_first: bool) -> Result<Ve
         return Ok(Vec::new(alloc));
     }
     if words.starts_with(b"..".as_slice()) || words.starts_with(b"\xe2\x80\xa6".as_slice()) {
-        return copy(alloc, b"  ...".as_slice());
+        return Vec::from_slice(alloc, b"  ...");
     }
     match after_arrow(words) {
         Some((arrow, list)) => listed(alloc, arrow, list),
         None if is_first => heading(alloc, words),
-        None => copy(alloc, words),
+        None => Vec::from_slice(alloc, words),
     }
 }
 
@@ -41,43 +42,41 @@ fn plain(alloc: Global, line: &[u8]) -> Result<Vec<u8>, AllocError> {
 }
 
 fn trimmed(line: &[u8]) -> &[u8] {
-    let front = line.iter().take_while(|b| **b == b' ').count();
-    let (_, words) = line.split_at(front);
+    let words = without_spaces(line);
     let back = words.iter().rev().take_while(|b| **b == b' ').count();
     let (kept, _) = words.split_at(words.len().saturating_sub(back));
     kept
 }
 
-fn copy(alloc: Global, line: &[u8]) -> Result<Vec<u8>, AllocError> {
-    let mut same = Vec::new(alloc);
-    same.extend_from_slice(line)?;
-    Ok(same)
+// These pieces, one after the other.
+pub(crate) fn joined(alloc: Global, pieces: &[&[u8]]) -> Result<Vec<u8>, AllocError> {
+    let mut all = Vec::new(alloc);
+    for piece in pieces {
+        all.extend_from_slice(piece)?;
+    }
+    Ok(all)
 }
 
 // The arrow that is meant at the front, and what follows it.
 fn after_arrow(words: &[u8]) -> Option<(&'static [u8], &[u8])> {
-    let right = b"  -> ".as_slice();
-    let left = b"  <- ".as_slice();
-    if let Some(list) = words.strip_prefix(b"->") {
-        Some((right, list))
-    } else if let Some(list) = words.strip_prefix(b"=>") {
-        Some((right, list))
-    } else if let Some(list) = words.strip_prefix(b"\xe2\x86\x92") {
-        Some((right, list))
-    } else if let Some(list) = words.strip_prefix(b"<-") {
-        Some((left, list))
-    } else if let Some(list) = words.strip_prefix(b"<=") {
-        Some((left, list))
-    } else if let Some(list) = words.strip_prefix(b"\xe2\x86\x90") {
-        Some((left, list))
-    } else {
-        None
+    for (written, meant) in &ARROWS {
+        if words.starts_with(written) {
+            let (_, list) = words.split_at(written.len().min(words.len()));
+            return Some((meant, list));
+        }
     }
+    None
 }
+
+#[rattlefmt::skip]
+static ARROWS: [(&[u8], &[u8]); 6] = [
+    (b"->", b"  -> "), (b"=>", b"  -> "), (b"\xe2\x86\x92", b"  -> "),
+    (b"<-", b"  <- "), (b"<=", b"  <- "), (b"\xe2\x86\x90", b"  <- "),
+];
 
 // The line of an arrow and these words, in small letters, with a comma and a space between two.
 fn listed(alloc: Global, arrow: &[u8], list: &[u8]) -> Result<Vec<u8>, AllocError> {
-    let mut line = copy(alloc, arrow)?;
+    let mut line = Vec::from_slice(alloc, arrow)?;
     let mut is_between = false;
     let mut has_word = false;
     for byte in list {

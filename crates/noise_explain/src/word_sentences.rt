@@ -5,109 +5,67 @@ use crate::shapes::Shape;
 use noise_names::{NameFault, ProtocolName};
 
 // What is wrong with a word that isn't of this shape.
+#[rattlefmt::skip]
 pub(crate) fn word_reported(shape: Shape, word: &[u8]) -> Sentences {
     match shape {
         Shape::First | Shape::Name => name_reported(word),
-        Shape::Version => Sentences::new(
-            "The version is 1 or 2, and another word stands here.",
-            "Write 1, or 2 for datagrams or expected output.",
-        ),
-        Shape::Kind => Sentences::new(
-            "The keys are of the kind xor or table, and another word stands here.",
-            "Write one of the two.",
-        ),
-        Shape::Role => Sentences::new(
-            "ROLE is initiator or responder, and another word stands here.",
-            "Write one of the two.",
-        ),
-        Shape::Own => Sentences::new(
-            "OWN is e or s, and another word stands here.",
-            "Write e for the ephemeral key, or s for the static one.",
-        ),
-        Shape::Window => Sentences::new(
-            "W is 64, 256 or 1024, and another word stands here.",
-            "Write one of the three.",
-        ),
+        Shape::Version => Sentences::new("The version is 1 or 2, and another word stands here.",
+            "Write 1, or 2 for datagrams or expected output."),
+        Shape::Kind => Sentences::new("The keys are of the kind xor or table, and another word stands here.",
+            "Write one of the two."),
+        Shape::Role => Sentences::new("ROLE is initiator or responder, and another word stands here.", "Write one of the two."),
+        Shape::Own => Sentences::new("OWN is e or s, and another word stands here.",
+            "Write e for the ephemeral key, or s for the static one."),
+        Shape::Window => Sentences::new("W is 64, 256 or 1024, and another word stands here.", "Write one of the three."),
         Shape::Hex(most) => hex_reported(word, most),
         Shape::Key => key_reported(word),
         Shape::MaybeKey => maybe_key_reported(word),
         Shape::Number(most) => number_reported(word, most),
-        Shape::Cuts => Sentences::new(
-            "CUTS is -, or 1 to 8 numbers from 0 to 65535 joined by commas, the last not 0, and this is neither.",
-            "Write - for one piece, or for example 1,2,16",
-        ),
+        Shape::Cuts => Sentences::new("CUTS is -, or 1 to 8 numbers from 0 to 65535 joined by commas, the last not 0, and this is neither.",
+            "Write - for one piece, or for example 1,2,16"),
     }
 }
 
+#[rattlefmt::skip]
 fn hex_reported(word: &[u8], most: usize) -> Sentences {
     if word.starts_with(b"0x".as_slice()) {
-        return Sentences::new(
-            "HEX has hex digits alone, and 0x stands before them.",
-            "Leave 0x out.",
-        );
+        return Sentences::new("HEX has hex digits alone, and 0x stands before them.", "Leave 0x out.");
     }
     match slip_of(word) {
-        Slip::UpperCase => Sentences::new(
-            "HEX has lower-case digits, and an upper-case letter stands here.",
-            "Write it in lower case.",
-        ),
-        Slip::Other => Sentences::new(
-            "HEX has the digits 0 to 9 and a to f alone, and another character stands here.",
-            "Write two digits for each byte, or - for no bytes.",
-        ),
-        Slip::Count if word.len() % 2 == 0 => long_reported(most),
-        Slip::Count => Sentences::new(
-            "HEX has two digits for each byte, and the number of these is odd.",
-            "Write the digit that is missing: a byte below 16 begins with 0.",
-        ),
+        Slip::UpperCase => Sentences::new("HEX has lower-case digits, and an upper-case letter stands here.",
+            "Write it in lower case."),
+        Slip::Other => Sentences::new("HEX has the digits 0 to 9 and a to f alone, and another character stands here.",
+            "Write two digits for each byte, or - for no bytes."),
+        Slip::Count if word.len() % 2 == 0 && most > 65535 => Sentences::new("HEX has at most 131072 bytes here, and this has more.",
+            "Leave some out."),
+        Slip::Count if word.len() % 2 == 0 => Sentences::new("HEX has at most 65535 bytes here, and this has more.",
+            "Shorten it."),
+        Slip::Count => Sentences::new("HEX has two digits for each byte, and the number of these is odd.",
+            "Write the digit that is missing: a byte below 16 begins with 0."),
     }
 }
 
-// Hex of more bytes than this.
-fn long_reported(most: usize) -> Sentences {
-    if most > 65535 {
-        Sentences::new(
-            "HEX has at most 131072 bytes here, and this has more.",
-            "Leave some out.",
-        )
-    } else {
-        Sentences::new(
-            "HEX has at most 65535 bytes here, and this has more.",
-            "Shorten it.",
-        )
-    }
-}
-
+#[rattlefmt::skip]
 fn key_reported(word: &[u8]) -> Sentences {
     if word == b"-".as_slice() {
-        return Sentences::new(
-            "KEY has 64 hex digits, and - stands here.",
-            "Write the key.",
-        );
+        return Sentences::new("KEY has 64 hex digits, and - stands here.", "Write the key.");
     }
     match slip_of(word) {
-        Slip::UpperCase => Sentences::new(
-            "KEY has lower-case digits, and an upper-case letter stands here.",
-            "Write it in lower case.",
-        ),
-        Slip::Other => Sentences::new(
-            "KEY has the digits 0 to 9 and a to f alone, and another character stands here.",
-            "Write the 32 bytes of the key in hex.",
-        ),
+        Slip::UpperCase => Sentences::new("KEY has lower-case digits, and an upper-case letter stands here.",
+            "Write it in lower case."),
+        Slip::Other => Sentences::new("KEY has the digits 0 to 9 and a to f alone, and another character stands here.",
+            "Write the 32 bytes of the key in hex."),
         Slip::Count => KEY_COUNT,
     }
 }
 
+#[rattlefmt::skip]
 fn maybe_key_reported(word: &[u8]) -> Sentences {
     match slip_of(word) {
-        Slip::UpperCase => Sentences::new(
-            "KEY? has lower-case digits, and an upper-case letter stands here.",
-            "Write it in lower case.",
-        ),
-        Slip::Other => Sentences::new(
-            "KEY? is - or 64 hex digits, and another character stands here.",
-            "Write the 32 bytes of the key in hex, or - for no key.",
-        ),
+        Slip::UpperCase => Sentences::new("KEY? has lower-case digits, and an upper-case letter stands here.",
+            "Write it in lower case."),
+        Slip::Other => Sentences::new("KEY? is - or 64 hex digits, and another character stands here.",
+            "Write the 32 bytes of the key in hex, or - for no key."),
         Slip::Count => KEY_COUNT,
     }
 }
@@ -134,76 +92,40 @@ fn slip_of(word: &[u8]) -> Slip {
     Slip::Count
 }
 
+#[rattlefmt::skip]
 fn number_reported(word: &[u8], most: u64) -> Sentences {
     match word.first().copied() {
-        Some(b'+') | Some(b'-') => Sentences::new(
-            "NUM has digits alone, and a sign or a hyphen stands here.",
-            "Leave it out, and write a number.",
-        ),
-        Some(b'0') => Sentences::new(
-            "NUM has no leading zero, and one stands here.",
-            "Leave it out.",
-        ),
-        Some(b'1'..=b'9') if word.iter().all(|b| b.is_ascii_digit()) => large_reported(most),
-        _ => Sentences::new(
-            "NUM is a decimal number, and this isn't one.",
-            "Write digits alone.",
-        ),
+        Some(b'+') | Some(b'-') => Sentences::new("NUM has digits alone, and a sign or a hyphen stands here.",
+            "Leave it out, and write a number."),
+        Some(b'0') => Sentences::new("NUM has no leading zero, and one stands here.", "Leave it out."),
+        Some(b'1'..=b'9') if word.iter().all(|b| b.is_ascii_digit()) && most > 4294967295 => Sentences::new("NUM is below 18446744073709551616 here, and this isn't.",
+            SMALLER),
+        Some(b'1'..=b'9') if word.iter().all(|b| b.is_ascii_digit()) => Sentences::new("NUM is below 4294967296 here, and this isn't.",
+            SMALLER),
+        _ => Sentences::new("NUM is a decimal number, and this isn't one.", "Write digits alone."),
     }
 }
 
-// A number beyond this one.
-fn large_reported(most: u64) -> Sentences {
-    if most > 4294967295 {
-        Sentences::new(
-            "NUM is below 18446744073709551616 here, and this isn't.",
-            "Write a smaller number.",
-        )
-    } else {
-        Sentences::new(
-            "NUM is below 4294967296 here, and this isn't.",
-            "Write a smaller number.",
-        )
-    }
-}
+const SMALLER: &str = "Write a smaller number.";
 
 // What is wrong with a protocol's name.
+#[rattlefmt::skip]
 fn name_reported(name: &[u8]) -> Sentences {
     match ProtocolName::parse(name) {
-        Ok(_) => Sentences::new(
-            "NAME is a protocol's name.",
-            "For example: protocol Noise_XX_25519_ChaChaPoly_SHA256",
-        ),
-        Err(fault) => name_fault_reported(fault),
+        Ok(_) => Sentences::new("NAME is a protocol's name.", EXAMPLE),
+        Err(NameFault::Length) => Sentences::new("NAME has at most 255 bytes, and this one has more.", EXAMPLE),
+        Err(NameFault::Prefix) => Sentences::new("NAME begins with Noise_, and this doesn't.", EXAMPLE),
+        Err(NameFault::Base) => Sentences::new("After Noise_ comes the base: 1 to 8 upper-case letters and digits, the first a letter. This has another one.",
+            EXAMPLE),
+        Err(NameFault::Modifier) => Sentences::new("After the base come psk0 to psk8, with + between two, and something else stands here.",
+            PSKS_EXAMPLE),
+        Err(NameFault::ModifierOrder) => Sentences::new("The indices of the psks in NAME rise, each once, and these don't.",
+            PSKS_EXAMPLE),
+        Err(NameFault::Algorithm) => Sentences::new("NAME ends with _25519_ChaChaPoly_SHA256, the only algorithms here, and this one doesn't.",
+            EXAMPLE),
     }
 }
 
-fn name_fault_reported(fault: NameFault) -> Sentences {
-    match fault {
-        NameFault::Length => Sentences::new(
-            "NAME has at most 255 bytes, and this one has more.",
-            "For example: protocol Noise_XX_25519_ChaChaPoly_SHA256",
-        ),
-        NameFault::Prefix => Sentences::new(
-            "NAME begins with Noise_, and this doesn't.",
-            "For example: protocol Noise_XX_25519_ChaChaPoly_SHA256",
-        ),
-        NameFault::Base => Sentences::new(
-            "After Noise_ comes the base: 1 to 8 upper-case letters and digits, the first a letter. This has another \
-             one.",
-            "For example: protocol Noise_XX_25519_ChaChaPoly_SHA256",
-        ),
-        NameFault::Modifier => Sentences::new(
-            "After the base come psk0 to psk8, with + between two, and something else stands here.",
-            "For example: protocol Noise_NNpsk0+psk2_25519_ChaChaPoly_SHA256",
-        ),
-        NameFault::ModifierOrder => Sentences::new(
-            "The indices of the psks in NAME rise, each once, and these don't.",
-            "For example: protocol Noise_NNpsk0+psk2_25519_ChaChaPoly_SHA256",
-        ),
-        NameFault::Algorithm => Sentences::new(
-            "NAME ends with _25519_ChaChaPoly_SHA256, the only algorithms here, and this one doesn't.",
-            "For example: protocol Noise_XX_25519_ChaChaPoly_SHA256",
-        ),
-    }
-}
+const EXAMPLE: &str = "For example: protocol Noise_XX_25519_ChaChaPoly_SHA256";
+
+const PSKS_EXAMPLE: &str = "For example: protocol Noise_NNpsk0+psk2_25519_ChaChaPoly_SHA256";
