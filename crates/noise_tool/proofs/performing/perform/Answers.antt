@@ -91,3 +91,6 @@ returns-clause-filled g c = rw c.in-Fill.is (record {
   outside = search rules;
   prefix = search rules;
 })
+
+pub returns-in-Document-Compare-clause-documented : goal.returns-in-Document-Compare-clause-documented
+returns-in-Document-Compare-clause-documented g c = ?
