@@ -1,11 +1,8 @@
 //! The document that `compare --json` writes.
 
-ghost use Rattle.std.specs.Prelude.{◌≡◌, ◌⊎◌, ◌≤◌, IfErr, IfOk, IsTrue, OnOk, string_bytes};
-ghost use Rattle.std.specs.Io.KnownBytes.{Appends};
-ghost use Rattle.noise_json.specs.Documents.{document_text};
+ghost use Rattle.std.specs.Prelude.{◌≡◌, ◌⊎◌, ◌≤◌, IfErr, IfOk, IsTrue, string_bytes};
 ghost use Rattle.noise_json.specs.Json.{data_of, members_in};
 ghost use Rattle.noise_documents.specs.Comparison.{refused_facts};
-ghost use Rattle.noise_lines.specs.Prefixes.{AppendsPrefix};
 ghost use Rattle.noise_tool.specs.ComparedDocuments.{BeginsCompared, IsCompareDocument, WritesCompared, compared_document};
 ghost use Rattle.noise_tool.specs.Comparing.{StopsComparing, compared_name, finding_status, uncompared_line};
 ghost use Rattle.noise_tool.specs.Testing.{EndsTest};
@@ -14,21 +11,15 @@ use crate::comparison::{
     ComparedFile, Comparison, Uncompared, compare_named, finding_status, uncompared_line,
     unread_line,
 };
+use crate::documents::{Document, write_document};
 use crate::testing::FilesByName;
 use noise_compare::LogReport;
 use noise_documents::{named_facts, refused_facts};
-use noise_json::{Json, Object, document, document_text};
-use noise_lines::{Fault, flush, report_fault, write};
+use noise_json::{Object, document};
+use noise_lines::{Fault, report_fault, write};
 use noise_words::Compared;
 use std::alloc::{AllocError, Global};
 use std::io::Write;
-
-/// A document, and the exit status that it says.
-#[derive(Drop)]
-pub(crate) struct Document {
-    pub status: u8,
-    pub json: Json,
-}
 
 /// Compares a log with a vector file as `compare_log` does, and writes the document of what was found. The exit status
 /// is that of `compare_log`. At status 2 the document has the line that says what is wrong; at status 3 that line is
@@ -50,10 +41,7 @@ pub fn write_compared<F: FilesByName, O: Write, E: Write>(
         (F.bytes_at files.now (string_bytes names.now.file)) (O.contents out.old) (O.contents out.new) }
 {
     match document_named(alloc, names, files) {
-        Ok(Ok(made)) => match write_document(alloc, &made.json, out) {
-            Ok(()) => made.status,
-            Err(fault) => report_fault(alloc, fault, out, err),
-        },
+        Ok(Ok(made)) => write_document(alloc, &made, out, err),
         Ok(Err(which)) => match unread_line(alloc, names, which) {
             Ok(line) => {
                 let _ = write(&line, err);
@@ -63,19 +51,6 @@ pub fn write_compared<F: FilesByName, O: Write, E: Write>(
         },
         Err(fault) => report_fault(alloc, fault, out, err),
     }
-}
-
-// Writes a document.
-fn write_document<O: Write>(alloc: Global, json: &Json, out: &mut O) -> Result<(), Fault>
-    ensures written { OnOk result (Appends (O.contents out.old) (O.contents out.new)
-        (document_text (data_of json.now))) }
-    ensures prefix { (out.new ≡ out.old) ⊎ AppendsPrefix (O.contents out.old) (O.contents out.new)
-        (document_text (data_of json.now)) }
-    ensures fault { IfErr result EndsTest }
-{
-    let text = document_text(alloc, json)?;
-    write(&text, out)?;
-    flush(out)
 }
 
 // The document of the log and the vector file of these names, or which of them can't be read.
