@@ -2,6 +2,7 @@ pub mod Common
 pub mod ConversionLemmas
 pub mod CountingLemmas
 pub mod ComparingLemmas
+pub mod DocumentLemmas
 pub mod EndLemmas
 pub mod OneRunLemmas
 pub mod MetLemmas
