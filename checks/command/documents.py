@@ -4,7 +4,7 @@ import json
 
 from program import run
 
-COMMANDS = ("compare", "explain")
+COMMANDS = ("compare",)
 
 
 def bytes_in(item):

@@ -33,7 +33,6 @@ pub fn lines_below(
         Order::Compare(_) => unread_lines(alloc, seen, false, None),
         Order::Document(_) if status < 3 => Ok(Vec::new(alloc)),
         Order::Document(Documented::Compare(_)) => unread_lines(alloc, seen, false, None),
-        Order::Document(Documented::Explain(_)) => unread_lines(alloc, seen, true, None),
         Order::Fill(names) if status < 3 && names_protocol(names.pattern.as_str()) => {
             unnamed_line(alloc, names.pattern.as_bytes())
         }

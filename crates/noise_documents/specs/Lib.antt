@@ -1,2 +1,1 @@
 pub mod Comparison
-pub mod Explanations

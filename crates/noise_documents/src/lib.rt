@@ -2,7 +2,5 @@
 #![tactic(auto)]
 
 mod comparison;
-mod explanations;
 
 pub use comparison::{found_facts, named_facts, refused_facts};
-pub use explanations::said_json;

@@ -9,17 +9,11 @@ use Rattle.noise_compare.specs.declared.comparison.LogReport.{LogReport}
 use Rattle.noise_compare.specs.declared.facts.Facts.{Facts}
 use Rattle.noise_compare.specs.declared.line.Line.{Line}
 use Rattle.noise_documents.specs.Comparison.{IsFindingOf}
-use Rattle.noise_documents.specs.Explanations.{said_data}
-use Rattle.noise_explain.specs.declared.explanation.Explained.{Explained}
 use Rattle.noise_json.specs.declared.object.Object.{Object}
 use Rattle.noise_tool.specs.Comparing.{Compares, HasFacts, IfFacts, IfMade, IsUncompared, StopsComparing, finding_status, uncompared_line}
 use Rattle.noise_tool.specs.declared.comparison.Comparison.{Comparison}
 use Rattle.noise_tool.specs.declared.comparison.Comparison.TheVariants.{Made, Unread, Wrong}
-use Rattle.noise_tool.specs.ExplainedDocuments.{SaysOf, files_data}
-use Rattle.noise_tool.specs.Explaining.{StopsExplaining, worst_of}
-use Rattle.noise_tool.proofs.ExplainLemmas.{said-of, text-of}
 use Rattle.noise_words.specs.declared.orders.Compared.{Compared}
-use Rattle.serde_json.specs.Data.{Data}
 
 -- what was found is so
 pub finding-of : (facts : Facts) (right log : List Line) (finding : Finding) (text : List ℕ) → IsReport facts right log finding text
@@ -49,31 +43,3 @@ stops-comparing names unreadable old new why = record {
   why = inl (why.0, why.1, refl);
   grown = why.2;
 }
-
-pub stops-explaining : (names : List (List ℕ)) (unreadable : List ℕ → Bool) (old new : Option (List ℕ))
-    → (fault : Fault) × EndsTest fault × AppendsPrefix old new (error_text fault) → StopsExplaining unreadable names old new
-stops-explaining names unreadable old new why = record {
-  text = error_text why.0;
-  why = inl (why.0, why.1, refl);
-  grown = why.2;
-}
-
--- it is said of one file more
-pub says-more : (fixes : Bool) (bytes_at : List ℕ → Option (List ℕ)) (unreadable : List ℕ → Bool) (names all : List (List ℕ)) (name : List ℕ)
-    (status next : ℕ) (text more : List ℕ) (files others : List Data) (x : Explained) → all ≡ names ++ name ∷ []
-    → SaysOf fixes bytes_at unreadable names status text files → IsExplainedAt fixes bytes_at unreadable name x
-    → next ≡ worse status x.status → more ≡ text ++ x.text.items → others ≡ files ++ said_data name x.status ∷ []
-    → SaysOf fixes bytes_at unreadable all next more others
-says-more fixes bytes_at unreadable names all name status next text more files others x all_is before right next_is more_is others_is =
-    let this : Said = record { name = name; explained = x } in
-    subst (λ (ns : List (List ℕ)). SaysOf fixes bytes_at unreadable ns next more others) (sym all_is) (record {
-      said = before.said ++ this ∷ [];
-      are = said-of fixes bytes_at unreadable names name before.said x before.are right;
-      status_is = next_is ∙ ap (λ (s : ℕ). worse s x.status) before.status_is ∙ sym (worst-more before.said this);
-      text_is = more_is ∙ ap (λ (t : List ℕ). t ++ x.text.items) before.text_is ∙ text-of before.said name x;
-      files_are = others_is ∙ ap (λ (fs : List Data). fs ++ said_data name x.status ∷ []) before.files_are
-          ∙ sym (map_push (λ (s : Said). said_data s.name s.explained.status) before.said this);
-    })
-  where
-    worst-more : (said : List Said) (s : Said) → worst_of (said ++ s ∷ []) ≡ worse (worst_of said) s.explained.status
-    worst-more said s = fold-append _ _ said (s ∷ [])

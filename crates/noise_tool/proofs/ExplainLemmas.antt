@@ -9,7 +9,7 @@ use Rattle.noise_tool.proofs.TestingLemmas.{after-prefix, kept-appends, reported
 use Rattle.noise_lines.specs.declared.faults.Fault.TheVariants as fault
 
 -- it is said of one file more
-pub said-of : (fixes : Bool) (bytes_at : List ℕ → Option (List ℕ)) (unreadable : List ℕ → Bool) (names : List (List ℕ)) (name : List ℕ) (said : List Said) (x : Explained) → AreSaid fixes bytes_at unreadable names said
+said-of : (fixes : Bool) (bytes_at : List ℕ → Option (List ℕ)) (unreadable : List ℕ → Bool) (names : List (List ℕ)) (name : List ℕ) (said : List Said) (x : Explained) → AreSaid fixes bytes_at unreadable names said
     → IsExplainedAt fixes bytes_at unreadable name x → AreSaid fixes bytes_at unreadable (names ++ name ∷ []) (said ++ record { name = name; explained = x } ∷ [])
 said-of fixes bytes_at unreadable names name said x are right =
     let this : Said = record { name = name; explained = x } in
@@ -18,7 +18,7 @@ said-of fixes bytes_at unreadable names name said x are right =
       right = All-push (λ (s : Said). IsExplainedAt fixes bytes_at unreadable s.name s.explained) said this are.right right;
     }
 
-pub text-of : (said : List Said) (name : List ℕ) (x : Explained)
+text-of : (said : List Said) (name : List ℕ) (x : Explained)
     → said_text said ++ x.text.items ≡ said_text (said ++ record { name = name; explained = x } ∷ [])
 text-of said name x = flat_map_more (λ (s : Said). s.explained.text.items) [] said (record { name = name; explained = x })
 

@@ -3,7 +3,6 @@ pub mod ComparedDocuments
 pub mod Conversion
 pub mod Counting
 pub mod Ends
-pub mod ExplainedDocuments
 pub mod Explaining
 pub mod FileFacts
 pub mod Filling

@@ -7,7 +7,6 @@ use Rattle.noise_lines.specs.Reported.{error_text}
 use Rattle.noise_lines.specs.declared.faults.Fault.{Fault}
 use Rattle.noise_tool.specs.ComparedDocuments.{BeginsCompared, WritesCompared}
 use Rattle.noise_tool.specs.Comparing.{ComparesFiles, ComparesPrefix, IsNotCompared, IsRefusedTwice, NamesInputTwice, StopsComparing}
-use Rattle.noise_tool.specs.ExplainedDocuments.{BeginsExplained, WritesExplained}
 use Rattle.noise_tool.specs.Explaining.{ExplainsFiles, ExplainsPrefix, StopsExplaining}
 use Rattle.noise_tool.specs.Filling.{FillsFiles, FillsPrefix, IsFillRefused, StopsFilling}
 use Rattle.noise_tool.specs.Performing.{IsDone, IsStopped, OfAsked, ReadsShort}
@@ -78,23 +77,10 @@ module _ {O E : Type 0} (printed : O → Option (List ℕ)) (reported : E → Op
     pub prefix : (out_after ≡ out) ⊎ BeginsCompared names (bytes_at (string_bytes names.log))
         (bytes_at (string_bytes names.file)) (printed out) (printed out_after)
 
-  -- of `explain` that writes a document
-  pub record ExplainDocumentOutcome (asked : Explained) (out out_after : O) (err err_after : E) (status : ℕ)
-      : Type 0 where
-    pub written : (status ≡ 3) ⊎ WritesExplained asked.fixes bytes_at unreadable (map string_bytes asked.files.items)
-        (printed out) (printed out_after) status
-    pub quiet : (status ≡ 3) ⊎ (err_after ≡ err)
-    pub outside : status ≡ 3
-        → StopsExplaining unreadable (map string_bytes asked.files.items) (reported err) (reported err_after)
-    pub prefix : (out_after ≡ out) ⊎ BeginsExplained asked.fixes bytes_at unreadable
-        (map string_bytes asked.files.items) (printed out) (printed out_after)
-
   -- of a command that writes a document
   abbrev pub DocumentOutcome : Documented → O → O → E → E → ℕ → Type 0
   DocumentOutcome (documented.Compare names) out out_after err err_after status =
       CompareDocumentOutcome names out out_after err err_after status
-  DocumentOutcome (documented.Explain asked) out out_after err err_after status =
-      ExplainDocumentOutcome asked out out_after err err_after status
 
   -- of `template` with a file of values
   pub record FillOutcome (names : Filled) (out out_after : O) (err err_after : E) (status : ℕ) : Type 0 where

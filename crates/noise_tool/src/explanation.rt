@@ -81,8 +81,8 @@ fn explain_each<F: FilesByName, O: Write, E: Write>(
     Ok(status)
 }
 
-/// Writes that the file of this name can't be read, and gives the exit status. A refused write leaves the status.
-pub(crate) fn write_unread<E: Write>(alloc: Global, name: &str, err: &mut E) -> Result<u8, Fault>
+// Writes that the file of this name can't be read, and gives the exit status. A refused write leaves the status.
+fn write_unread<E: Write>(alloc: Global, name: &str, err: &mut E) -> Result<u8, Fault>
     ensures status { IfOk result (λ status. status ≡ 3) }
     ensures written { IfOk result
         (λ _. AppendsPrefix (E.contents err.old) (E.contents err.new) (unread_head name.now Unreadable)) }
@@ -94,15 +94,14 @@ pub(crate) fn write_unread<E: Write>(alloc: Global, name: &str, err: &mut E) -> 
     Ok(3)
 }
 
-/// The greater of two statuses.
-pub(crate) fn worse(first: u8, second: u8) -> u8
+fn worse(first: u8, second: u8) -> u8
     ensures { result ≡ worse first second }
 {
     if first <= second { second } else { first }
 }
 
-/// What is said of the file of this name, if it can be read, or of the pattern of this name.
-pub(crate) fn explain_named<F: FilesByName>(
+// What is said of the file of this name, if it can be read, or of the pattern of this name.
+fn explain_named<F: FilesByName>(
     alloc: Global,
     name: &str,
     fixes: bool,

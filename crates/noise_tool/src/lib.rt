@@ -7,7 +7,6 @@ mod counted_run;
 mod datagram_report;
 mod documents;
 mod ends;
-mod explained_document;
 mod explanation;
 mod file_facts;
 mod filling;

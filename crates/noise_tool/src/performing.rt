@@ -21,7 +21,6 @@ ghost use Rattle.noise_tool.specs.PatternNames.{HasShown, IsShownFault, NamesTex
 
 use crate::compared_document::write_compared;
 use crate::comparison::compare_log;
-use crate::explained_document::write_explained;
 use crate::explanation::explain_files;
 use crate::filling::fill_template;
 use crate::laws::conversions_meet_themselves;
@@ -85,9 +84,6 @@ pub fn perform<F: FilesByName, O: Write, E: Write>(
         Order::Compare(names) => compare_log(alloc, names, files, out, err),
         Order::Document(Documented::Compare(names)) => {
             write_compared(alloc, names, files, out, err)
-        }
-        Order::Document(Documented::Explain(asked)) => {
-            write_explained(alloc, &asked.files, asked.fixes, files, out, err)
         }
         Order::Fill(names) => fill_template(alloc, names, files, out, err),
     }

@@ -46,16 +46,12 @@ traces_flag = codes "trace"
 abbrev pub test : Text × Wants
 test = (codes "test", Several (codes "FILE") (traces_flag ∷ []))
 
--- the flag of the commands that write a document of JSON
-abbrev pub json_flag : Text
-json_flag = codes "json"
-
 -- the flag of `explain`
 abbrev pub fix_flag : Text
 fix_flag = codes "fix"
 
 abbrev pub explain : Text × Wants
-explain = (codes "explain", Several (codes "FILE") (fix_flag ∷ json_flag ∷ []))
+explain = (codes "explain", Several (codes "FILE") (fix_flag ∷ []))
 
 -- the options and the flag of `trace`
 abbrev pub part_choice : Choice
@@ -72,6 +68,10 @@ trace = (codes "trace", OneWith (codes "FILE") (part_choice ∷ role_choice ∷ 
 
 abbrev pub template : Text × Wants
 template = (codes "template", OneOrTwo (codes "NAME|FILE") (codes "KEYS"))
+
+-- the flag of the commands that write a document of JSON
+abbrev pub json_flag : Text
+json_flag = codes "json"
 
 -- the flag of `compare`
 abbrev pub all_flag : Text
@@ -171,10 +171,8 @@ words_of (chosen.Trace traced) = named_trace traced
 abbrev pub named_test : Tested → Named
 named_test tested = (codes "test", map string_bytes tested.files.items, flag_text tested.traces ∷ [])
 
--- `explain`, with or without a document
-abbrev pub named_explain : Bool → Explained → Named
-named_explain json explained =
-    (codes "explain", map string_bytes explained.files.items, flag_text explained.fixes ∷ flag_text json ∷ [])
+abbrev pub named_explain : Explained → Named
+named_explain explained = (codes "explain", map string_bytes explained.files.items, flag_text explained.fixes ∷ [])
 
 -- `compare`, with or without a document
 abbrev pub named_compare : Bool → Compared → Named
@@ -186,7 +184,6 @@ named_compare json compared = (
 
 abbrev pub named_document : Documented → Named
 named_document (documented.Compare compared) = named_compare true compared
-named_document (documented.Explain explained) = named_explain true explained
 
 abbrev pub named_fill : Filled → Named
 named_fill filled = (codes "template", string_bytes filled.pattern ∷ string_bytes filled.keys ∷ [], [])
@@ -194,7 +191,7 @@ named_fill filled = (codes "template", string_bytes filled.pattern ∷ string_by
 abbrev pub order_of : Order → Named
 order_of (Command c) = words_of c
 order_of (Test tested) = named_test tested
-order_of (Explain explained) = named_explain false explained
+order_of (Explain explained) = named_explain explained
 order_of (Compare compared) = named_compare false compared
 order_of (Document asked) = named_document asked
 order_of (Fill filled) = named_fill filled

@@ -3,7 +3,7 @@
 
 ghost use Rattle.std.specs.Prelude.{◌≡◌, IfOk, codes, option_map};
 ghost use Rattle.clap.specs.Words.{found_of, rows_of};
-ghost use Rattle.noise_words.specs.CommandLine.{choice_in, flag_in, flag_text, named_test, named_trace, order_of, part_choice, part_text, role_choice, role_text, stated_by};
+ghost use Rattle.noise_words.specs.CommandLine.{choice_in, flag_in, flag_text, named_explain, named_test, named_trace, order_of, part_choice, part_text, role_choice, role_text, stated_by};
 
 use crate::command_line::{value, values};
 use crate::help::{ALL, FIXES, HEADING, JSON, ONLY, ROLE, TRACES};
@@ -46,19 +46,16 @@ pub fn tested(alloc: Global, found: &ArgMatches<'_>) -> Result<Option<Tested>, A
     }
 }
 
-/// The order for `explain`, where its matches have files.
-pub fn explained(alloc: Global, found: &ArgMatches<'_>) -> Result<Option<Order>, AllocError>
-    ensures { IfOk result (λ o. option_map order_of o ≡ stated_by (codes "explain") (rows_of (found_of found.now))) }
+/// What is explained, where the matches of `explain` have files.
+pub fn explained(alloc: Global, found: &ArgMatches<'_>) -> Result<Option<Explained>, AllocError>
+    ensures { IfOk result (λ e. option_map named_explain e
+        ≡ stated_by (codes "explain") (rows_of (found_of found.now))) }
 {
     let fixes = is_given(found, FIXES.name);
-    let Some(files) = values(alloc, found, "FILE")? else {
-        return Ok(None);
-    };
-    let explained = Explained { files, fixes };
-    if is_given(found, JSON.name) {
-        return Ok(Some(Order::Document(Documented::Explain(explained))));
+    match values(alloc, found, "FILE")? {
+        Some(files) => Ok(Some(Explained { files, fixes })),
+        None => Ok(None),
     }
-    Ok(Some(Order::Explain(explained)))
 }
 
 /// The order for `compare`, where its matches have a log and a file.

@@ -69,21 +69,20 @@ fn command<'a>(alloc: Global) -> Result<Command<'a>, AllocError>
     with_compare(alloc, with_trace(alloc, with_test(alloc, whole)?)?)
 }
 
-// With the subcommand of patterns that has flags, too.
+// With the subcommand of patterns that has a flag, too.
 fn with_explain<'a>(alloc: Global, whole: Command<'a>) -> Result<Command<'a>, AllocError>
     ensures { IfOk result (λ c. app_of c ≡ with_subcommand (app_of whole.entry) (subcommand explain)) }
 {
     whole.subcommand(with_fix(alloc)?)
 }
 
-// The subcommand of patterns that has flags.
+// The subcommand of patterns that has a flag.
 fn with_fix<'a>(alloc: Global) -> Result<Command<'a>, AllocError>
     ensures shape { IfOk result (λ c. shape_of c ≡ subcommand explain) }
     ensures local { IfOk result (λ c. (out-Command c).has_globals ≡ false) }
 {
     let whole = with_value(alloc, &EXPLAIN)?;
-    let whole = whole.arg(flag_of(alloc, &FIXES))?;
-    whole.arg(flag_of(alloc, &JSON))
+    whole.arg(flag_of(alloc, &FIXES))
 }
 
 // With the subcommand that has a second value that may be left out, too.
@@ -268,7 +267,7 @@ fn order(alloc: Global, matches: &ArgMatches<'_>) -> Result<Option<Order>, Alloc
         return Ok(tested(alloc, found)?.map(Order::Test));
     }
     if name == "explain" {
-        return explained(alloc, found);
+        return Ok(explained(alloc, found)?.map(Order::Explain));
     }
     if name == "compare" {
         return compared(alloc, found);

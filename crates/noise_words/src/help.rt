@@ -73,7 +73,7 @@ pub const OF_PATTERNS: [Subcommand<'static>; 2] = [
     },
 ];
 
-/// The subcommand of patterns and vector files that has several values and flags.
+/// The subcommand of patterns and vector files that has several values and a flag.
 pub const EXPLAIN: Subcommand<'static> = Subcommand {
     name: "explain",
     value: "FILE",

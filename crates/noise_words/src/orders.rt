@@ -70,8 +70,6 @@ pub struct Compared {
 pub enum Documented {
     /// Compare a key schedule that was logged with that of a vector file.
     Compare(Compared),
-    /// Explain files.
-    Explain(Explained),
 }
 
 /// What is filled in.
