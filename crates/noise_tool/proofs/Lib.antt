@@ -5,6 +5,7 @@ pub mod ComparingLemmas
 pub mod DocumentLemmas
 pub mod EndLemmas
 pub mod OneRunLemmas
+pub mod OutcomeLemmas
 pub mod MetLemmas
 pub mod KeyUseLemmas
 pub mod PerformingLemmas

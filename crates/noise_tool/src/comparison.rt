@@ -203,8 +203,7 @@ fn compare_traced(
             let others = written_lines(alloc, &whole)?.saturating_sub(lines.len());
             let known = listed(alloc, all, facts, &lines, &right)?;
             let found = found_facts(alloc, report.finding, &lines, &right)?;
-            let report = with_others(alloc, report, others, log, &known)?;
-            Ok(Comparison::Made(report, found))
+            Ok(Comparison::Made(with_others(alloc, report, others, log, &known)?, found))
         }
         Err(LogFault::Line(number)) => Ok(Comparison::Wrong(Uncompared::WrongLine(number))),
         Err(LogFault::Memory) => Err(Fault::Memory),

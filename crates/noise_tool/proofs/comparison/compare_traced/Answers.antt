@@ -27,8 +27,12 @@ returns-in-Ok-clause-made c = λ file runs are_facts. record {
   text_is = rw (c.deref-in-Ok-8.ensures.value, c.saturating_sub-others.ensures, c.in_ok-written_lines-in-Ok.ensures, c.deref-in-Ok-3.ensures.value, c.in_ok-whole.ensures, c.len.ensures, c.in-Ok.lines.ok.0) at c.in_ok-with_others-in-Ok.ensures.text;
 }
 
-pub found_facts-in-Ok-requires : goal.found_facts-in-Ok-requires
-found_facts-in-Ok-requires c = ?
+pub found_facts-requires : goal.found_facts-requires
+found_facts-requires c = record {
+  found = rw (c.deref-in-Ok-6.ensures.value, c.deref-in-Ok-7.ensures.value)
+      (finding-of c.args.facts.now c.in_ok-right.right.items c.in-Ok.lines.items c.in_ok-report-in-Ok.report.finding c.in_ok-report-in-Ok.report.text.items
+      (rw (c.deref-in-Ok.ensures.value, c.deref-in-Ok-2.ensures.value) at c.in_ok-report-in-Ok.ensures));
+}
 
 pub returns-in-Ok-clause-facts : goal.returns-in-Ok-clause-facts
 returns-in-Ok-clause-facts c = λ file runs. record {
@@ -45,5 +49,5 @@ returns-in-Ok-clause-facts c = λ file runs. record {
     shown = runs.shown refl;
     words_are = c.in_ok-right.ensures;
   };
-  are_facts = ?;
+  are_facts = rw (c.deref-in-Ok-6.ensures.value, c.deref-in-Ok-7.ensures.value, sym c.in_ok-with_others-in-Ok.ensures.finding) at c.in_ok-found-in-Ok.ensures.facts;
 }
