@@ -7,6 +7,7 @@ import re
 import shlex
 import shutil
 
+from documents import fault_in, has_document
 from program import difference, is_met, run, shown
 
 HERE = os.path.dirname(os.path.realpath(__file__))
@@ -19,7 +20,7 @@ class Cases:
 
     def __init__(self, room, refuse):
         self.folder, self.refuse = f"{room}/cases", refuse
-        self.count, self.left_out, self.faults = 0, 0, []
+        self.count, self.documents, self.left_out, self.faults = 0, 0, 0, []
         shutil.copytree(f"{HERE}/cases", self.folder)
         for path in self.files("long"):
             write_out(path)
@@ -71,8 +72,25 @@ class Cases:
         folder, name = os.path.dirname(path), f"{os.path.relpath(path, self.folder)}: {line}"
         ran = run(words, folder, {**variables, "LD_PRELOAD": self.refuse} if variables else {})
         self.expect(name, expected, ran)
+        if not variables:
+            self.document(name, words, folder, ran)
         if words[:1] in (["talk"], ["replay"]) and ran.status == 0 and os.path.isfile(f"{folder}/{words[1]}"):
             self.convert(name, f"{folder}/{words[1]}", ran)
+
+    def document(self, name, words, folder, ran, given=None):
+        """A command that can write a document says there what it prints without one."""
+        if not has_document(words, ran):
+            return
+        self.documents += 1
+        fault = fault_in(words, folder, ran, given)
+        if fault:
+            self.faults.append(f"command: {name}, with --json: {fault}")
+
+    def explain(self, name, command, text, expected):
+        """Runs a command on a text, and asks it for the document of that."""
+        ran = run([command, "/dev/stdin"], given=text)
+        self.expect(name, expected, ran)
+        self.document(name, [command, "/dev/stdin"], None, ran, text)
 
     def convert(self, name, path, ran):
         """Of a file of version 1: it is converted to one that expects the lines of its run, and that prints the same
@@ -102,10 +120,7 @@ class Cases:
         for text, place, says, *changes in rows:
             lines = "".join(f"  {it}\n" for it in (says, *changes))
             expected = f"/dev/stdin:{place}: [..]\n  [..]\n{lines}status: {status}\n"
-            self.expect(
-                f"{os.path.relpath(path, self.folder)}: {text}", expected,
-                run([command, "/dev/stdin"], given=bytes_of(text)),
-            )
+            self.explain(f"{os.path.relpath(path, self.folder)}: {text}", command, bytes_of(text), expected)
 
     def run_explained_lines(self, path, command, status, name, rows):
         """Runs `explain` on a file with one line more or another one, for each row. The whole output is compared: the
@@ -119,9 +134,9 @@ class Cases:
             expected = f"/dev/stdin:{at}:{column}: line {at} {word}\n{shown_lines}" + "".join(
                 f"  {it}\n" for it in sentences
             )
-            self.expect(
-                f"{os.path.relpath(path, self.folder)}: {place} {number}: {line}", f"{expected}status: {status}\n",
-                run([command, "/dev/stdin"], given=text),
+            self.explain(
+                f"{os.path.relpath(path, self.folder)}: {place} {number}: {line}", command, text,
+                f"{expected}status: {status}\n",
             )
 
     def run_lines(self, path):

@@ -4,7 +4,7 @@ use crate::seen::{Seen, Unread};
 use noise_explain::names_protocol;
 use noise_lines::{named_pattern, push_shown};
 use noise_names::{Pattern, ProtocolName};
-use noise_tool::{Chosen, Order};
+use noise_tool::{Chosen, Documented, Order};
 use std::alloc::{AllocError, Global};
 use std::io::ErrorKind;
 
@@ -31,6 +31,8 @@ pub fn lines_below(
             exchanged_line(alloc, names.log.as_str(), names.file.as_str())
         }
         Order::Compare(_) => unread_lines(alloc, seen, false, None),
+        Order::Document(_) if status < 3 => Ok(Vec::new(alloc)),
+        Order::Document(Documented::Compare(_)) => unread_lines(alloc, seen, false, None),
         Order::Fill(names) if status < 3 && names_protocol(names.pattern.as_str()) => {
             unnamed_line(alloc, names.pattern.as_bytes())
         }

@@ -27,8 +27,8 @@ pub made-known : (all : Bool) (r : Result Comparison Fault) (Runs Gives : List �
 made-known all (Err why) Runs Gives log file text read runs gives made = tt
 made-known all (Ok (Wrong why)) Runs Gives log file text read runs gives made = tt
 made-known all (Ok (Unread which)) Runs Gives log file text read runs gives made = tt
-made-known all (Ok (Made report)) Runs Gives None file text read runs gives made = tt
-made-known all (Ok (Made report)) Runs Gives (Some bytes) None text read runs gives made = tt
-made-known all (Ok (Made report)) Runs Gives (Some bytes) (Some f) text read runs gives made = subst (λ (l : List ℕ). Compares all l f report) read (made f runs gives)
+made-known all (Ok (Made report facts)) Runs Gives None file text read runs gives made = tt
+made-known all (Ok (Made report facts)) Runs Gives (Some bytes) None text read runs gives made = tt
+made-known all (Ok (Made report facts)) Runs Gives (Some bytes) (Some f) text read runs gives made = subst (λ (l : List ℕ). Compares all l f report) read (made f runs gives)
 
 -- ---- why a comparison ends with status 3

@@ -2,8 +2,10 @@ pub mod Common
 pub mod ConversionLemmas
 pub mod CountingLemmas
 pub mod ComparingLemmas
+pub mod DocumentLemmas
 pub mod EndLemmas
 pub mod OneRunLemmas
+pub mod OutcomeLemmas
 pub mod MetLemmas
 pub mod KeyUseLemmas
 pub mod PerformingLemmas

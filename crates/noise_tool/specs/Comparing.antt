@@ -11,6 +11,9 @@ use Rattle.noise_compare.specs.declared.comparison.Finding.{Finding}
 use Rattle.noise_compare.specs.declared.comparison.Finding.TheVariants.{Agrees, Ends, Differs}
 use Rattle.noise_compare.specs.declared.facts.Facts.{Facts}
 use Rattle.noise_compare.specs.declared.line.Line.{Line}
+use Rattle.noise_documents.specs.Comparison.{AreFactsOf}
+use Rattle.noise_json.specs.Json.{members_in}
+use Rattle.noise_json.specs.declared.object.Object.{Object}
 use Rattle.noise_lines.specs.Faults.{status_of}
 use Rattle.noise_lines.specs.Prefixes.{AppendsPrefix}
 use Rattle.noise_lines.specs.Reported.{error_text, fault_line}
@@ -78,9 +81,21 @@ pub record Compares (all : Bool) (log file : List ℕ) (report : LogReport) : Ty
   pub text_is : report.text.items
       ≡ ((compared ++ skipped_text (written_lines (whole_lines log) - length logged)) ++ cut_text log) ++ known
 
+-- These facts say what was found of the log of this text, by the key schedule of the file of this text.
+pub record HasFacts (log file : List ℕ) (report : LogReport) (facts : Object) : Type 0 where
+  pub logged : List Line
+  pub logged_are : views logged ≡ schedule_lines (plain_text (whole_lines log))
+  pub right : List Line
+  pub right_are : IsScheduleOf file right
+  pub are_facts : AreFactsOf report.finding right logged (members_in facts)
+
 abbrev pub IfMade : Comparison → (LogReport → Type 0) → Type 0
-IfMade (Made report) P = P report
+IfMade (Made report facts) P = P report
 IfMade _ P = ⊤
+
+abbrev pub IfFacts : Comparison → (LogReport → Object → Type 0) → Type 0
+IfFacts (Made report facts) P = P report facts
+IfFacts _ P = ⊤
 
 abbrev pub IfWrong : Comparison → (Uncompared → Type 0) → Type 0
 IfWrong (Wrong why) P = P why

@@ -1,4 +1,5 @@
 pub mod Comparing
+pub mod ComparedDocuments
 pub mod Conversion
 pub mod Counting
 pub mod Ends

@@ -5,6 +5,7 @@ use Rattle.noise_lines.specs.Faults.{status_of}
 use Rattle.noise_lines.specs.Prefixes.{AppendsPrefix}
 use Rattle.noise_lines.specs.Reported.{error_text}
 use Rattle.noise_lines.specs.declared.faults.Fault.{Fault}
+use Rattle.noise_tool.specs.ComparedDocuments.{BeginsCompared, WritesCompared}
 use Rattle.noise_tool.specs.Comparing.{ComparesFiles, ComparesPrefix, IsNotCompared, IsRefusedTwice, NamesInputTwice, StopsComparing}
 use Rattle.noise_tool.specs.Explaining.{ExplainsFiles, ExplainsPrefix, StopsExplaining}
 use Rattle.noise_tool.specs.Filling.{FillsFiles, FillsPrefix, IsFillRefused, StopsFilling}
@@ -13,6 +14,8 @@ use Rattle.noise_tool.specs.Prefixes.{PrintsPrefix}
 use Rattle.noise_tool.specs.Testing.{EndsTest, TestsFiles, TestsPrefix}
 use Rattle.noise_words.specs.declared.orders.Chosen.{Chosen}
 use Rattle.noise_words.specs.declared.orders.Compared.{Compared}
+use Rattle.noise_words.specs.declared.orders.Documented.{Documented}
+use Rattle.noise_words.specs.declared.orders.Documented.TheVariants as documented
 use Rattle.noise_words.specs.declared.orders.Explained.{Explained}
 use Rattle.noise_words.specs.declared.orders.Filled.{Filled}
 use Rattle.noise_words.specs.declared.orders.Tested.{Tested}
@@ -63,6 +66,21 @@ module _ {O E : Type 0} (printed : O → Option (List ℕ)) (reported : E → Op
     pub outside : status ≡ 3 → StopsComparing names unreadable (reported err) (reported err_after)
     pub prefix : (out_after ≡ out) ⊎ ComparesPrefix names.all (bytes_at (string_bytes names.log))
         (bytes_at (string_bytes names.file)) (printed out) (printed out_after)
+
+  -- of `compare` that writes a document
+  pub record CompareDocumentOutcome (names : Compared) (out out_after : O) (err err_after : E) (status : ℕ)
+      : Type 0 where
+    pub written : (status ≡ 3) ⊎ WritesCompared names (bytes_at (string_bytes names.log))
+        (bytes_at (string_bytes names.file)) (printed out) (printed out_after) status
+    pub quiet : (status ≡ 3) ⊎ (err_after ≡ err)
+    pub outside : status ≡ 3 → StopsComparing names unreadable (reported err) (reported err_after)
+    pub prefix : (out_after ≡ out) ⊎ BeginsCompared names (bytes_at (string_bytes names.log))
+        (bytes_at (string_bytes names.file)) (printed out) (printed out_after)
+
+  -- of a command that writes a document
+  abbrev pub DocumentOutcome : Documented → O → O → E → E → ℕ → Type 0
+  DocumentOutcome (documented.Compare names) out out_after err err_after status =
+      CompareDocumentOutcome names out out_after err err_after status
 
   -- of `template` with a file of values
   pub record FillOutcome (names : Filled) (out out_after : O) (err err_after : E) (status : ℕ) : Type 0 where

@@ -30,8 +30,9 @@ use Rattle.noise_tool.specs.declared.run.Outcome.{Outcome}
 use Rattle.noise_words.specs.declared.orders.Chosen.{Chosen}
 use Rattle.noise_words.specs.declared.orders.Chosen.TheVariants.{List as Listing, Show, Check, Template, Talk, Replay, Convert, Trace}
 use Rattle.noise_words.specs.declared.orders.Order.{Order}
-use Rattle.noise_words.specs.declared.orders.Order.TheVariants.{Command, Compare, Explain, Fill, Test}
+use Rattle.noise_words.specs.declared.orders.Order.TheVariants.{Command, Compare, Document, Explain, Fill, Test}
 use Rattle.noise_words.specs.declared.orders.Compared.{Compared}
+use Rattle.noise_words.specs.declared.orders.Documented.{Documented}
 use Rattle.noise_words.specs.declared.orders.Explained.{Explained}
 use Rattle.noise_words.specs.declared.orders.Filled.{Filled}
 use Rattle.noise_words.specs.declared.orders.Tested.{Tested}
@@ -258,6 +259,7 @@ IfCommand (Command chosen) P = P chosen
 IfCommand (Test asked) P = ⊤
 IfCommand (Explain files) P = ⊤
 IfCommand (Compare names) P = ⊤
+IfCommand (Document asked) P = ⊤
 IfCommand (Fill names) P = ⊤
 
 -- of `test`
@@ -266,6 +268,7 @@ IfTest (Command chosen) P = ⊤
 IfTest (Test asked) P = P asked
 IfTest (Explain files) P = ⊤
 IfTest (Compare names) P = ⊤
+IfTest (Document asked) P = ⊤
 IfTest (Fill names) P = ⊤
 
 -- of `explain`
@@ -274,6 +277,7 @@ IfExplain (Command chosen) P = ⊤
 IfExplain (Test asked) P = ⊤
 IfExplain (Explain asked) P = P asked
 IfExplain (Compare names) P = ⊤
+IfExplain (Document asked) P = ⊤
 IfExplain (Fill names) P = ⊤
 
 -- of `compare`
@@ -282,7 +286,17 @@ IfCompare (Command chosen) P = ⊤
 IfCompare (Test asked) P = ⊤
 IfCompare (Explain files) P = ⊤
 IfCompare (Compare names) P = P names
+IfCompare (Document asked) P = ⊤
 IfCompare (Fill names) P = ⊤
+
+-- of a command that writes a document
+abbrev pub IfDocument : Order → (Documented → Type 0) → Type 0
+IfDocument (Command chosen) P = ⊤
+IfDocument (Test asked) P = ⊤
+IfDocument (Explain files) P = ⊤
+IfDocument (Compare names) P = ⊤
+IfDocument (Document asked) P = P asked
+IfDocument (Fill names) P = ⊤
 
 -- of `template` with a file of values
 abbrev pub IfFill : Order → (Filled → Type 0) → Type 0
@@ -290,10 +304,13 @@ IfFill (Command chosen) P = ⊤
 IfFill (Test asked) P = ⊤
 IfFill (Explain files) P = ⊤
 IfFill (Compare names) P = ⊤
+IfFill (Document asked) P = ⊤
 IfFill (Fill names) P = P names
 
--- At status 2 the output is as it was. `explain` alone prints there, and `test` has no such status.
+-- At status 2 the output is as it was. `explain` prints there, and so does what writes a document; `test` has no such
+-- status.
 abbrev pub LeavesAtTwo : {O : Type 0} → Order → O → O → Type 0
 LeavesAtTwo (Test asked) before after = ⊥
 LeavesAtTwo (Explain files) before after = ⊤
+LeavesAtTwo (Document asked) before after = ⊤
 LeavesAtTwo _ before after = after ≡ before

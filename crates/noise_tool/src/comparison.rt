@@ -12,7 +12,7 @@ ghost use Rattle.noise_lines.specs.Verdicts.{named_fault};
 ghost use Rattle.noise_lines.specs.declared.faults.Fault.TheVariants.{Unreadable, Unwritable};
 ghost use Rattle.noise_lines.specs.TracedLines.{traces_of};
 ghost use Rattle.noise_names.specs.Lists.{bytes_of};
-ghost use Rattle.noise_tool.specs.Comparing.{Compares, ComparesPrefix, IfMade, IfUnread, IfWrong, IsCompared, IsListed, IsNotCompared, IsRefusedTwice, IsUncompared, IsWrongLog, NamesInputTwice, StopsComparing, compared_name, finding_status, schedule_of, uncompared_line};
+ghost use Rattle.noise_tool.specs.Comparing.{Compares, ComparesPrefix, HasFacts, IfFacts, IfMade, IfUnread, IfWrong, IsCompared, IsListed, IsNotCompared, IsRefusedTwice, IsUncompared, IsWrongLog, NamesInputTwice, StopsComparing, compared_name, finding_status, schedule_of, uncompared_line};
 ghost use Rattle.noise_tool.specs.FileFacts.{AreFactsOfText};
 ghost use Rattle.noise_tool.specs.Testing.{EndsTest, RunsTo};
 ghost use Rattle.noise_tool.specs.declared.comparison.Comparison.TheVariants.{Wrong};
@@ -24,6 +24,8 @@ use noise_compare::{
     Facts, Finding, Line, LogFault, LogReport, compare_lines, known_lines, plain_text, push_cut,
     push_schedule, push_skipped, read_log, whole_lines, written_lines,
 };
+use noise_documents::found_facts;
+use noise_json::Object;
 use noise_lines::{Fault, Verdict, flush, named_fault, report_fault, verdict_lines, write};
 use noise_words::Compared;
 use std::alloc::{AllocError, Global};
@@ -32,8 +34,8 @@ use std::io::Write;
 /// What comes of a log and a vector file.
 #[derive(Drop)]
 pub enum Comparison {
-    /// They are compared.
-    Made(LogReport),
+    /// They are compared. These facts of it stand in a document.
+    Made(LogReport, Object),
     /// One of them is wrong.
     Wrong(Uncompared),
     /// One of them can't be read.
@@ -92,7 +94,7 @@ pub fn compare_log<F: FilesByName, O: Write, E: Write>(
         (F.bytes_at files.now (string_bytes names.now.file)) (O.contents out.old) (O.contents out.new) }
 {
     match compare_named(alloc, names, files) {
-        Ok(Comparison::Made(report)) => match print_report(&report, out) {
+        Ok(Comparison::Made(report, _)) => match print_report(&report, out) {
             Ok(status) => status,
             Err(fault) => report_fault(alloc, fault, out, err),
         },
@@ -123,14 +125,21 @@ fn print_report<O: Write>(report: &LogReport, out: &mut O) -> Result<u8, Fault>
 {
     write(&report.text, out)?;
     flush(out)?;
-    Ok(match report.finding {
-        Finding::Agrees => 0,
-        Finding::Ends | Finding::Differs => 1,
-    })
+    Ok(finding_status(report.finding))
 }
 
-// What comes of the log and the vector file of these names.
-fn compare_named<F: FilesByName>(
+/// The status for what was found.
+pub(crate) fn finding_status(finding: Finding) -> u8
+    ensures { result ≡ finding_status finding }
+{
+    match finding {
+        Finding::Agrees => 0,
+        Finding::Ends | Finding::Differs => 1,
+    }
+}
+
+/// What comes of the log and the vector file of these names.
+pub(crate) fn compare_named<F: FilesByName>(
     alloc: Global,
     names: &Compared,
     files: &F,
@@ -138,6 +147,9 @@ fn compare_named<F: FilesByName>(
     ensures made { IfOk result (λ made. IfMade made
         (λ report. IfSome (F.bytes_at files.now (string_bytes names.now.log))
         (λ log. IfSome (F.bytes_at files.now (string_bytes names.now.file)) (λ file. Compares names.now.all log file report)))) }
+    ensures facts { IfOk result (λ made. IfFacts made
+        (λ report facts. IfSome (F.bytes_at files.now (string_bytes names.now.log))
+        (λ log. IfSome (F.bytes_at files.now (string_bytes names.now.file)) (λ file. HasFacts log file report facts)))) }
     ensures wrong { IfOk result (λ made. IfWrong made
         (IsUncompared names.now (F.bytes_at files.now (string_bytes names.now.log)) (F.bytes_at files.now
         (string_bytes names.now.file)))) }
@@ -173,6 +185,8 @@ fn compare_traced(
 ) -> Result<Comparison, Fault>
     ensures made { (file : List ℕ) → RunsTo true file traced.now → AreFactsOfText file facts.now
         → IfOk result (λ made. IfMade made (Compares all log.now file)) }
+    ensures facts { (file : List ℕ) → RunsTo true file traced.now
+        → IfOk result (λ made. IfFacts made (HasFacts log.now file)) }
     ensures wrong { IfOk result (λ made. IfWrong made (IsWrongLog log.now)) }
     ensures read { IfOk result (λ made. IfUnread made (λ which. ⊥)) }
     ensures fault { IfErr result EndsTest }
@@ -188,7 +202,8 @@ fn compare_traced(
             let report = compare_lines(alloc, facts, &lines, &right)?;
             let others = written_lines(alloc, &whole)?.saturating_sub(lines.len());
             let known = listed(alloc, all, facts, &lines, &right)?;
-            Ok(Comparison::Made(with_others(alloc, report, others, log, &known)?))
+            let found = found_facts(alloc, report.finding, &lines, &right)?;
+            Ok(Comparison::Made(with_others(alloc, report, others, log, &known)?, found))
         }
         Err(LogFault::Line(number)) => Ok(Comparison::Wrong(Uncompared::WrongLine(number))),
         Err(LogFault::Memory) => Err(Fault::Memory),
@@ -255,8 +270,12 @@ fn wrong_file(fault: Fault) -> Result<Comparison, Fault>
     Ok(Comparison::Wrong(Uncompared::WrongFile(fault)))
 }
 
-// The line that says which file can't be read.
-fn unread_line(alloc: Global, names: &Compared, which: ComparedFile) -> Result<Vec<u8>, AllocError>
+/// The line that says which file can't be read.
+pub(crate) fn unread_line(
+    alloc: Global,
+    names: &Compared,
+    which: ComparedFile,
+) -> Result<Vec<u8>, AllocError>
     ensures { IfOk result
         (λ line. line.items ≡ named_fault (compared_name names.now which) (fault_line Unreadable)) }
 {
@@ -267,8 +286,12 @@ fn unread_line(alloc: Global, names: &Compared, which: ComparedFile) -> Result<V
     verdict_lines(alloc, name, &Verdict::CannotRun(Fault::Unreadable))
 }
 
-// The line that says why a log isn't compared.
-fn uncompared_line(alloc: Global, names: &Compared, why: Uncompared) -> Result<Vec<u8>, AllocError>
+/// The line that says why a log isn't compared.
+pub(crate) fn uncompared_line(
+    alloc: Global,
+    names: &Compared,
+    why: Uncompared,
+) -> Result<Vec<u8>, AllocError>
     ensures { IfOk result (λ line. line.items ≡ uncompared_line names.now why) }
 {
     let (log, file) = (names.log.as_str(), names.file.as_str());

@@ -8,9 +8,9 @@ ghost use Rattle.noise_vectors.specs.VectorFile.{IsVectorFile};
 ghost use Rattle.noise_vectors.specs.VectorText.{file_text};
 ghost use Rattle.noise_vectors.specs.declared.vector.AllowedEvents.TheVariants.{VersionOne};
 ghost use Rattle.noise_vectors.specs.declared.vector.Version.TheVariants.{One};
-ghost use Rattle.noise_tool.specs.Performing.{Converts, HasConverted, HasRun, IfCommand, IfCompare, IfExplain, IfFill, IfTest, IsDone, IsFault, IsKnownAs, IsLongFile, IsNotMet, IsOfLines, IsPlain, IsReadVector, IsRunFault, IsTooLongConverted, IsUnlike, IsUnreadFile, LeavesAtTwo, OfAsked, file_of, takes_pattern};
+ghost use Rattle.noise_tool.specs.Performing.{Converts, HasConverted, HasRun, IfCommand, IfCompare, IfDocument, IfExplain, IfFill, IfTest, IsDone, IsFault, IsKnownAs, IsLongFile, IsNotMet, IsOfLines, IsPlain, IsReadVector, IsRunFault, IsTooLongConverted, IsUnlike, IsUnreadFile, LeavesAtTwo, OfAsked, file_of, takes_pattern};
 ghost use Rattle.noise_tool.specs.Templating.{HasTemplated, IsTemplateFault};
-ghost use Rattle.noise_tool.specs.Outcomes.{CommandOutcome, CompareOutcome, ExplainOutcome, FillOutcome, TestOutcome};
+ghost use Rattle.noise_tool.specs.Outcomes.{CommandOutcome, CompareOutcome, DocumentOutcome, ExplainOutcome, FillOutcome, TestOutcome};
 ghost use Rattle.noise_tool.specs.Prefixes.{PrintsConvertedPrefix, PrintsPrefix, PrintsRunPrefix};
 ghost use Rattle.noise_lines.specs.Lines.{lines_text};
 ghost use Rattle.noise_lines.specs.Prefixes.{AppendsPrefix};
@@ -19,6 +19,7 @@ ghost use Rattle.noise_lines.specs.declared.faults.Fault.{Fault};
 ghost use Rattle.noise_lines.specs.declared.faults.Fault.TheVariants.{TooLong, Unreadable};
 ghost use Rattle.noise_tool.specs.PatternNames.{HasShown, IsShownFault, NamesText};
 
+use crate::compared_document::write_compared;
 use crate::comparison::compare_log;
 use crate::explanation::explain_files;
 use crate::filling::fill_template;
@@ -30,7 +31,7 @@ use crate::trace_file::trace_chosen;
 use noise_explain::{named_template, names_protocol, spelled_template};
 use noise_lines::{Fault, check, compare, convert, flush, list, report_fault, write, write_lines};
 use noise_vectors::{AllowedEvents, VectorFile, read_vector};
-use noise_words::{Chosen, Order};
+use noise_words::{Chosen, Documented, Order};
 use std::alloc::Global;
 use std::io::Write;
 
@@ -61,6 +62,8 @@ pub fn perform<F: FilesByName, O: Write, E: Write>(
         (F.unreadable files.now) asked out.old out.new err.old err.new result) }
     ensures compared { IfCompare order.now (λ names. CompareOutcome O.contents E.contents (F.bytes_at files.now)
         (F.unreadable files.now) names out.old out.new err.old err.new result) }
+    ensures documented { IfDocument order.now (λ asked. DocumentOutcome O.contents E.contents (F.bytes_at files.now)
+        (F.unreadable files.now) asked out.old out.new err.old err.new result) }
     ensures filled { IfFill order.now (λ names. FillOutcome O.contents E.contents (F.bytes_at files.now)
         (F.unreadable files.now) names out.old out.new err.old err.new result) }
     ensures unwritten { result ≡ 2 → LeavesAtTwo order.now out.old out.new }
@@ -79,6 +82,9 @@ pub fn perform<F: FilesByName, O: Write, E: Write>(
             explain_files(alloc, &asked.files, asked.fixes, files, out, err)
         }
         Order::Compare(names) => compare_log(alloc, names, files, out, err),
+        Order::Document(Documented::Compare(names)) => {
+            write_compared(alloc, names, files, out, err)
+        }
         Order::Fill(names) => fill_template(alloc, names, files, out, err),
     }
 }

@@ -7,9 +7,11 @@ use Rattle.noise_words.specs.declared.orders.Chosen.{Chosen}
 use Rattle.noise_words.specs.declared.orders.Chosen.TheVariants as chosen
 use Rattle.noise_words.specs.declared.orders.Order.{Order}
 use Rattle.noise_words.specs.declared.orders.Compared.{Compared}
+use Rattle.noise_words.specs.declared.orders.Documented.{Documented}
+use Rattle.noise_words.specs.declared.orders.Documented.TheVariants as documented
 use Rattle.noise_words.specs.declared.orders.Explained.{Explained}
 use Rattle.noise_words.specs.declared.orders.Filled.{Filled}
-use Rattle.noise_words.specs.declared.orders.Order.TheVariants.{Command, Compare, Explain, Fill, Test}
+use Rattle.noise_words.specs.declared.orders.Order.TheVariants.{Command, Compare, Document, Explain, Fill, Test}
 use Rattle.noise_words.specs.declared.orders.Tested.{Tested}
 use Rattle.noise_words.specs.declared.orders.Traced.{Traced}
 use Rattle.noise_words.specs.declared.orders.TracedPart.{TracedPart}
@@ -67,12 +69,16 @@ trace = (codes "trace", OneWith (codes "FILE") (part_choice ∷ role_choice ∷ 
 abbrev pub template : Text × Wants
 template = (codes "template", OneOrTwo (codes "NAME|FILE") (codes "KEYS"))
 
+-- the flag of the commands that write a document of JSON
+abbrev pub json_flag : Text
+json_flag = codes "json"
+
 -- the flag of `compare`
 abbrev pub all_flag : Text
 all_flag = codes "all"
 
 abbrev pub compare : Text × Wants
-compare = (codes "compare", Two (codes "LOG") (codes "FILE") (all_flag ∷ []))
+compare = (codes "compare", Two (codes "LOG") (codes "FILE") (all_flag ∷ json_flag ∷ []))
 
 -- the commands, each with the values that it wants
 abbrev pub commands : List (Text × Wants)
@@ -168,9 +174,16 @@ named_test tested = (codes "test", map string_bytes tested.files.items, flag_tex
 abbrev pub named_explain : Explained → Named
 named_explain explained = (codes "explain", map string_bytes explained.files.items, flag_text explained.fixes ∷ [])
 
-abbrev pub named_compare : Compared → Named
-named_compare compared =
-    (codes "compare", string_bytes compared.log ∷ string_bytes compared.file ∷ [], flag_text compared.all ∷ [])
+-- `compare`, with or without a document
+abbrev pub named_compare : Bool → Compared → Named
+named_compare json compared = (
+  codes "compare",
+  string_bytes compared.log ∷ string_bytes compared.file ∷ [],
+  flag_text compared.all ∷ flag_text json ∷ [],
+)
+
+abbrev pub named_document : Documented → Named
+named_document (documented.Compare compared) = named_compare true compared
 
 abbrev pub named_fill : Filled → Named
 named_fill filled = (codes "template", string_bytes filled.pattern ∷ string_bytes filled.keys ∷ [], [])
@@ -179,7 +192,8 @@ abbrev pub order_of : Order → Named
 order_of (Command c) = words_of c
 order_of (Test tested) = named_test tested
 order_of (Explain explained) = named_explain explained
-order_of (Compare compared) = named_compare compared
+order_of (Compare compared) = named_compare false compared
+order_of (Document asked) = named_document asked
 order_of (Fill filled) = named_fill filled
 
 -- what is chosen of these values, where it is left out or is one of them

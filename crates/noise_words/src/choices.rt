@@ -3,12 +3,12 @@
 
 ghost use Rattle.std.specs.Prelude.{◌≡◌, IfOk, codes, option_map};
 ghost use Rattle.clap.specs.Words.{found_of, rows_of};
-ghost use Rattle.noise_words.specs.CommandLine.{choice_in, flag_in, flag_text, named_compare, named_explain, named_test, named_trace, order_of, part_choice, part_text, role_choice, role_text, stated_by};
+ghost use Rattle.noise_words.specs.CommandLine.{choice_in, flag_in, flag_text, named_explain, named_test, named_trace, order_of, part_choice, part_text, role_choice, role_text, stated_by};
 
 use crate::command_line::{value, values};
-use crate::help::{ALL, FIXES, HEADING, ONLY, ROLE, TRACES};
+use crate::help::{ALL, FIXES, HEADING, JSON, ONLY, ROLE, TRACES};
 use crate::orders::{
-    Chosen, Compared, Explained, Filled, Order, Tested, Traced, TracedPart, TracedRole,
+    Chosen, Compared, Documented, Explained, Filled, Order, Tested, Traced, TracedPart, TracedRole,
 };
 use clap::ArgMatches;
 use std::alloc::{AllocError, Global};
@@ -58,19 +58,22 @@ pub fn explained(alloc: Global, found: &ArgMatches<'_>) -> Result<Option<Explain
     }
 }
 
-/// What is compared, where the matches of `compare` have a log and a file.
-pub fn compared(alloc: Global, found: &ArgMatches<'_>) -> Result<Option<Compared>, AllocError>
-    ensures { IfOk result (λ c. option_map named_compare c ≡ stated_by (codes "compare") (rows_of
-        (found_of found.now))) }
+/// The order for `compare`, where its matches have a log and a file.
+pub fn compared(alloc: Global, found: &ArgMatches<'_>) -> Result<Option<Order>, AllocError>
+    ensures { IfOk result (λ o. option_map order_of o ≡ stated_by (codes "compare") (rows_of (found_of found.now))) }
 {
     let all = is_given(found, ALL.name);
     let Some(log) = value(alloc, found, "LOG")? else {
         return Ok(None);
     };
-    match value(alloc, found, "FILE")? {
-        Some(file) => Ok(Some(Compared { log, file, all })),
-        None => Ok(None),
+    let Some(file) = value(alloc, found, "FILE")? else {
+        return Ok(None);
+    };
+    let compared = Compared { log, file, all };
+    if is_given(found, JSON.name) {
+        return Ok(Some(Order::Document(Documented::Compare(compared))));
     }
+    Ok(Some(Order::Compare(compared)))
 }
 
 /// The order for `template`, where its matches have a pattern: with the values of a file, where they have one.

@@ -8,8 +8,8 @@ ghost use Rattle.noise_words.specs.CommandLine.{Nothing, asked, compare, explain
 
 use crate::choices::{compared, explained, templated, tested, traced, wrong_choice};
 use crate::help::{
-    ALL, COMPARE, EXPLAIN, FIXES, Flag, HEADING, OF_PATTERNS, OF_VECTORS, ONLY, ROLE, Subcommand,
-    TEMPLATE, TEST, TRACE, TRACES, ValueOption,
+    ALL, COMPARE, EXPLAIN, FIXES, Flag, HEADING, JSON, OF_PATTERNS, OF_VECTORS, ONLY, ROLE,
+    Subcommand, TEMPLATE, TEST, TRACE, TRACES, ValueOption,
 };
 use crate::orders::{Chosen, LineFault, Order};
 use clap::error::ErrorKind;
@@ -154,21 +154,22 @@ fn with_options<'a>(alloc: Global) -> Result<Command<'a>, AllocError>
     whole.arg(flag_of(alloc, &HEADING))
 }
 
-// With the subcommand that has two values and a flag, too.
+// With the subcommand that has two values and two flags, too.
 fn with_compare<'a>(alloc: Global, whole: Command<'a>) -> Result<Command<'a>, AllocError>
     ensures { IfOk result (λ c. app_of c ≡ with_subcommand (app_of whole.entry) (subcommand compare)) }
 {
     whole.subcommand(with_two(alloc)?)
 }
 
-// The subcommand that has two values and a flag.
+// The subcommand that has two values and two flags.
 fn with_two<'a>(alloc: Global) -> Result<Command<'a>, AllocError>
     ensures shape { IfOk result (λ c. shape_of c ≡ subcommand compare) }
     ensures local { IfOk result (λ c. (out-Command c).has_globals ≡ false) }
 {
     let whole = with_value(alloc, &COMPARE)?;
     let whole = whole.arg(second_value(alloc))?;
-    whole.arg(flag_of(alloc, &ALL))
+    let whole = whole.arg(flag_of(alloc, &ALL))?;
+    whole.arg(flag_of(alloc, &JSON))
 }
 
 // Its second value.
@@ -269,7 +270,7 @@ fn order(alloc: Global, matches: &ArgMatches<'_>) -> Result<Option<Order>, Alloc
         return Ok(explained(alloc, found)?.map(Order::Explain));
     }
     if name == "compare" {
-        return Ok(compared(alloc, found)?.map(Order::Compare));
+        return compared(alloc, found);
     }
     if name == "template" {
         return templated(alloc, found);

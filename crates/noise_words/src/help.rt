@@ -142,7 +142,7 @@ pub const TRACE: Subcommand<'static> = Subcommand {
     example: "Example: noise trace --role responder examples/vectors/nnpsk2.vector",
 };
 
-/// The subcommand that has two values and a flag: the first.
+/// The subcommand that has two values and two flags: the first.
 pub const COMPARE: Subcommand<'static> = Subcommand {
     name: "compare",
     value: "LOG",
@@ -183,6 +183,12 @@ pub const TRACES: Flag<'static> = Flag {
 pub const ALL: Flag<'static> = Flag {
     name: "all",
     meaning: "Print each mistake that is known at the step that differs, too",
+};
+
+/// Whether a document of JSON is written in place of lines.
+pub const JSON: Flag<'static> = Flag {
+    name: "json",
+    meaning: "Print one line, a document of JSON, in place of other lines",
 };
 
 /// Whether corrected texts are printed.

@@ -10,5 +10,6 @@ mod orders;
 pub use command_line::chosen;
 pub use no_command::{line_status, next_commands};
 pub use orders::{
-    Chosen, Compared, Explained, Filled, LineFault, Order, Tested, Traced, TracedPart, TracedRole,
+    Chosen, Compared, Documented, Explained, Filled, LineFault, Order, Tested, Traced, TracedPart,
+    TracedRole,
 };

@@ -65,6 +65,13 @@ pub struct Compared {
     pub all: bool,
 }
 
+/// A command whose result is written as a document of JSON.
+#[derive(Drop, PartialEq, Eq)]
+pub enum Documented {
+    /// Compare a key schedule that was logged with that of a vector file.
+    Compare(Compared),
+}
+
 /// What is filled in.
 #[derive(Drop, PartialEq, Eq)]
 pub struct Filled {
@@ -108,6 +115,8 @@ pub enum Order {
     Explain(Explained),
     /// Compare a key schedule that was logged with that of a vector file.
     Compare(Compared),
+    /// Do this command, and write a document of JSON in place of its lines.
+    Document(Documented),
     /// Print the vector file of `Template` with the values of a file in the place of its placeholders.
     Fill(Filled),
 }

@@ -1,6 +1,7 @@
 use Rattle.std.proofs.Common.{Some, rules, inr, arith}
 use Rattle.noise_tool.proofs.Common.{AppendsPrefix, error_text, Fault}
 use Rattle.noise_tool.proofs.AskedLemmas.{done-asked, prefix-asked, short-asked, stopped-asked, stopped-not-read}
+use Rattle.noise_tool.proofs.OutcomeLemmas.{outcome-of}
 use Rattle.noise_tool.proofs.PerformingLemmas.{reported-at-two, reported-fault}
 use Rattle.noise_tool.proofs.PrefixLemmas.{reported-itself, reported-outside, reported-prefix}
 use Rattle.noise_tool.proofs.Shortness.{short-read}
@@ -91,3 +92,14 @@ returns-clause-filled g c = rw c.in-Fill.is (record {
   outside = search rules;
   prefix = search rules;
 })
+
+pub returns-in-Document-Compare-clause-documented : goal.returns-in-Document-Compare-clause-documented
+returns-in-Document-Compare-clause-documented g c =
+    rw c.in-Document-Compare.is
+    (outcome-of (g.O.Write.contents) (g.E.Write.contents) (g.F.FilesByName.bytes_at c.args.files.now) (g.F.FilesByName.unreadable c.args.files.now)
+    c.in-Document-Compare.field-0 c.args.out.now c.write_compared.new.out c.args.err.now c.write_compared.new.err c.write_compared.result (record {
+      written = c.write_compared.ensures.written;
+      quiet = c.write_compared.ensures.quiet;
+      outside = c.write_compared.ensures.outside;
+      prefix = c.write_compared.ensures.prefix;
+    }))
