@@ -1,7 +1,10 @@
 use Rattle.std.proofs.Common.{Some, rules, inr, arith}
 use Rattle.noise_tool.proofs.Common.{AppendsPrefix, error_text, Fault}
 use Rattle.noise_tool.proofs.AskedLemmas.{done-asked, prefix-asked, short-asked, stopped-asked, stopped-not-read}
-use Rattle.noise_tool.proofs.OutcomeLemmas.{outcome-of}
+use borrow.Enum.Total.{values_d}
+use Rattle.noise_words.specs.contracts.orders.Documented as documented_type
+use Rattle.noise_words.specs.contracts.orders.Order as order_type
+use Rattle.noise_tool.proofs.OutcomeLemmas.{outcome-by, reading-of}
 use Rattle.noise_tool.proofs.PerformingLemmas.{reported-at-two, reported-fault}
 use Rattle.noise_tool.proofs.PrefixLemmas.{reported-itself, reported-outside, reported-prefix}
 use Rattle.noise_tool.proofs.Shortness.{short-read}
@@ -95,9 +98,13 @@ returns-clause-filled g c = rw c.in-Fill.is (record {
 
 pub returns-in-Document-Compare-clause-documented : goal.returns-in-Document-Compare-clause-documented
 returns-in-Document-Compare-clause-documented g c =
+    let default = c.in-Document-Compare.names-in-Document-1-own.given.0 in
+    let default' = c.in-Document-Compare.result-1-own.given.0 in
     rw c.in-Document-Compare.is
-    (outcome-of (g.O.Write.contents) (g.E.Write.contents) (g.F.FilesByName.bytes_at c.args.files.now) (g.F.FilesByName.unreadable c.args.files.now)
-    c.in-Document-Compare.field-0 c.args.out.now c.write_compared.new.out c.args.err.now c.write_compared.new.err c.write_compared.result (record {
+    (outcome-by (g.O.Write.contents) (g.E.Write.contents) (g.F.FilesByName.bytes_at c.args.files.now) (g.F.FilesByName.unreadable c.args.files.now)
+    c.in-Document-Compare.field-0 (values_d documented_type.enum 0 default (values_d order_type.enum 4 default' c.args.order.now).0).0
+    c.args.out.now c.write_compared.new.out c.args.err.now c.write_compared.new.err c.write_compared.result
+    (reading-of c.args.order.now c.in-Document-Compare.field-0 default default' c.in-Document-Compare.is) (record {
       written = c.write_compared.ensures.written;
       quiet = c.write_compared.ensures.quiet;
       outside = c.write_compared.ensures.outside;
