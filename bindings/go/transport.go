@@ -23,8 +23,8 @@ type Receiver struct {
 }
 
 // Seal appends the next message to dst: 16 bytes longer than the payload, which has at most 65519; dst may be
-// payload[:0]. It allocates no memory if dst has room, unless that room overlaps the payload in another way. At an error
-// nothing changes: ErrTooLong, ErrOneWay, ErrExhausted, ErrClosed.
+// payload[:0]. It allocates no memory if dst has room, unless that room overlaps the payload in another way. At an
+// error nothing changes: ErrTooLong, ErrOneWay, ErrExhausted, ErrClosed.
 func (s *Sender) Seal(dst, payload []byte) ([]byte, error) {
 	s.mutex.Lock()
 	whole, err := s.seal(dst, payload)
