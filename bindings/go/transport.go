@@ -22,9 +22,9 @@ type Receiver struct {
 	closed bool
 }
 
-// Seal appends the next message to dst: 16 bytes longer than the payload, which has at most 65519. It allocates no
-// memory if dst has room, unless that room overlaps the payload. At an error nothing changes: ErrTooLong, ErrOneWay,
-// ErrExhausted, ErrClosed.
+// Seal appends the next message to dst: 16 bytes longer than the payload, which has at most 65519; dst may be
+// payload[:0]. It allocates no memory if dst has room, unless that room overlaps the payload in another way. At an
+// error nothing changes: ErrTooLong, ErrOneWay, ErrExhausted, ErrClosed.
 func (s *Sender) Seal(dst, payload []byte) ([]byte, error) {
 	s.mutex.Lock()
 	whole, err := s.seal(dst, payload)
@@ -40,19 +40,25 @@ func (s *Sender) seal(dst, payload []byte) ([]byte, error) {
 		return dst, ErrTooLong
 	}
 	whole, room := grown(dst, len(payload)+TagLen)
-	payload = apart(room, payload, &s.spare)
-	reads(payload)
-	writes(room)
-	code := library.Seal(
-		&s.memory.opaque,
-		place(payload), uint(len(payload)),
-		place(room), uint(len(room)),
-		&s.memory.result,
-	)
-	if code != 0 {
+	if code := s.sealInto(room, payload); code != 0 {
 		return dst, Code(code)
 	}
 	return whole, nil
+}
+
+// sealInto seals a payload as the first bytes of room; one that is there already isn't copied.
+func (s *Sender) sealInto(room, payload []byte) uint32 {
+	m := &s.memory
+	if len(payload) > 0 && &payload[0] == &room[0] {
+		writes(room)
+		return library.SealInPlace(&m.opaque, &room[0], uint(len(room)), uint(len(payload)), &m.result)
+	}
+	payload = apart(room, payload, &s.spare)
+	reads(payload)
+	writes(room)
+	return library.Seal(
+		&m.opaque, place(payload), uint(len(payload)), place(room), uint(len(room)), &m.result,
+	)
 }
 
 // Nonce returns the nonce of the next message: how many were sealed. After Close it is 0.

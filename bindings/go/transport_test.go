@@ -83,6 +83,19 @@ func TestSealAndOpenInPlace(t *testing.T) {
 	wants(t, err, ErrLength)
 }
 
+// TestRefusedInPlace seals over a payload where nothing may be sent: the payload stays as it was.
+func TestRefusedInPlace(t *testing.T) {
+	_, b := finished(t, "N")
+	s, _, err := b.Split()
+	must(t, err)
+	place := append(make([]byte, 0, 64), "in place"...)
+	_, err = s.Seal(place[:0], place)
+	wants(t, err, ErrOneWay)
+	if string(place) != "in place" || !bytes.Equal(place[8:64], make([]byte, 56)) {
+		t.Errorf("%q", place[:64])
+	}
+}
+
 func TestDatagrams(t *testing.T) {
 	a, b := finished(t, "IK")
 	_, _, err := a.Datagrams(65)

@@ -3,7 +3,7 @@ calls this.
 
 Of each line of the table all programs run in turn, for some rounds, on one processor. A figure is the median over the
 rounds, and so is a ratio: how many times as fast as the peer the library was in the same round. FIGURES gets a line for
-each, and before them what they were measured on.
+each, and before them what they were measured on. Where the load shows that something else runs, no figures are kept.
 """
 from __future__ import annotations
 
@@ -19,6 +19,9 @@ from pathlib import Path
 
 SHORT = [64, 1024, 16384]
 LONG = [64, 256, 1024, 4096, 16384, 65519]
+ENDS = [64, 16384]
+LONGER = 20    # times as long are the samples of channels: to connect and to close takes some milliseconds in Node
+MOST = 2.0    # the load above which no figure is kept; a channel has one process more
 
 # In which language, what, of how many bytes, and the peers: PROGRAM:OPERATION, and what the table calls it.
 ROWS = [
@@ -43,7 +46,13 @@ ROWS = [
     ("Python", "XX", [0], {"python:dissononce.XX": "dissononce"}),
     ("JavaScript", "transport", SHORT, {"js:node:crypto.transport": "node:crypto"}),
     ("JavaScript", "seal", [16384], {"C:seal": "C"}),
+    ("Go", "channel", ENDS, {"go:tls.channel": "crypto/tls"}),
+    ("Rust", "channel", ENDS, {"rust:rustls.channel": "rustls"}),
+    ("Python", "channel", ENDS, {"python:ssl.channel": "ssl"}),
+    ("JavaScript", "channel", ENDS, {"js:node:tls.channel": "node:tls"}),
 ]
+# What is measured at each level of the processor, in C.
+LEVELS = [("seal", ENDS), ("transport", [64]), ("XX", [0])]
 COUNTED = [("seal", SHORT), ("transport", SHORT), ("stream", SHORT), ("NN", [0]), ("XX", [0])]
 
 
@@ -94,6 +103,18 @@ class Job:
         return statistics.median(theirs / ours for ours, theirs in zip(self.samples, peer.samples))
 
 
+def wait_for_quiet(seconds: float) -> None:
+    """Waits until what was built before has left the load, or so long."""
+    end = time.monotonic() + seconds
+    while os.getloadavg()[0] > MOST / 2 and time.monotonic() < end:
+        time.sleep(5)
+
+
+def must_be_quiet(most: float) -> None:
+    if (load := os.getloadavg()[0]) > most:
+        sys.exit(f"speed: the load is {load:.1f}, so no figures are kept: end what else runs here, and begin again")
+
+
 def warm_up(job: Job, seconds: float) -> None:
     """Lets the processor reach its speed before the first row."""
     end = time.monotonic() + seconds
@@ -109,18 +130,23 @@ def measured(jobs: list[Job], rounds: int, milliseconds: float) -> None:
             job.sample()
 
 
+def has(programs: dict[str, Program], name: str, operation: str) -> bool:
+    return name in programs and operation in programs[name].operations
+
+
 def rows(programs: dict[str, Program], subjects: dict[str, list[str]], options: argparse.Namespace) -> list[str]:
     """The figures, a line each: language, operation, bytes, nanoseconds, peer, its nanoseconds, and the ratio."""
     made = []
     for language, operation, sizes, peers in ROWS:
         ours = [it for it in subjects[language] if it in programs]
-        theirs = {key: name for key, name in peers.items() if key.partition(":")[0] in programs}
+        theirs = {key: name for key, name in peers.items() if has(programs, *key.split(":", 1))}
         for size in sizes if ours and theirs else ():
             mine = [Job(programs[it], operation, size) for it in ours]
             others = {
                 name: Job(programs[key.partition(":")[0]], key.partition(":")[2], size) for key, name in theirs.items()
             }
-            measured([*mine, *others.values()], options.rounds, options.milliseconds)
+            longer = LONGER if operation == "channel" else 1
+            measured([*mine, *others.values()], options.rounds, longer * options.milliseconds)
             for job, label in zip(mine, ours):
                 said = language if label == language or label not in subjects["C"] else label
                 made += [
@@ -129,6 +155,29 @@ def rows(programs: dict[str, Program], subjects: dict[str, list[str]], options: 
                     for name, peer in others.items()
                 ]
                 print(*made[-len(others):], sep="\n", flush=True)
+            if not options.busy:
+                must_be_quiet(MOST + (operation == "channel"))
+    return made
+
+
+def by_level(program: str, core: list[str], options: argparse.Namespace) -> list[str]:
+    """The figures of each level that the processor has, a line each: operation, bytes, level, nanoseconds, and how many
+    times as fast it is as the lowest."""
+    programs = {
+        it: Program(it, ["env", f"NOISE_LEVEL={it}", *core, program]) for it in "134" if it <= options.level
+    }
+    made = []
+    for operation, sizes in LEVELS:
+        for size in sizes:
+            jobs = {it: Job(program, operation, size) for it, program in programs.items()}
+            measured(list(jobs.values()), options.rounds, options.milliseconds)
+            made += [
+                f"level {operation} {size} {it} {job.median():.0f} {1 / jobs['1'].times_as_fast(job):.2f}"
+                for it, job in jobs.items()
+            ]
+            print(*made[-len(jobs):], sep="\n", flush=True)
+            if not options.busy:
+                must_be_quiet(MOST)
     return made
 
 
@@ -196,7 +245,11 @@ def main() -> None:
         "--beside", action="append", default=[], help="the name of another library in C, whose program is FOLDER/NAME"
     )
     words.add_argument("--level", default="?", help="the level of this processor")
+    words.add_argument("--busy", action="store_true", help="measures at any load, and keeps no figures")
     options = words.parse_args()
+    if not options.busy:
+        wait_for_quiet(300)
+        must_be_quiet(MOST)
     begun = os.getloadavg()[0]
     core = ["taskset", "-c", str((os.cpu_count() or 1) - 1)]
     calls = {it.stem: [str(it)] for it in sorted(options.folder.glob("*.program"))}
@@ -207,8 +260,12 @@ def main() -> None:
     subjects = {"C": ["C", *options.beside], "Go": ["go"], "Rust": ["rust"], "Python": ["python"], "JavaScript": ["js"]}
     warm_up(Job(programs["C"], "seal", 64), 3)
     made = rows(programs, subjects, options)
+    if (levels := options.folder / "levels").exists():
+        made += by_level(str(levels), core, options)
     for name in subjects["C"]:
         made += counted(calls[name], name, options.folder)
+    if options.busy:
+        sys.exit("speed: measured at any load, so no figures are kept")
     options.figures.write_text(
         "\n".join(
             ["# Made by tools/speed/run.", *circumstances((begun, os.getloadavg()[0]), options.level), *made, ""]

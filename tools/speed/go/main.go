@@ -16,7 +16,11 @@ import (
 	flynn "github.com/flynn/noise"
 )
 
-type operation struct{ prepare, run func(size int) }
+// An operation is prepared, runs some times, is finished, and closed, what isn't measured any more.
+type operation struct {
+	prepare, run  func(size int)
+	finish, close func()
+}
 
 var (
 	buffer   = make([]byte, 70000)
@@ -103,27 +107,32 @@ func shakeFlynn(pattern flynn.HandshakePattern, dh flynn.DHFunc) {
 	}
 }
 
+// call is an operation that needs no finishing.
+func call(prepare, run func(size int)) operation {
+	return operation{prepare, run, func() {}, func() {}}
+}
+
 var operations = map[string]operation{
-	"transport": {func(int) { shake("NN") }, func(size int) {
+	"transport": call(func(int) { shake("NN") }, func(size int) {
 		message, err := sender.Seal(buffer[:0], buffer[:size])
 		must(err)
 		_, err = receiver.Open(message[:0], message)
 		must(err)
-	}},
-	"flynn.seal": {func(int) { shakeFlynn(flynn.HandshakeNN, free{}) }, func(size int) {
+	}),
+	"flynn.seal": call(func(int) { shakeFlynn(flynn.HandshakeNN, free{}) }, func(size int) {
 		_, err := encrypts.Encrypt(buffer[:0], nil, buffer[:size])
 		must(err)
-	}},
-	"flynn.transport": {func(int) { shakeFlynn(flynn.HandshakeNN, free{}) }, func(size int) {
+	}),
+	"flynn.transport": call(func(int) { shakeFlynn(flynn.HandshakeNN, free{}) }, func(size int) {
 		message, err := encrypts.Encrypt(buffer[:0], nil, buffer[:size])
 		must(err)
 		_, err = decrypts.Decrypt(message[:0], nil, message)
 		must(err)
-	}},
-	"XX":            {nothing, func(int) { shake("XX") }},
-	"flynn.NN.free": {nothing, func(int) { shakeFlynn(flynn.HandshakeNN, free{}) }},
-	"flynn.XX.free": {nothing, func(int) { shakeFlynn(flynn.HandshakeXX, free{}) }},
-	"flynn.XX":      {nothing, func(int) { shakeFlynn(flynn.HandshakeXX, flynn.DH25519) }},
+	}),
+	"XX":            call(nothing, func(int) { shake("XX") }),
+	"flynn.NN.free": call(nothing, func(int) { shakeFlynn(flynn.HandshakeNN, free{}) }),
+	"flynn.XX.free": call(nothing, func(int) { shakeFlynn(flynn.HandshakeXX, free{}) }),
+	"flynn.XX":      call(nothing, func(int) { shakeFlynn(flynn.HandshakeXX, flynn.DH25519) }),
 }
 
 func nothing(int) {}
@@ -133,6 +142,9 @@ func main() {
 	var err error
 	keyPair, err = noise.GenerateKeyPair()
 	must(err)
+	for name, it := range channels() {
+		operations[name] = it
+	}
 	for lines := bufio.NewScanner(os.Stdin); lines.Scan(); {
 		if lines.Text() == "list" {
 			for name := range operations {
@@ -152,6 +164,8 @@ func main() {
 		for i := 0; i < count; i++ {
 			it.run(size)
 		}
+		it.finish()
 		fmt.Println(now() - begun)
+		it.close()
 	}
 }

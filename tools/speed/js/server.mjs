@@ -3,6 +3,7 @@
 import { createCipheriv, createDecipheriv } from 'node:crypto';
 import { createInterface } from 'node:readline';
 import { Handshake, load } from '../../../bindings/js/noise.mjs';
+import { channels, stop } from './channel.mjs';
 
 await load();
 const key = new Uint8Array(32);
@@ -35,6 +36,7 @@ const operations = {
 };
 
 async function timed(name, size, count) {
+  if (name in channels) return channels[name](size, count);
   const run = operations[name](await connect());
   const text = new Uint8Array(size);
   const begun = process.cpuUsage();
@@ -45,5 +47,7 @@ async function timed(name, size, count) {
 
 for await (const line of createInterface({ input: process.stdin })) {
   const [name, size, count] = line.split(' ');
-  console.log(name === 'list' ? Object.keys(operations).join(' ') : await timed(name, Number(size), Number(count)));
+  const all = { ...operations, ...channels };
+  console.log(name === 'list' ? Object.keys(all).join(' ') : await timed(name, Number(size), Number(count)));
 }
+await stop();

@@ -18,6 +18,8 @@ from dissononce.processing.impl.handshakestate import HandshakeState
 from dissononce.processing.impl.symmetricstate import SymmetricState
 from yulimosar import Config, Handshake, KeyPair
 
+import channel
+
 KEYS = KeyPair.generate(), KeyPair.generate()
 THEIR_KEYS = X25519DH().generate_keypair(), X25519DH().generate_keypair()
 NONCE = bytes(12)
@@ -64,6 +66,8 @@ SHAKES = {"XX": connect, "dissononce.XX": dissononce}
 
 def timed(name: str, size: int, count: int) -> int:
     """The nanoseconds of processor time of so many calls."""
+    if name in channel.CHANNELS:
+        return channel.timed(channel.CHANNELS[name], size, count)
     if name in SHAKES:
         begun = time.process_time_ns()
         for _ in range(count):
@@ -79,5 +83,8 @@ def timed(name: str, size: int, count: int) -> int:
 
 for line in sys.stdin:
     words = line.split()
-    print(*PAIRS, *SHAKES) if words == ["list"] else print(timed(words[0], int(words[1]), int(words[2])))
+    if words == ["list"]:
+        print(*PAIRS, *SHAKES, *channel.CHANNELS)
+    else:
+        print(timed(words[0], int(words[1]), int(words[2])))
     sys.stdout.flush()

@@ -1,5 +1,7 @@
 //! The package for Rust, and what a program in Rust would seal with otherwise: ring's AEAD, which snow can use, too.
 //! Standard input is that of c/server.h. X25519 costs nothing here.
+mod channel;
+
 use ring::aead::{Aad, LessSafeKey, Nonce, UnboundKey, CHACHA20_POLY1305};
 use std::io::BufRead;
 use yulimosar::{Builder, Dh, DhError, Ephemeral, Receiver, Sender};
@@ -87,16 +89,22 @@ fn timed(name: &str, size: usize, count: usize) -> u64 {
             buffer[size..].copy_from_slice(tag.as_ref());
             key.open_in_place(nonce(), Aad::empty(), &mut buffer).unwrap();
         }),
+        "channel" => channel::timed(channel::noise, size, count),
+        #[cfg(feature = "tls")]
+        "rustls.channel" => channel::timed(channel::tls::open, size, count),
         _ => panic!("{name}: no such operation"),
     }
 }
+
+/// The operation of rustls, which Debian has, where a certificate is there.
+const TLS: &str = if cfg!(feature = "tls") { " rustls.channel" } else { "" };
 
 fn main() {
     for line in std::io::stdin().lock().lines() {
         let line = line.unwrap();
         let words: Vec<&str> = line.split(' ').collect();
         match words[..] {
-            ["list"] => println!("seal transport XX ring.seal ring.transport"),
+            ["list"] => println!("seal transport XX ring.seal ring.transport channel{TLS}"),
             [name, size, count] => println!("{}", timed(name, size.parse().unwrap(), count.parse().unwrap())),
             _ => panic!("{line}"),
         }
