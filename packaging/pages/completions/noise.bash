@@ -14,7 +14,7 @@ _noise() {
         *,trace,--only) words='handshake transport' ;;
         *,trace,--role) words='initiator responder' ;;
         *,trace,*) words='--only --role --heading ' files=yes ;;
-        *,compare,*) words='--all ' files=yes ;;
+        *,compare,*) words='--all --json ' files=yes ;;
     esac
     mapfile -t COMPREPLY <<<"$(compgen -W "$words" -- "$word"; [ -z "$files" ] || compgen -f -- "$word")"
     [ -n "${COMPREPLY[0]}" ] || COMPREPLY=()

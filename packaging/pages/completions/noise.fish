@@ -26,4 +26,5 @@ complete -c noise -n '__fish_seen_subcommand_from trace' -l role -x -a 'initiato
 complete -c noise -n '__fish_seen_subcommand_from trace' -l heading
 complete -c noise -n '__fish_seen_subcommand_from trace' -F
 complete -c noise -n '__fish_seen_subcommand_from compare' -l all
+complete -c noise -n '__fish_seen_subcommand_from compare' -l json
 complete -c noise -n '__fish_seen_subcommand_from compare' -F
