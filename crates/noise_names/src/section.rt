@@ -21,7 +21,7 @@ pub(crate) fn parse_section(section: &[u8]) -> Result<ProtocolName, NameFault>
 fn is_base_byte(byte: u8) -> bool
     ensures { result ≡ is_base_byte byte }
 {
-    byte.is_ascii_uppercase() || byte.is_ascii_digit()
+    matches!(byte, b'A'..=b'Z' | b'0'..=b'9')
 }
 
 /// How many upper-case letters and digits are at the front of a pattern section.
