@@ -8,7 +8,8 @@ use Rattle.noise_names.specs.Tokens.{other}
 use Rattle.noise_names.specs.Plan.{places_of}
 use Rattle.noise_names.specs.Validity.{is_among}
 use Rattle.noise_handshake.specs.Counterparts.{DhResultsAgree, shown_before}
-use Rattle.noise_handshake.specs.Setup.{has_before, public_keys, token_of}
+use Rattle.noise_keys.specs.KeyTokens.{token_of}
+use Rattle.noise_handshake.specs.Setup.{has_before, public_keys}
 use Rattle.noise_c.specs.declared.structs.NoiseSetup.{NoiseSetup}
 use Rattle.noise_c.specs.HandshakeStructs.{psks_in}
 use Rattle.noise_c.specs.TwoRuns.{Dh, Knows}

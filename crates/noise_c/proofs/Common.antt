@@ -8,7 +8,7 @@ pub use Rattle.noise_handshake.specs.Asking.{IsWantedToRead, IsWantedToWrite, Wa
 pub use Rattle.noise_handshake.specs.HandshakeValue.{HandshakeValue, IsAgreement, ended_as, length_unless, message_len_of, read_fault, write_fault}
 pub use Rattle.noise_handshake.specs.Late.{IsLateWhole, party_with, with_later}
 pub use Rattle.noise_handshake.specs.Matching.{DoesNotRead, DoesNotWrite, IsParty, after_message, after_own}
-pub use Rattle.noise_handshake.specs.Party.{Accepts, BeginsAs, CanBegin, Fit, Fits, Party, Reader, Reads, Refuses, Stops, cause_at, cause_of, dh_result_of, first_psk, known_after, own_at, psks_after, reader, remote_after, remote_at, tokens_at, tokens_now}
+pub use Rattle.noise_handshake.specs.Party.{Accepts, BeginsAs, CanBegin, Fit, Fits, Party, Reader, Reads, Refuses, Stops, cause_at, cause_of, dh_result_of, first_psk, known_after, psks_after, reader, remote_after, remote_at, tokens_at, tokens_now}
 pub use Rattle.noise_handshake.specs.Setup.{party_at_start, psks_of, setup_fault}
 pub use Rattle.noise_handshake.specs.Wanting.{LacksDhResultFor, StopsFor, WantsToRead, WantsToWrite}
 pub use Rattle.noise_handshake.specs.Writing.{Given, Gives, LacksDhResultAt, Writer, Writes, writer}
@@ -19,6 +19,7 @@ pub use Rattle.noise_handshake.specs.declared.faults.Want.{Want}
 pub use Rattle.noise_handshake.specs.declared.remote.Remote.{Remote}
 pub use Rattle.noise_keys.specs.Table.{Table, TableEntry, dh_result_in, is_for, same_own}
 pub use Rattle.noise_keys.specs.declared.keys.Own.{Own}
+pub use Rattle.noise_keys.specs.KeyTokens.{own_at}
 pub use Rattle.noise_names.specs.Plan.{Place, Plan, does, has_psk, message_places, place, places_before, token_places}
 pub use Rattle.noise_names.specs.Validity.{IsValid, KeepsRules, dh_is_first, is_at, occurs}
 pub use Rattle.noise_names.specs.declared.token.Role.{Role}

@@ -10,9 +10,10 @@ use Rattle.noise_names.specs.Validity.{is_among}
 use Rattle.noise_handshake.specs.Passed.{passed_places}
 use Rattle.noise_state.specs.declared.symmetric.SymmetricState.{SymmetricState}
 use Rattle.noise_keys.specs.declared.keys.Own.TheVariants.{Ephemeral, Static}
+use Rattle.noise_keys.specs.KeyTokens.{has_token}
 use Rattle.noise_handshake.specs.Message.{message_bytes}
 use Rattle.noise_handshake.specs.Party.{other_psks}
-use Rattle.noise_handshake.specs.Setup.{has_token, public_keys}
+use Rattle.noise_handshake.specs.Setup.{public_keys}
 use Rattle.noise_handshake.specs.Counterparts.{Counterparts, GivesDhResult, DhResultsAgree, keys_if, shown_after}
 use Rattle.noise_duel.specs.Messages.{HandshakeMessage, Start}
 use Rattle.noise_duel.specs.Conversation.{KeyMaterial, carried_by, carried_at, conversation}

@@ -11,8 +11,8 @@ use crate::codes::numbers::{NAME, OK};
 use crate::codes::{ok_or, some_or};
 use crate::patterns::{checked, pattern_of_name, pattern_of_text};
 use crate::structs::{NoiseKeysNeeded, NoisePatternInfo, NoisePatternResult};
-use noise_handshake::own_keys::{has_token, sends};
 use noise_handshake::psk_total;
+use noise_keys::{has_token, sends};
 use noise_names::{Message, Pattern, Role, Token, ValidPattern};
 
 // The number of a token.

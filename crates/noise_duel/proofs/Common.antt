@@ -12,13 +12,14 @@ pub use Rattle.noise_handshake.specs.Counterparts.{Counterparts, DhResultsAgree,
 pub use Rattle.noise_handshake.specs.Length.{Carries, Carry, keyed_after, keyed_after_tokens}
 pub use Rattle.noise_handshake.specs.Matching.{after_message, after_own}
 pub use Rattle.noise_handshake.specs.Message.{after_payload, after_token, after_tokens, before_payload, message_bytes, token_bytes, with_ephemeral}
-pub use Rattle.noise_handshake.specs.Party.{Accepts, Fit, Fits, Listens, Party, Reader, Speaks, dh_result_of, first_psk, known_after, other_psks, own_at, psks_after, reader, remote_after, remote_at, start, tokens_at, tokens_now, with_premessage}
+pub use Rattle.noise_handshake.specs.Party.{Accepts, Fit, Fits, Listens, Party, Reader, Speaks, dh_result_of, first_psk, known_after, other_psks, psks_after, reader, remote_after, remote_at, start, tokens_at, tokens_now, with_premessage}
 pub use Rattle.noise_handshake.specs.Passed.{passed_places}
-pub use Rattle.noise_handshake.specs.Setup.{keys_of, has_before, has_token, party_at_start, psks_of, public_keys, token_of}
+pub use Rattle.noise_handshake.specs.Setup.{keys_of, has_before, party_at_start, psks_of, public_keys}
 pub use Rattle.noise_handshake.specs.Writing.{Given, Gives, LacksDhResult, Writer, Writes, writer}
 pub use Rattle.noise_handshake.specs.declared.remote.Remote.{Remote}
 pub use Rattle.noise_keys.specs.declared.keys.Own.{Own}
 pub use Rattle.noise_keys.specs.declared.keys.Own.TheVariants.{Ephemeral, Static}
+pub use Rattle.noise_keys.specs.KeyTokens.{has_token, own_at, token_of}
 pub use Rattle.noise_names.specs.Lists.{bytes_of, cons-same, get-front, get-last, heads, same-or, split-apart, tails}
 pub use Rattle.noise_names.specs.Names.{name_bytes}
 pub use Rattle.noise_names.specs.Overhead.{has_key, overhead_of}

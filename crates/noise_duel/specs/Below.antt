@@ -11,15 +11,16 @@ use Rattle.noise_names.specs.Overhead.{has_key, overhead_of}
 use Rattle.noise_names.specs.Limits.{IsPattern}
 use Rattle.noise_state.specs.declared.symmetric.SymmetricState.{SymmetricState}
 use Rattle.noise_keys.specs.declared.keys.Own.{Own}
+use Rattle.noise_keys.specs.KeyTokens.{has_token, own_at, token_of}
 use Rattle.noise_handshake.specs.declared.remote.Remote.{Remote}
 use Rattle.noise_handshake.specs.declared.faults.Cause.{Cause}
 use Rattle.noise_handshake.specs.Message.{after_payload}
 use Rattle.noise_handshake.specs.Length.{Carry}
 use Rattle.noise_handshake.specs.Passed.{passed_places}
-use Rattle.noise_handshake.specs.Party.{Party, Accepts, Refuses, Speaks, dh_result_of, own_at, remote_at, start, tokens_at, tokens_now}
+use Rattle.noise_handshake.specs.Party.{Party, Accepts, Refuses, Speaks, dh_result_of, remote_at, start, tokens_at, tokens_now}
 use Rattle.noise_handshake.specs.Writing.{Writes, LacksDhResult}
 use Rattle.noise_handshake.specs.Matching.{IsKeyed, after_message, after_own}
-use Rattle.noise_handshake.specs.Setup.{party_at_start, has_before, has_token, public_keys, setup_fault, token_of}
+use Rattle.noise_handshake.specs.Setup.{party_at_start, has_before, public_keys, setup_fault}
 use Rattle.noise_handshake.specs.Counterparts.{Counterparts, DhResultsAgree, IsEquipped, is_dh, keys_if, shown_after, shown_before}
 use Rattle.noise_session.specs.declared.faults.SendFault.{SendFault}
 use Rattle.noise_session.specs.Ends.{EndState}

@@ -15,10 +15,11 @@ use Rattle.noise_names.specs.Limits.{IsPattern}
 use Rattle.noise_state.specs.declared.symmetric.SymmetricState.{SymmetricState}
 use Rattle.noise_keys.specs.declared.keys.Own.{Own}
 use Rattle.noise_keys.specs.declared.keys.Own.TheVariants.{Ephemeral, Static}
+use Rattle.noise_keys.specs.KeyTokens.{own_at, token_of}
 use Rattle.noise_handshake.specs.declared.remote.Remote.{Remote}
 use Rattle.noise_handshake.specs.Message.{message_bytes, after_payload}
-use Rattle.noise_handshake.specs.Party.{start, tokens_at, first_psk, other_psks, own_at, remote_at, dh_result_of}
-use Rattle.noise_handshake.specs.Setup.{has_before, psks_of, token_of}
+use Rattle.noise_handshake.specs.Party.{start, tokens_at, first_psk, other_psks, remote_at, dh_result_of}
+use Rattle.noise_handshake.specs.Setup.{has_before, psks_of}
 use Rattle.noise_handshake.specs.Counterparts.{is_dh, shown_after}
 use Rattle.noise_session.specs.Counterparts.{EndCounterparts}
 use Rattle.noise_session.specs.Ends.{EndState, end_of}

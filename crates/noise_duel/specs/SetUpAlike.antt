@@ -6,7 +6,8 @@ use Rattle.noise_names.specs.declared.token.Token.{Token}
 use Rattle.noise_names.specs.Plan.{Plan, places_of}
 use Rattle.noise_names.specs.Validity.{occurs, IsValid}
 use Rattle.noise_keys.specs.declared.keys.Own.{Own}
-use Rattle.noise_handshake.specs.Party.{dh_result_of, own_at, remote_at}
+use Rattle.noise_keys.specs.KeyTokens.{own_at}
+use Rattle.noise_handshake.specs.Party.{dh_result_of, remote_at}
 use Rattle.noise_handshake.specs.Setup.{public_keys}
 use Rattle.noise_handshake.specs.Counterparts.{is_dh, shown_before}
 use Rattle.noise_duel.specs.Messages.{Start}

@@ -22,6 +22,7 @@ use Rattle.noise_keys.specs.declared.keys.Own.{Own}
 use Rattle.noise_keys.specs.declared.keys.Own.TheVariants.{Ephemeral, Static}
 use Rattle.noise_keys.specs.Table.{TableEntry}
 use Rattle.noise_keys.specs.Table as table
+use Rattle.noise_keys.specs.KeyTokens.{own_at, token_of}
 use Rattle.noise_events.specs.Events.{Event as Act, Say as Said, events_of}
 use Rattle.noise_events.specs.declared.event.Event.{Event}
 use Rattle.noise_events.specs.declared.event.Event.TheVariants.{Say}
@@ -34,8 +35,6 @@ use Rattle.noise_vectors.specs.declared.file_keys.FileKeys.TheVariants.{Table}
 use Rattle.noise_vectors.specs.declared.vector.VectorFile.{VectorFile}
 use Rattle.noise_vectors.specs.declared.vector.Version.TheVariants.{One}
 use Rattle.noise_explain.specs.Template.{IsTemplate, IsTemplateText, Turn, entries_for, entry, payload_at, template_key, template_keys, keys_text, name_of, occurs_in}
-use Rattle.noise_handshake.specs.Party.{own_at}
-use Rattle.noise_handshake.specs.Setup.{token_of}
 use Rattle.noise_explain.specs.Template.{psk_at, psks_text, say_words, speakers, template_text, unless_known, writers}
 use Rattle.noise_explain.specs.Values.{AreRight, takes_key, value_in}
 use Rattle.noise_explain.specs.declared.values.Given.{Given}

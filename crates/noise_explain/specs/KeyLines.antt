@@ -10,9 +10,9 @@ use Rattle.noise_names.specs.declared.token.Token.{Token}
 use Rattle.noise_names.specs.declared.token.Token.TheVariants.{Ee, Es, Se, Ss}
 use Rattle.noise_names.specs.Plan.{Plan, places_of}
 use Rattle.noise_names.specs.Validity.{is_among}
-use Rattle.noise_handshake.specs.Setup.{token_of}
 use Rattle.noise_keys.specs.declared.keys.Own.{Own}
 use Rattle.noise_keys.specs.declared.keys.Own.TheVariants.{Ephemeral, Static}
+use Rattle.noise_keys.specs.KeyTokens.{token_of}
 use Rattle.noise_vectors.specs.HexWord.{hex_of}
 use Rattle.noise_explain.specs.Template.{occurs_in, speakers}
 use Rattle.noise_explain.specs.Values.{IsValueOf, place_name, same_place, takes_key}

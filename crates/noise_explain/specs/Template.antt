@@ -12,11 +12,10 @@ use Rattle.noise_names.specs.Fundamental.{fundamental_of}
 use Rattle.noise_names.specs.Limits.{IsPattern}
 use Rattle.noise_names.specs.Plan.{Plan, places_of}
 use Rattle.noise_names.specs.Validity.{is_among}
-use Rattle.noise_handshake.specs.Party.{own_at}
-use Rattle.noise_handshake.specs.Setup.{token_of}
 use Rattle.noise_keys.specs.declared.keys.Own.{Own}
 use Rattle.noise_keys.specs.declared.keys.Own.TheVariants.{Ephemeral, Static}
 use Rattle.noise_keys.specs.Table as table
+use Rattle.noise_keys.specs.KeyTokens.{own_at, token_of}
 use Rattle.noise_events.specs.Events.{Say, events_of}
 use Rattle.noise_vectors.specs.HexWord.{hex_of}
 use Rattle.noise_vectors.specs.SameFile.{cuts_of}

@@ -9,9 +9,7 @@ ghost use Rattle.noise_explain.specs.Values.{AreRight, dh_byte, key_byte, placeh
 
 use crate::needs::mixes;
 use crate::values::{Given, Place, given_for, own_word};
-use noise_handshake::own_keys::{sends, token_of};
-use noise_handshake::tokens::own_at;
-use noise_keys::Own;
+use noise_keys::{Own, own_at, sends, token_of};
 use noise_lines::role_word;
 use noise_names::{Pattern, Role, Token};
 use noise_vectors::hex_word;

@@ -3,7 +3,7 @@
 ghost use Rattle.std.specs.Prelude.{◌≡◌};
 ghost use Rattle.noise_explain.specs.Template.{occurs_in};
 
-use noise_handshake::own_keys::has_token;
+use noise_keys::has_token;
 use noise_names::{Message, Token};
 
 // Whether a message has the token.

@@ -7,8 +7,7 @@ ghost use Rattle.noise_explain.specs.declared.values.Place.TheVariants.{Payload,
 
 use crate::needs::mixes;
 use crate::values::Place;
-use noise_handshake::own_keys::{sends, token_of};
-use noise_keys::Own;
+use noise_keys::{Own, sends, token_of};
 use noise_names::{Message, Pattern, Role, Token};
 use std::alloc::{AllocError, Global};
 

@@ -9,6 +9,7 @@ pub use Rattle.std.specs.List.{list_all, list_any}
 pub use Rattle.std.specs.Prelude.{Err, IsFalse, IsTrue, MatchOption, MatchResult, None, Ok, OnOk, Option, Result, Some, count_by, is_none, nat_le, unwrap_or, ◌&&◌, ◌==◌, ◌||◌, ◌↔◌}
 pub use Rattle.noise_keys.specs.declared.keys.Own.{Own}
 pub use Rattle.noise_keys.specs.declared.keys.Own.TheVariants.{Ephemeral, Static}
+pub use Rattle.noise_keys.specs.KeyTokens.{has_token, own_at, token_of}
 pub use Rattle.noise_names.specs.Limits.{HavePsksAt, IsPattern, is_pre_message, psk_if, with_psk_tokens}
 pub use Rattle.noise_names.specs.Overhead.{added_len, has_key, overhead_from, overhead_of}
 pub use Rattle.noise_names.specs.Plan.{Place, Plan, Step, does, has_psk, message_places, payload, place, places_before, places_of, pre_of, token_places, transport}
@@ -32,9 +33,9 @@ pub use Rattle.noise_handshake.specs.Length.{Carries, Carry, added_width, keyed_
 pub use Rattle.noise_handshake.specs.Matching.{DoesNotRead, DoesNotWrite, IsKeyed, IsParty, IsSupplied, Matches, party_of, after_message, after_own, ended_party}
 pub use Rattle.noise_handshake.specs.Message.{after_payload, after_token, after_tokens, before_payload, message_bytes, token_bytes, with_ephemeral}
 pub use Rattle.noise_handshake.specs.Nonces.{nonce_after, nonce_after_message, nonce_after_messages, nonce_after_tokens, nonce_due}
-pub use Rattle.noise_handshake.specs.Party.{Accepts, BeginsAs, CanBegin, Fit, Fits, Listens, Party, Reader, Reads, Refuses, Speaks, Stops, cause_at, cause_of, dh_result_of, first_psk, known_after, other_psks, own_at, psks_after, reader, remote_after, remote_at, start, tokens_at, tokens_now, with_premessage}
+pub use Rattle.noise_handshake.specs.Party.{Accepts, BeginsAs, CanBegin, Fit, Fits, Listens, Party, Reader, Reads, Refuses, Speaks, Stops, cause_at, cause_of, dh_result_of, first_psk, known_after, other_psks, psks_after, reader, remote_after, remote_at, start, tokens_at, tokens_now, with_premessage}
 pub use Rattle.noise_handshake.specs.Passed.{passed_places}
-pub use Rattle.noise_handshake.specs.Setup.{has_before, has_token, has_unexpected, keys_of, lacks_own, lacks_remote, party_at_start, psks_of, public_keys, setup_fault, start_of, token_of}
+pub use Rattle.noise_handshake.specs.Setup.{has_before, has_unexpected, keys_of, lacks_own, lacks_remote, party_at_start, psks_of, public_keys, setup_fault, start_of}
 pub use Rattle.noise_handshake.specs.Wanting.{LacksDhResultFor, StopsFor, WantsToRead, WantsToWrite}
 pub use Rattle.noise_handshake.specs.Writing.{Given, Gives, LacksDhResult, LacksDhResultAt, Writer, Writes, writer}
 pub use Rattle.noise_handshake.specs.declared.faults.Cause.{Cause}

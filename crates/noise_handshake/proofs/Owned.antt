@@ -1,8 +1,9 @@
 -- A party has each key of its own that one of its tokens sends.
-use Rattle.std.proofs.Common.{rules, ◌≡◌, ℕ, zero, suc, ◌+◌, List, [], ◌∷◌, refl}
+use Rattle.std.proofs.Common.{rules, ◌≡◌, ℕ, zero, suc, ◌+◌, List, [], ◌∷◌, refl, ap, ◌∙◌}
 use Rattle.std.specs.Prelude.{Bool, true, false, is_some}
-use Rattle.noise_handshake.proofs.Common.{◌||◌, ◌&&◌, IsTrue, Option, list_all, list_any-append, Role, Initiator, Token, E, S, Ee, Es, Se, Ss, other, same_role, turn_from, Plan, token_places, message_places, places_of, is_among, Own, Ephemeral, Static, has_token, tokens_at, has_own, or_right, or_left, same_role-self}
+use Rattle.noise_handshake.proofs.Common.{◌||◌, ◌&&◌, IsTrue, Option, list_all, list_any-append, Role, Initiator, Token, E, S, Ee, Es, Se, Ss, other, same_role, turn_from, Plan, token_places, message_places, places_of, is_among, Own, Ephemeral, Static, has_before, has_token, tokens_at, has_own, or_right, or_left, same_role-self}
 use Rattle.noise_names.specs.declared.token.Token.TheVariants.{Psk}
+use Rattle.noise_keys.specs.TokenPlaces.{matches-places_of}
 
 or-both : (a b c d : Bool) → (a ≡ true → c ≡ true) → (b ≡ true → d ≡ true) → (a || b) ≡ true → (c || d) ≡ true
 or-both true b c d f g e = or_left c d (f refl)
@@ -29,6 +30,10 @@ matches-messages party t k (ts ∷ ms) (suc n) e = search (list_any-append, or_r
 
 pub matches-place : (p : Plan) (t : Token) (n : ℕ) → has_token t (tokens_at p.messages n) ≡ true → is_among (turn_from Initiator n) t (places_of p) ≡ true
 matches-place p t n e = search (rules, list_any-append, matches-messages)
+
+-- so does one of a party's pre-message
+pub before-matches : (p : Plan) (party : Role) (t : Token) → has_before p party t ≡ true → is_among party t (places_of p) ≡ true
+before-matches p party t e = matches-places_of p party t ∙ ap (λ (b : Bool). b || is_among party t (message_places Initiator 1 p.messages)) e
 
 module _ (own : Own → Option (List ℕ)) where
   all-own : (ts : List Token) → (has_token E ts ≡ true → is_some (own Ephemeral) ≡ true) → (has_token S ts ≡ true → is_some (own Static) ≡ true)

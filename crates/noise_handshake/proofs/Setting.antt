@@ -5,7 +5,7 @@ use Rattle.noise_handshake.proofs.Common.{nat_tests, ◌||◌, ◌&&◌, ◌==�
 use Rattle.noise_keys.specs.declared.faults.SetupFault.{SetupFault}
 use Rattle.noise_keys.specs.declared.faults.SetupFault.TheVariants.{EphemeralMissing, StaticMissing, RemoteMissing, RemoteUnexpected, PskCount}
 use Rattle.noise_handshake.specs.inner.PreMessage.{HasPre}
-use Rattle.noise_handshake.proofs.Uses.{matches-places_of}
+use Rattle.noise_keys.specs.TokenPlaces.{matches-places_of}
 
 pub flips : (b x : Bool) → (IsTrue b ↔ IsFalse x) → not b ≡ x
 flips true x e = sym (e.0 refl)

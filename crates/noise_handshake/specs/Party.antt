@@ -6,7 +6,7 @@ use Rattle.noise_names.specs.declared.token.Token.TheVariants.{E, S, Es, Se, Ss,
 use Rattle.noise_names.specs.declared.token.Role.{Role}
 use Rattle.noise_names.specs.declared.token.Role.TheVariants.{Initiator, Responder}
 use Rattle.noise_keys.specs.declared.keys.Own.{Own}
-use Rattle.noise_keys.specs.declared.keys.Own.TheVariants.{Ephemeral, Static}
+use Rattle.noise_keys.specs.KeyTokens.{own_at}
 use Rattle.noise_handshake.specs.declared.faults.Cause.{Cause}
 use Rattle.noise_handshake.specs.declared.faults.Cause.TheVariants.{Short, Tag, Agreement}
 use Rattle.noise_state.specs.declared.symmetric.SymmetricState.{SymmetricState}
@@ -51,13 +51,6 @@ start name pattern prologue initiator responder =
     (mix_hash (initialize name) prologue))
 
 -- ---- DH results (the table of Noise 5.3)
-
-abbrev pub own_at : Role → Token → Own
-own_at Initiator Se = Static
-own_at Initiator Ss = Static
-own_at Responder Es = Static
-own_at Responder Ss = Static
-own_at _ _ = Ephemeral
 
 abbrev pub remote_at : Role → Remote → Token → Option (List ℕ)
 remote_at Initiator p Es = p.s

@@ -6,7 +6,8 @@ use Rattle.noise_names.specs.declared.token.Token.{Token}
 use Rattle.noise_names.specs.declared.token.Token.TheVariants.{E, S, Ee, Es, Se, Ss, Psk}
 use Rattle.noise_names.specs.Tokens.{other}
 use Rattle.noise_keys.specs.declared.keys.Own.{Own}
-use Rattle.noise_handshake.specs.Party.{own_at, remote_at}
+use Rattle.noise_keys.specs.KeyTokens.{own_at}
+use Rattle.noise_handshake.specs.Party.{remote_at}
 use Rattle.noise_handshake.specs.Setup.{public_keys}
 
 -- it is one of the other party's own

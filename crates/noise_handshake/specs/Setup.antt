@@ -1,17 +1,17 @@
 -- How a handshake starts, and what is wrong with a setup (Noise 5.3, 9.2).
 use Rattle.std.specs.Prelude.{ℕ, ◌+◌, ◌==◌, List, [], ◌∷◌, Bool, false, not, ◌&&◌, ◌||◌, Option, Some, None, is_some, is_none, count_by, if◌then◌else◌}
-use Rattle.std.specs.List.{list_any}
 use Rattle.noise_names.specs.declared.token.Role.{Role}
 use Rattle.noise_names.specs.declared.token.Role.TheVariants.{Initiator, Responder}
 use Rattle.noise_names.specs.declared.token.Token.{Token}
 use Rattle.noise_names.specs.declared.token.Token.TheVariants.{E, S}
-use Rattle.noise_names.specs.Tokens.{other, is_psk, same_role, same_token}
+use Rattle.noise_names.specs.Tokens.{other, is_psk, same_role}
 use Rattle.noise_names.specs.Plan.{Plan, pre_of, places_of}
 use Rattle.noise_names.specs.Names.{name_bytes}
 use Rattle.noise_names.specs.Validity.{is_among}
 use Rattle.noise_state.specs.declared.symmetric.SymmetricState.{SymmetricState}
 use Rattle.noise_keys.specs.declared.keys.Own.{Own}
 use Rattle.noise_keys.specs.declared.keys.Own.TheVariants.{Ephemeral, Static}
+use Rattle.noise_keys.specs.KeyTokens.{has_token}
 use Rattle.noise_handshake.specs.declared.remote.Remote.{Remote}
 use Rattle.noise_keys.specs.declared.faults.SetupFault.{SetupFault}
 use Rattle.noise_keys.specs.declared.faults.SetupFault.TheVariants.{EphemeralMissing, StaticMissing, RemoteMissing, RemoteUnexpected, PskCount}
@@ -51,18 +51,9 @@ party_at_start p role prologue own agree remote psks = record {
   ended = false;
 }
 
--- the token that sends such a key
-abbrev pub token_of : Own → Token
-token_of Ephemeral = E
-token_of Static = S
-
 -- whether the party's token t stands in the pattern, pre-messages counted, and the key isn't there
 abbrev pub lacks_own : Plan → Role → Token → Option (List ℕ) → Bool
 lacks_own p role t key = is_among role t (places_of p) && is_none key
-
--- whether a token is among these
-abbrev pub has_token : Token → List Token → Bool
-has_token t tokens = list_any (λ u. same_token u t) tokens
 
 -- whether a party's pre-message has token t
 abbrev pub has_before : Plan → Role → Token → Bool

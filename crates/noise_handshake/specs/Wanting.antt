@@ -3,10 +3,11 @@
 use Rattle.std.specs.Prelude.{◌≡◌, ℕ, List, ◌∷◌, ◌++◌, length, Some}
 use Rattle.noise_names.specs.declared.token.Token.{Token}
 use Rattle.noise_keys.specs.declared.keys.Own.{Own}
+use Rattle.noise_keys.specs.KeyTokens.{own_at}
 use Rattle.noise_handshake.specs.declared.faults.Cause.TheVariants.{Agreement}
 use Rattle.noise_handshake.specs.declared.remote.Remote.{Remote}
 use Rattle.noise_state.specs.declared.symmetric.SymmetricState.{SymmetricState}
-use Rattle.noise_handshake.specs.Party.{Party, Reader, reader, Listens, Speaks, Stops, remote_after, own_at, remote_at, tokens_now}
+use Rattle.noise_handshake.specs.Party.{Party, Reader, reader, Listens, Speaks, Stops, remote_after, remote_at, tokens_now}
 use Rattle.noise_handshake.specs.Writing.{Writer, writer, LacksDhResultAt}
 
 -- Reading stops at a DH for want of its DH result: that of this key pair to this key of the other party, as it is known

@@ -9,13 +9,15 @@ ghost use Rattle.noise_names.specs.declared.token.Token.TheVariants.{E, S};
 ghost use Rattle.noise_state.specs.Standing.{keyed, nonce_now};
 ghost use Rattle.noise_state.specs.Symmetric.{mix_hash};
 ghost use Rattle.noise_handshake.specs.Party.{with_premessage};
-ghost use Rattle.noise_handshake.specs.Setup.{token_of, psks_of, setup_fault, keys_of, lacks_own, start_of};
+ghost use Rattle.noise_keys.specs.KeyTokens.{token_of};
+ghost use Rattle.noise_handshake.specs.Setup.{psks_of, setup_fault, keys_of, lacks_own, start_of};
 ghost use Rattle.noise_handshake.specs.inner.PreMessage.{HasPre};
 ghost use Rattle.noise_handshake.specs.Passed.{passed_places};
 
-use crate::own_keys::{has_token, keys_of, sends, token_of};
+use crate::own_keys::keys_of;
 use crate::tokens::{mix_ephemeral, psk_count};
 use crate::{Keys, Own, Remote, SetupFault};
+use noise_keys::{has_token, sends, token_of};
 use noise_names::{Message, Pattern, Role, Token};
 use noise_state::SymmetricState;
 

@@ -7,9 +7,11 @@ ghost use Rattle.noise_state.specs.Standing.{keyed, nonce_now};
 ghost use Rattle.noise_handshake.specs.Nonces.{nonce_after};
 ghost use Rattle.noise_handshake.specs.Length.{keyed_after};
 ghost use Rattle.noise_handshake.specs.Message.{with_ephemeral};
-ghost use Rattle.noise_handshake.specs.Party.{dh_result_of, own_at, remote_at, psks_after};
+ghost use Rattle.noise_keys.specs.KeyTokens.{own_at};
+ghost use Rattle.noise_handshake.specs.Party.{dh_result_of, remote_at, psks_after};
 
 use crate::{Keys, Own, Remote};
+use noise_keys::own_at;
 use noise_names::{Role, Token};
 use noise_state::SymmetricState;
 
@@ -21,18 +23,7 @@ pub(crate) struct Means<K> {
     pub(crate) has_psks: bool,
 }
 
-/// Which own key a DH token takes (the table of Noise, 5.3).
-pub fn own_at(role: Role, token: Token) -> Own
-    ensures { result ≡ own_at role token }
-{
-    match (role, token) {
-        (Role::Initiator, Token::Se | Token::Ss) => Own::Static,
-        (Role::Responder, Token::Es | Token::Ss) => Own::Static,
-        _ => Own::Ephemeral,
-    }
-}
-
-// Which remote key it takes, if it is known.
+// Which remote key a DH token takes (the table of Noise, 5.3), if it is known.
 fn remote_at(role: Role, known: &Remote, token: Token) -> Option<[u8; 32]>
     ensures { result ≡ remote_at role known.now token }
 {

@@ -1,2 +1,4 @@
+pub mod KeyTokens
 pub mod Keys
 pub mod Table
+pub mod TokenPlaces

@@ -6,10 +6,10 @@ use Rattle.noise_names.specs.declared.token.Token.TheVariants.{E, S, Ee, Es, Se,
 use Rattle.noise_names.specs.Tokens.{same_token}
 use Rattle.noise_keys.specs.declared.keys.Own.{Own}
 use Rattle.noise_keys.specs.declared.keys.Own.TheVariants.{Ephemeral, Static}
+use Rattle.noise_keys.specs.KeyTokens.{has_token, token_of}
 use Rattle.noise_handshake.specs.declared.remote.Remote.{Remote}
 use Rattle.noise_handshake.specs.Counterparts.{is_dh}
 use Rattle.noise_handshake.specs.Party.{first_psk, psks_after, tokens_now}
-use Rattle.noise_handshake.specs.Setup.{has_token, token_of}
 use Rattle.noise_handshake.specs.Writing.{Writer, writer, Given}
 use Rattle.noise_theorems.specs.Lacking.{LacksAtDh}
 

@@ -2,9 +2,9 @@
 use Rattle.std.specs.Prelude.{◌≡◌, ℕ, List, length, true, Some, slice_get}
 use Rattle.noise_names.specs.declared.token.Token.{Token}
 use Rattle.noise_keys.specs.declared.keys.Own.{Own}
+use Rattle.noise_keys.specs.KeyTokens.{has_token, token_of}
 use Rattle.noise_handshake.specs.Counterparts.{is_dh}
 use Rattle.noise_handshake.specs.Party.{Party, tokens_now}
-use Rattle.noise_handshake.specs.Setup.{has_token, token_of}
 use Rattle.noise_handshake.specs.Writing.{LacksDhResult}
 
 -- a party has each public key that its message sends, in 32 bytes

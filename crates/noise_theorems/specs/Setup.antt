@@ -12,7 +12,7 @@ use Rattle.noise_keys.specs.declared.xor_keys.XorKeys.{XorKeys}
 use Rattle.noise_keys.specs.Keys.{key_of, xor_dh_result}
 use Rattle.noise_handshake.specs.Counterparts.{is_dh, shown_before}
 use Rattle.noise_handshake.specs.Setup.{public_keys, setup_fault}
-use Rattle.noise_handshake.specs.Party.{dh_result_of, own_at, remote_at}
+use Rattle.noise_handshake.specs.Party.{dh_result_of, remote_at}
 use Rattle.noise_session.specs.Ends.{EndMatches}
 use Rattle.noise_duel.specs.Messages.{Start}
 use Rattle.noise_duel.specs.Conversation.{end_after, state_after_lines, transcript}
@@ -21,6 +21,7 @@ use Rattle.noise_duel.specs.SetUpAlike.{material_of}
 use Rattle.noise_theorems.specs.declared.fault.ConversationFault.{ConversationFault}
 use Rattle.noise_theorems.specs.declared.fault.ConversationFault.TheVariants.{Setup, Memory}
 use Rattle.noise_keys.specs.Keys.{KeyPairs}
+use Rattle.noise_keys.specs.KeyTokens.{own_at}
 
 -- what both parties start from
 pub record BothStarts : Type 0 where

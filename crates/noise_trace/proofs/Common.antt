@@ -5,7 +5,8 @@ pub use Rattle.std.specs.Prelude.{Bool, IsFalse, IsTrue, Option, false, if◌the
 pub use Rattle.noise_handshake.specs.Matching.{after_message, after_own}
 pub use Rattle.noise_handshake.specs.Message.{after_payload, after_token, after_tokens, before_payload, message_bytes, token_bytes, with_ephemeral}
 pub use Rattle.noise_handshake.specs.Party.{Party, tokens_at, tokens_now, with_premessage}
-pub use Rattle.noise_handshake.specs.Setup.{has_before, has_token, keys_of, public_keys, setup_fault, start_of, token_of}
+pub use Rattle.noise_keys.specs.KeyTokens.{has_token, token_of}
+pub use Rattle.noise_handshake.specs.Setup.{has_before, keys_of, public_keys, setup_fault, start_of}
 pub use Rattle.noise_handshake.specs.declared.remote.Remote.{Remote}
 pub use Rattle.noise_names.specs.Plan.{Plan, has_psk, places_of, pre_of}
 pub use Rattle.noise_names.specs.Tokens.{other, own_tokens, same_token}

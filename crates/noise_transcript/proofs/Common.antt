@@ -4,7 +4,8 @@ pub use Rattle.noise_duel.specs.Conversation.{HaveParts, InTurn, end_after, note
 pub use Rattle.noise_duel.specs.Messages.{HandshakeMessage, Start, messages_of}
 pub use Rattle.noise_duel.specs.Sides.{Sides}
 pub use Rattle.noise_events.specs.Events.{Event, events_of, Say, event_of}
-pub use Rattle.noise_handshake.specs.Setup.{public_keys, setup_fault, token_of}
+pub use Rattle.noise_keys.specs.KeyTokens.{token_of}
+pub use Rattle.noise_handshake.specs.Setup.{public_keys, setup_fault}
 pub use Rattle.noise_names.specs.Plan.{Plan, is_one_way, places_of}
 pub use Rattle.noise_names.specs.Tokens.{other}
 pub use Rattle.noise_names.specs.declared.token.Role.{Role}

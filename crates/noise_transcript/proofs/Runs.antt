@@ -3,9 +3,10 @@ use Rattle.std.proofs.Common.{◌≡◌, ◌∙◌, refl, ap, sym, subst, ℕ, L
 use Rattle.noise_transcript.proofs.Common.{true, is_some, Role, Initiator, Responder, Plan, places_of, IsValid, is_among, occurs, is_dh, public_keys, setup_fault, token_of, Event, HaveParts, KeyMaterial, MessagesComeThrough, MessagesLeave, MessagesRun, state_after_lines, transcript, Start, Sides, VectorFile, sides_of_file, file_start, note_line, state_lines, AreLast, HasFittingMessages, FittingMessagesRun, exchange_lines}
 use Rattle.noise_names.specs.declared.token.Token.{Token}
 use Rattle.noise_keys.specs.declared.keys.Own.{Own}
+use Rattle.noise_keys.specs.KeyTokens.{own_at}
 use Rattle.noise_handshake.specs.RemoteKeys.{remote-own}
 use Rattle.noise_handshake.specs.declared.remote.Remote.{Remote}
-use Rattle.noise_handshake.specs.Party.{own_at, remote_at}
+use Rattle.noise_handshake.specs.Party.{remote_at}
 use Rattle.noise_duel.specs.Notes.{Note}
 use Rattle.noise_duel.specs.Runs.{Run}
 use Rattle.noise_duel.specs.SetUpAlike.{AlikeAreParts, HaveOneMaterial, AreSetUpAlike, HasDhResults, material_of}

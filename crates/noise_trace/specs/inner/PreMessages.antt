@@ -5,7 +5,7 @@ use Rattle.noise_names.specs.declared.token.Token.TheVariants.{E, S}
 use Rattle.noise_names.specs.declared.token.Role.{Role}
 use Rattle.noise_state.specs.declared.symmetric.SymmetricState.{SymmetricState}
 use Rattle.noise_handshake.specs.declared.remote.Remote.{Remote}
-use Rattle.noise_handshake.specs.Setup.{has_token}
+use Rattle.noise_keys.specs.KeyTokens.{has_token}
 use Rattle.noise_handshake.specs.Party.{with_premessage}
 use Rattle.noise_trace.specs.declared.start_step.StartStep.{StartStep}
 use Rattle.noise_trace.specs.Start.{key_steps}

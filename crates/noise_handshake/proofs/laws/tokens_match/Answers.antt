@@ -1,5 +1,4 @@
-use Rattle.noise_handshake.proofs.Owned.{matches-place}
-use Rattle.noise_handshake.proofs.Uses.{before-matches}
+use Rattle.noise_handshake.proofs.Owned.{before-matches, matches-place}
 use Rattle.noise_handshake.proofs.Counterparts.{occurs-of}
 use Rattle.noise_handshake.proofs.Meeting.{dh-matches}
 use Rattle.noise_handshake.proofs.laws.tokens_match.Goals as goal

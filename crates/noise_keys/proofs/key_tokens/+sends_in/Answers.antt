@@ -1,7 +1,13 @@
-use Rattle.noise_handshake.proofs.Common.{has_token, Token, Role, same_role, message_places, is_among, ◌&&◌}
-use Rattle.noise_handshake.proofs.Uses.{found-here, found-later}
 use Rattle.std.proofs.Common.{ap, ◌∙◌, List, ◌+◌}
-use Rattle.noise_handshake.proofs.own_keys.+sends_in.Goals as goal
+use Rattle.std.specs.Prelude.{◌&&◌}
+use Rattle.noise_names.specs.declared.token.Role.{Role}
+use Rattle.noise_names.specs.declared.token.Token.{Token}
+use Rattle.noise_names.specs.Tokens.{same_role}
+use Rattle.noise_names.specs.Plan.{message_places}
+use Rattle.noise_names.specs.Validity.{is_among}
+use Rattle.noise_keys.specs.KeyTokens.{has_token}
+use Rattle.noise_keys.proofs.Walk.{found-here, found-later}
+use Rattle.noise_keys.proofs.key_tokens.+sends_in.Goals as goal
 
 pub returns-then-sends_as : goal.returns-then-sends_as
 returns-then-sends_as t c n =
