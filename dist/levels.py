@@ -33,7 +33,6 @@ COMPILED = {
 # processor of that level.
 HOT = {
     "rand_chacha::guts::refill4": ["v3", "v4"],
-    "noise_poly::Poly1305::take_eights": ["v3", "v4"],
     "noise_poly::Poly1305::take_aligned": ["v3", "v4"],
     "sha2::block256::compress": ["v3"],
     "noise_state::cipher::CipherState::encrypt": ["v3", "v4"],
@@ -42,9 +41,11 @@ HOT = {
     "noise_aead::authenticator::tag": ["v3", "v4"],
 }
 
-# Of two functions that meet one contract the second is the faster where vectors have four lanes of 64 bits: a level's
-# functions call it where the module calls the first.
+# Of two functions that meet one contract the second is the faster where vectors have four lanes of 64 bits: the module
+# for a level calls it where the module calls the first. So it is compiled for the arguments that it gets there. Each
+# level has one of its own, with no choice.
 IN_PLACE = {"noise_poly::Poly1305::take_fours": "noise_poly::Poly1305::take_eights"}
+OWN_OF_LEVEL = {"noise_poly::Poly1305::take_eights": ["v3", "v4"]}
 
 # The labels that a function has for itself, and those of constants that the whole text shares.
 OWN, SHARED = "BB|CPI|JTI|func_end|tmp", "_?static|_?switch"
@@ -158,11 +159,11 @@ def own(line, level, shared):
 
 def at_level(lines, form, level):
     """Lines of a function with its own name, and those of the hot ones that it calls, as those of the level."""
+    compiled = HOT if level == BASE else HOT | OWN_OF_LEVEL
     names = {
-        form.name(it): form.name(it, level if level in [BASE, *levels] else levels[-1]) for it, levels in HOT.items()
+        form.name(it): form.name(it, level if level in [BASE, *levels] else levels[-1])
+        for it, levels in compiled.items()
     }
-    if level != BASE:
-        names |= {form.name(slow): names[form.name(fast)] for slow, fast in IN_PLACE.items()}
     return [re.sub(r'"[^"]+"', lambda it: names.get(it[0], it[0]), line) for line in lines]
 
 
@@ -282,7 +283,7 @@ def chosen_by_level(text, others):
             lines[i] = at_level([line], form, BASE)[0]
     texts = {compiled: Text(other) for compiled, other in others.items()}
     for level in LEVELS:
-        for it in (it for it in HOT if level in HOT[it]):
+        for it in (it for it, levels in (HOT | OWN_OF_LEVEL).items() if level in levels):
             there = texts[compiled_as(it, level)]
             lines += hot_function(there, base, it, level, known_constants)
             strange = called(there.lines[slice(*there.function(form.name(it)))]) - known
@@ -291,6 +292,15 @@ def chosen_by_level(text, others):
     for number, it in enumerate(HOT):
         lines += choice(form, it, base.section[form.name(it)], number)
     return "\n".join([*lines, *finding(form), *form.word(form.name("noise_processor_level")), ""])
+
+
+def with_calls_in_place(module):
+    """A module, as text, that calls the second function of IN_PLACE where it called the first."""
+    for slow, fast in IN_PLACE.items():
+        module, count = re.subn(rf'(?m)^(  .*\bcall .*)@"{re.escape(slow)}"\(', rf'\1@"{fast}"(', module)
+        if not count:
+            raise Failure(f"nothing calls {slow}")
+    return module
 
 
 # What one level's text takes for granted of another's
@@ -308,21 +318,18 @@ def definitions(module):
 
 
 def must_agree(base, other, calls, level):
-    """A function that one text calls and the other defines has to be the same to its caller, and so have two of which
-    one stands in the place of the other. (What neither defines is the system's.)"""
-    for slow, fast in IN_PLACE.items():
-        if other[slow].replace(slow, fast) != other[fast]:
-            raise Failure(f"{fast} isn't called as {slow} is at {level}:\n{other[slow]}\n{other[fast]}")
+    """A function that one text calls and the other defines has to be the same to its caller. (What neither defines is
+    the system's.)"""
     for name in sorted(calls):
         if base.get(name) != other.get(name) or name in HOT and name not in base:
             raise Failure(f"{name} isn't called at {level} as it is defined:\n{base.get(name)}\n{other.get(name)}")
 
 
 def calls_of(text):
-    """What the hot functions of a text call, and themselves."""
+    """What the hot functions of a text call, and themselves, but for those that each level has for itself."""
     parsed = Text(text)
     made = set(HOT)
-    for it in HOT:
+    for it in [*HOT, *OWN_OF_LEVEL]:
         first, last = parsed.function(parsed.form.name(it))
         made |= {name.removeprefix(parsed.form.under) for name in called(parsed.lines[first:last])}
-    return made
+    return made - set(OWN_OF_LEVEL)
