@@ -275,6 +275,7 @@ def chosen_by_level(text, others):
     form, lines = base.form, list(base.lines)
     known_constants = {(base.section[it], *base.constant(it)): it for it in base.labels if re.match(r"(\.L|L)CPI", it)}
     known = {it.strip('"') for it in base.labels} | SYSTEM | {f"{form.under}{it}" for it in SYSTEM}
+    known -= {f"{form.under}{it}" for it in IN_PLACE}    # no level calls these
     for it in HOT:
         first, last = base.function(form.name(it))
         lines[first:last] = at_level(lines[first:last], form, BASE)
@@ -326,10 +327,10 @@ def must_agree(base, other, calls, level):
 
 
 def calls_of(text):
-    """What the hot functions of a text call, and themselves, but for those that each level has for itself."""
+    """What the hot functions of a text call, and themselves, but for those that are called at one level alone."""
     parsed = Text(text)
     made = set(HOT)
     for it in [*HOT, *OWN_OF_LEVEL]:
         first, last = parsed.function(parsed.form.name(it))
         made |= {name.removeprefix(parsed.form.under) for name in called(parsed.lines[first:last])}
-    return made - set(OWN_OF_LEVEL)
+    return made - set(IN_PLACE) - set(OWN_OF_LEVEL)
