@@ -17,16 +17,23 @@ LEVELS = {
     "v4": ["-march=x86-64-v4", "-Xclang", "-target-feature", "-Xclang", "+prefer-256-bit"],
 }
 
-# Words that put the vectors of several blocks of ChaCha20 into wider ones, for these functions alone: SHA-256 and
-# Poly1305 are slower by them. What is compiled by them at a level has the level's name with `w`. The attribute keeps
-# these vectors below 512 bits.
-WIDE_WORDS = ["-slp-revec", "-slp-threshold=-1000", "-slp-recursion-max-depth=400"]
-WIDE = ["rand_chacha::guts::refill4"]
+# Words for some functions alone. WIDE put the vectors of several blocks of ChaCha20 into wider ones: SHA-256 and
+# Poly1305 are slower by them. SINK load factors of Poly1305 where they are used, so that its stack is small enough for
+# Go. What is compiled by such words at a level has the level's name with their letter.
+WIDE = ["-slp-revec", "-slp-threshold=-1000", "-slp-recursion-max-depth=400"]
+SINK = ["-sink-insts-to-avoid-spills"]
+WORDS_OF = {
+    ("rand_chacha::guts::refill4", "v3"): "w",
+    ("rand_chacha::guts::refill4", "v4"): "w",
+    ("noise_poly::Poly1305::take_eights", "v3"): "s",
+}
+# The attribute keeps the wider vectors below 512 bits.
 WIDEST = '"min-legal-vector-width"="256"'
 COMPILED = {
-    name + kind: LEVELS[name] + [it for word in words for it in ("-mllvm", word)]
-    for name in LEVELS
-    for kind, words in (("", []), ("w", WIDE_WORDS))
+    level + kind: LEVELS[level] + [it for word in words for it in ("-mllvm", word)]
+    for level in LEVELS
+    for kind, words in (("", []), ("w", WIDE), ("s", SINK))
+    if not kind or kind in (it for (_, at), it in WORDS_OF.items() if at == level)
 }
 
 # The functions, and for which levels each is compiled: where the last is missing, the one before is faster on a
@@ -186,7 +193,7 @@ def constants_of(text, base, lines):
 
 def compiled_as(name, level):
     """What of COMPILED has a function for a level."""
-    return f"{level}w" if name in WIDE else level
+    return level + WORDS_OF.get((name, level), "")
 
 
 def hot_function(text, base, name, level, known):
