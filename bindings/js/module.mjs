@@ -17,7 +17,7 @@ const SCRATCH = {
 };
 const PAGE = 65536;
 /** The SHA-384 of noise_c.wasm, as `integrity` of a browser has it: `bindings/js/modules pin` writes it. */
-const INTEGRITY = 'sha384-DBvObVJDeZvclJZyJBbh4Ucydxpm1wNEz5lWH6MfOx5QN2uHMQyE0wo7ZXEyhDBw';
+const INTEGRITY = 'sha384-ZmFcB49U5C4HC6ZUVy5Xol41J9UzBe0NwTWLQdG6MyLanvm3JC9qBVHYb1QrTTyZ';
 /** The major version of the library. */
 const VERSION = 1;
 

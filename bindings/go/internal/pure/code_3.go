@@ -9,8 +9,1885 @@ import (
 	"math/bits"
 )
 
-// f34 is noise_c::messages::read_next.
-func f34(m *memory, l0 uint64, l1 uint64, l2 uint64, l3 uint64) uint32 {
+// f32 is noise_c::from_c::restored.
+func f32(m *memory, l0 uint64, l1 uint64, l2 uint64) {
+	var l4, l6, l8, l9, l10, l11, l12, l13, l15, l16, l23, l27, l40, l41, l43, l44, l45, l46, l47, l48 uint32
+	var l3, l7, l14, l21, l22, l24, l25, l26, l28, l29, l30, l31, l32, l33, l34, l35, l36, l37, l38, l39, l42 uint64
+	var l5a, l5b, l17a, l17b, l18a, l18b, l19a, l19b, l20a, l20b uint64
+	t1 := m.g0
+	l3 = (t1 - 0xd60)
+	m.g0 = l3
+	{
+		{
+			{
+				{
+					if int64(l3) < 16 {
+						goto L5
+					}
+					l4 = 0
+					m.fill(uint32((l3 + 0x3f0)), 0, 0x110)
+					m.put16(uint32(l3)-0xfcad4, 0)
+					m.put32(uint32(l3)-0xfcad8, 0)
+					l5a, l5b = 0, 0
+					m.put128q(uint32(l3)-0xfcaf8, l5a, l5b)
+					m.put128q(uint32(l3)-0xfcae8, l5a, l5b)
+					m.put128q(uint32(l3)-0xfcb18, l5a, l5b)
+					m.put128q(uint32(l3)-0xfcb08, l5a, l5b)
+					m.fill(uint32((l3 + 0x27a)), 0, 0x12e)
+					m.put64(uint32(l3)-0xfcc52, 0)
+					m.put64(uint32(l3)-0xfcc58, 0)
+					m.put128q(uint32(l3)-0xfcc68, l5a, l5b)
+					m.put128q(uint32(l3)-0xfcc78, l5a, l5b)
+					m.put128q(uint32(l3)-0xfcc88, l5a, l5b)
+					m.put128q(uint32(l3)-0xfccc8, l5a, l5b)
+					m.put128q(uint32(l3)-0xfccb8, l5a, l5b)
+					m.put128q(uint32(l3)-0xfcca8, l5a, l5b)
+					m.put128q(uint32(l3)-0xfcc98, l5a, l5b)
+					m.put128q(uint32(l3)-0xfcce8, l5a, l5b)
+					m.put128q(uint32(l3)-0xfccd8, l5a, l5b)
+					m.put32(uint32(l3)-0xfcced, 0)
+					m.put32(uint32(l3)-0xfccf0, 0)
+					m.fill(uint32((l3 + 0xc0)), 0, 0x110)
+					m.put32(uint32(l3)-0xfce05, 0)
+					m.put32(uint32(l3)-0xfce08, 0)
+					m.put128q(uint32(l3)-0xfce28, l5a, l5b)
+					m.put128q(uint32(l3)-0xfce18, l5a, l5b)
+					m.put128q(uint32(l3)-0xfce48, l5a, l5b)
+					m.put128q(uint32(l3)-0xfce38, l5a, l5b)
+					m.fill(uint32((l3 + 0x34)), 0, 0x44)
+					m.put128q(uint32(l3)-0xfcea0, l5a, l5b)
+					m.put128q(uint32(l3)-0xfceb0, l5a, l5b)
+					m.put32(uint32(l3)-0xfceb8, 0)
+					m.put32(uint32(l3)-0xfceb5, 0)
+					t6 := uint32(m.get8(uint32((l1 + 0x22d)) - 0xfcec0))
+					l6 = t6
+					m.put128q(uint32(l3)-0xfc1a0, l5a, l5b)
+					m.put128q(uint32(l3)-0xfc190, l5a, l5b)
+					m.put128q(uint32(l3)-0xfc728, l5a, l5b)
+					m.put128q(uint32(l3)-0xfc718, l5a, l5b)
+					m.put128q(uint32(l3)-0xfc708, l5a, l5b)
+					m.put128q(uint32(l3)-0xfc6f8, l5a, l5b)
+					m.fill(uint32((l3 + 0x9c0)), 0, 0x44)
+					t7 := uint64(m.get8(uint32((l1 + 0x34e)) - 0xfcec0))
+					l7 = t7
+					t8 := uint32(m.get8(uint32((l1 + 0x1a6)) - 0xfcec0))
+					l8 = t8
+					m.put128q(uint32(l3)-0xfc2c0, l5a, l5b)
+					m.put128q(uint32(l3)-0xfc2d0, l5a, l5b)
+					l9 = 0
+					{
+						t10 := uint32(m.get8(uint32((l1 + 0x1eb)) - 0xfcec0))
+						l10 = t10
+						if l10 == 0 {
+							goto L9
+						}
+						t11, t12 := m.get128q(uint32((l1 + 0x1fc)) - 0xfcec0)
+						m.put128q(uint32(l3)-0xfc2c0, t11, t12)
+						t13, t14 := m.get128q(uint32((l1 + 0x1ec)) - 0xfcec0)
+						m.put128q(uint32(l3)-0xfc2d0, t13, t14)
+						l9 = 1
+					}
+				L9:
+					t15, t16 := m.get128q(uint32(l3) - 0xfc2c0)
+					m.put128q(uint32(l3)-0xfc970, t15, t16)
+					t17, t18 := m.get128q(uint32(l3) - 0xfc2d0)
+					m.put128q(uint32(l3)-0xfc980, t17, t18)
+					m.put128q(uint32(l3)-0xfc2c0, l5a, l5b)
+					m.put128q(uint32(l3)-0xfc2d0, l5a, l5b)
+					{
+						t20 := uint32(m.get8(uint32((l1 + 0x20c)) - 0xfcec0))
+						l11 = t20
+						if l11 == 0 {
+							goto L19
+						}
+						t21, t22 := m.get128q(uint32((l1 + 0x21d)) - 0xfcec0)
+						m.put128q(uint32(l3)-0xfc2c0, t21, t22)
+						t23, t24 := m.get128q(uint32((l1 + 0x20d)) - 0xfcec0)
+						m.put128q(uint32(l3)-0xfc2d0, t23, t24)
+						l4 = 1
+					}
+				L19:
+					t25, t26 := m.get128q(uint32(l3) - 0xfc2c0)
+					m.put128q(uint32(l3)-0xfc840, t25, t26)
+					t27, t28 := m.get128q(uint32(l3) - 0xfc2d0)
+					m.put128q(uint32(l3)-0xfc850, t27, t28)
+					t29 := uint32(m.get8(uint32((l1 + 0x1a7)) - 0xfcec0))
+					l12 = t29
+					t30 := uint32(m.get8(uint32((l1 + 0x1a8)) - 0xfcec0))
+					l13 = t30
+					m.put128q(uint32(l3)-0xfc2c0, l5a, l5b)
+					m.put128q(uint32(l3)-0xfc2d0, l5a, l5b)
+					l14 = (uint64(l13) & 0xff)
+					l15 = 0
+					{
+						t32 := uint32(m.get8(uint32((l1 + 0x597)) - 0xfcec0))
+						l16 = t32
+						if l16 == 0 {
+							goto L31
+						}
+						t33, t34 := m.get128q(uint32((l1 + 0x5a8)) - 0xfcec0)
+						m.put128q(uint32(l3)-0xfc2c0, t33, t34)
+						t35, t36 := m.get128q(uint32((l1 + 0x598)) - 0xfcec0)
+						m.put128q(uint32(l3)-0xfc2d0, t35, t36)
+						l15 = 1
+					}
+				L31:
+					t37, t38 := m.get128q(uint32(l3) - 0xfc2c0)
+					m.put128q(uint32(l3)-0xfc190, t37, t38)
+					t39, t40 := m.get128q(uint32(l3) - 0xfc2d0)
+					m.put128q(uint32(l3)-0xfc1a0, t39, t40)
+					t41, t42 := m.get128q(uint32((l1 + 0x567)) - 0xfcec0)
+					l17a, l17b = t41, t42
+					m.put128q(uint32(l3)-0xfc718, l17a, l17b)
+					t43, t44 := m.get128q(uint32((l1 + 0x587)) - 0xfcec0)
+					l18a, l18b = t43, t44
+					m.put128q(uint32(l3)-0xfc6f8, l18a, l18b)
+					t45, t46 := m.get128q(uint32((l1 + 0x577)) - 0xfcec0)
+					l19a, l19b = t45, t46
+					m.put128q(uint32(l3)-0xfc708, l19a, l19b)
+					t47, t48 := m.get128q(uint32((l1 + 0x557)) - 0xfcec0)
+					l20a, l20b = t47, t48
+					m.put128q(uint32(l3)-0xfc728, l20a, l20b)
+					m.put128q(uint32(l3)-0xfc4fc, l20a, l20b)
+					m.put128q(uint32(l3)-0xfc4ec, l17a, l17b)
+					m.put128q(uint32(l3)-0xfc4dc, l19a, l19b)
+					m.put128q(uint32(l3)-0xfc4cc, l18a, l18b)
+					t49 := m.get64(uint32((l1 + 0x5b8)) - 0xfcec0)
+					l21 = t49
+					m.copy(uint32((l3 + 0xc0)), uint32(l2), 0x110)
+					m.put32(uint32(l3)-0xfce05, 0)
+					m.put32(uint32(l3)-0xfce08, 0)
+					t50, t51 := m.get128q(uint32(l3) - 0xfc980)
+					m.put128q(uint32(l3)-0xfce28, t50, t51)
+					t52, t53 := m.get128q(uint32(l3) - 0xfc970)
+					m.put128q(uint32(l3)-0xfce18, t52, t53)
+					t54, t55 := m.get128q(uint32(l3) - 0xfc850)
+					m.put128q(uint32(l3)-0xfce48, t54, t55)
+					t56, t57 := m.get128q(uint32(l3) - 0xfc840)
+					m.put128q(uint32(l3)-0xfce38, t56, t57)
+					m.copy(uint32((l3 + 0x34)), uint32((l3 + 0x9c0)), 0x44)
+					m.put32(uint32(l3)-0xfceb8, 0)
+					m.put32(uint32(l3)-0xfceb5, 0)
+					t58, t59 := m.get128q(uint32(l3) - 0xfc190)
+					m.put128q(uint32(l3)-0xfcea0, t58, t59)
+					t60, t61 := m.get128q(uint32(l3) - 0xfc1a0)
+					m.put128q(uint32(l3)-0xfceb0, t60, t61)
+					m.fill(uint32((l3 + 0x670)), 0, 0x128)
+					m.fill(uint32((l3 + 0x540)), 0, 0x12e)
+					l22 = 0
+					m.put64(uint32(l3)-0xfc98a, 0)
+					m.put64(uint32(l3)-0xfc990, 0)
+					m.put128q(uint32(l3)-0xfc9a0, l5a, l5b)
+					m.put128q(uint32(l3)-0xfc9b0, l5a, l5b)
+					m.put128q(uint32(l3)-0xfc9c0, l5a, l5b)
+					m.copy(uint32((l3 + 0x798)), uint32(l2), 0x110)
+					m.put32(uint32(l3)-0xfc617, 0)
+					l23 = b2i((l8 & 0xff) != 0)
+					m.put8(uint32(l3)-0xfc618, uint8(l23))
+					m.put32(uint32(l3)-0xfc614, 0)
+					m.put8(uint32(l3)-0xfc5f0, uint8(l9))
+					m.put64(uint32(l3)-0xfc5f8, l7)
+					l24 = (l1 + 0x34f)
+					m.put64(uint32(l3)-0xfc600, l24)
+					l25 = (l1 + 0x1ca)
+					m.put64(uint32(l3)-0xfc608, l25)
+					l26 = (l1 + 0x1a9)
+					m.put64(uint32(l3)-0xfc610, l26)
+					m.put8(uint32(l3)-0xfc5cf, uint8(l4))
+					m.put8(uint32(l3)-0xfc5ae, uint8(l13))
+					l27 = b2i((l12 & 0xff) != 0)
+					m.put8(uint32(l3)-0xfc5ad, uint8(l27))
+					t62, t63 := m.get128q(uint32(l3) - 0xfce28)
+					m.put128q(uint32(l3)-0xfc5ef, t62, t63)
+					t64, t65 := m.get128q(uint32(l3) - 0xfce18)
+					m.put128q(uint32(l3)-0xfc5df, t64, t65)
+					t66, t67 := m.get128q(uint32(l3) - 0xfce48)
+					m.put128q(uint32(l3)-0xfc5ce, t66, t67)
+					t68, t69 := m.get128q(uint32(l3) - 0xfce38)
+					m.put128q(uint32(l3)-0xfc5be, t68, t69)
+					m.copy(uint32((l3 + 0x914)), uint32((l3 + 0x34)), 0x44)
+					m.put8(uint32(l3)-0xfc568, uint8(l15))
+					m.put32(uint32(l3)-0xfc547, 0)
+					m.put32(uint32(l3)-0xfc544, 0)
+					m.put64(uint32(l3)-0xfc540, l21)
+					t70, t71 := m.get128q(uint32(l3) - 0xfceb0)
+					m.put128q(uint32(l3)-0xfc567, t70, t71)
+					t72, t73 := m.get128q(uint32(l3) - 0xfcea0)
+					m.put128q(uint32(l3)-0xfc557, t72, t73)
+					t74 := m.get64(uint32(l3) - 0xfc620)
+					l28 = t74
+					if l28 < l14 {
+						goto L4
+					}
+					l29 = (uint64(l6) & 0xff)
+					l30 = (l29 << 5)
+					l31 = (l1 - l30)
+					{
+						l1 = (l28 - l14)
+						if l1 == 0 {
+							goto L75
+						}
+						l32 = (((l3 + 0x798) + (l14 * 0x18)) + 0x48)
+						l33 = 0
+						{
+							{
+								if l28 != (l14 + 1) {
+									goto L77
+								}
+								l22 = 0
+								goto L76
+							}
+						L77:
+							l34 = (l1 & 1)
+							l35 = (l1 & 0xfffffffffffffffe)
+							l22 = 0
+							l36 = 0
+						L78:
+							{
+								t79 := m.get64(uint32((l32 + 0x10)) - 0xfcec0)
+								l1 = t79
+								l2 = l32
+								l37 = 0
+								{
+								L81:
+									{
+										if l1 == 0 {
+											goto L80
+										}
+										l1 = (l1 + 0xffffffffffffffff)
+										t82 := uint32(m.get8(uint32(l2) - 0xfcec0))
+										l12 = t82
+										l38 = (l2 + 1)
+										l2 = l38
+										if l12 != 6 {
+											goto L81
+										}
+										l37 = (l37 + 1)
+										l2 = l38
+										goto L81
+									}
+								}
+							L80:
+								l22 = (l37 + l22)
+								l2 = (l32 + 0x18)
+								t83 := m.get64(uint32((l32 + 0x28)) - 0xfcec0)
+								l1 = t83
+								l37 = 0
+								{
+								L85:
+									{
+										if l1 == 0 {
+											goto L84
+										}
+										l1 = (l1 + 0xffffffffffffffff)
+										t86 := uint32(m.get8(uint32(l2) - 0xfcec0))
+										l12 = t86
+										l38 = (l2 + 1)
+										l2 = l38
+										if l12 != 6 {
+											goto L85
+										}
+										l37 = (l37 + 1)
+										l2 = l38
+										goto L85
+									}
+								}
+							L84:
+								l22 = (l37 + l22)
+								l32 = (l32 + 0x30)
+								l36 = (l36 + 2)
+								if l36 != l35 {
+									goto L78
+								}
+							}
+							if l34 == 0 {
+								goto L75
+							}
+						}
+					L76:
+						t87 := m.get64(uint32((l32 + 0x10)) - 0xfcec0)
+						l1 = t87
+						{
+						L89:
+							{
+								if l1 == 0 {
+									goto L88
+								}
+								l1 = (l1 + 0xffffffffffffffff)
+								t90 := uint32(m.get8(uint32(l32) - 0xfcec0))
+								l12 = t90
+								l2 = (l32 + 1)
+								l32 = l2
+								if l12 != 6 {
+									goto L89
+								}
+								l33 = (l33 + 1)
+								l32 = l2
+								goto L89
+							}
+						}
+					L88:
+						l22 = (l33 + l22)
+					}
+				L75:
+					l39 = (l31 + 0x34e)
+					l40 = b2i(l16 != 0)
+					l12 = (l8 & 0xff)
+					l41 = b2i(l12 == 0)
+					l36 = (l3 + 0x7d0)
+					l35 = (l3 + 0x7c0)
+					t91 := -uint64(b2i(l12 != 0))
+					t92 := (l36 & t91) | (l35 &^ t91)
+					l32 = t92
+					l2 = l32
+					t93 := m.get64(uint32(l3) - 0xfc6e8)
+					l31 = t93
+					t94 := m.get64(uint32(l3) - 0xfc6f8)
+					l34 = t94
+					t95 := -uint64(b2i(l12 != 0))
+					t96 := (l31 & t95) | (l34 &^ t95)
+					l38 = t96
+					l1 = l38
+					{
+						{
+							{
+							L100:
+								{
+									if l1 == 0 {
+										goto L99
+									}
+									l1 = (l1 + 0xffffffffffffffff)
+									t101 := uint32(m.get8(uint32(l2) - 0xfcec0))
+									l12 = t101
+									l2 = (l2 + 1)
+									if l12 != 0 {
+										goto L100
+									}
+									goto L98
+								}
+							}
+						L99:
+							if l28 == 0 {
+								goto L97
+							}
+							l37 = (l3 + 0x7e0)
+							l12 = 0
+							l42 = l28
+						L102:
+							{
+								{
+									if (l12 & 0xff) != l23 {
+										goto L103
+									}
+									t104 := m.get64(uint32((l37 + 0x10)) - 0xfcec0)
+									l33 = t104
+									l1 = 0
+								L105:
+									{
+										if l33 == l1 {
+											goto L103
+										}
+										l2 = (l37 + l1)
+										l1 = (l1 + 1)
+										t106 := uint32(m.get8(uint32(l2) - 0xfcec0))
+										if t106 != 0 {
+											goto L105
+										}
+										goto L98
+									}
+								}
+							L103:
+								l37 = (l37 + 0x18)
+								l12 = (l12 ^ 1)
+								l42 = (l42 + 0xffffffffffffffff)
+								if !(l42 == 0) {
+									goto L102
+								}
+								goto L97
+							}
+						}
+					L98:
+						t107 := uint32(m.get8(uint32(l26) - 0xfcec0))
+						if t107 == 0 {
+							goto L4
+						}
+					}
+				L97:
+					{
+						{
+							{
+							L111:
+								{
+									if l38 == 0 {
+										goto L110
+									}
+									l38 = (l38 + 0xffffffffffffffff)
+									t112 := uint32(m.get8(uint32(l32) - 0xfcec0))
+									l12 = t112
+									l32 = (l32 + 1)
+									if l12 != 1 {
+										goto L111
+									}
+									goto L109
+								}
+							}
+						L110:
+							if l28 == 0 {
+								goto L108
+							}
+							l38 = (l3 + 0x7e0)
+							l12 = 0
+							l37 = l28
+						L113:
+							{
+								{
+									if (l12 & 0xff) != l23 {
+										goto L114
+									}
+									t115 := m.get64(uint32((l38 + 0x10)) - 0xfcec0)
+									l32 = t115
+									l1 = 0
+								L116:
+									{
+										if l32 == l1 {
+											goto L114
+										}
+										l2 = (l38 + l1)
+										l1 = (l1 + 1)
+										t117 := uint32(m.get8(uint32(l2) - 0xfcec0))
+										if t117 != 1 {
+											goto L116
+										}
+										goto L109
+									}
+								}
+							L114:
+								l38 = (l38 + 0x18)
+								l12 = (l12 ^ 1)
+								l37 = (l37 + 0xffffffffffffffff)
+								if !(l37 == 0) {
+									goto L113
+								}
+								goto L108
+							}
+						}
+					L109:
+						t118 := uint32(m.get8(uint32(l25) - 0xfcec0))
+						if t118 == 0 {
+							goto L4
+						}
+					}
+				L108:
+					l12 = (l8 & 0xff)
+					t119 := -uint64(b2i(l12 != 0))
+					t120 := (l35 & t119) | (l36 &^ t119)
+					l32 = t120
+					l2 = l32
+					t121 := -uint64(b2i(l12 != 0))
+					t122 := (l34 & t121) | (l31 &^ t121)
+					l38 = t122
+					l1 = l38
+					{
+						{
+							{
+							L126:
+								{
+									if l1 == 0 {
+										goto L125
+									}
+									l1 = (l1 + 0xffffffffffffffff)
+									t127 := uint32(m.get8(uint32(l2) - 0xfcec0))
+									l12 = t127
+									l2 = (l2 + 1)
+									if l12 != 0 {
+										goto L126
+									}
+									goto L124
+								}
+							}
+						L125:
+							{
+								if (l13 & 0xff) == 0 {
+									goto L128
+								}
+								l37 = (l3 + 0x7e0)
+								l12 = 0
+								l42 = l14
+							L129:
+								{
+									{
+										if (l12 & 0xff) != l41 {
+											goto L130
+										}
+										t131 := m.get64(uint32((l37 + 0x10)) - 0xfcec0)
+										l33 = t131
+										l1 = 0
+									L132:
+										{
+											if l33 == l1 {
+												goto L130
+											}
+											l2 = (l37 + l1)
+											l1 = (l1 + 1)
+											t133 := uint32(m.get8(uint32(l2) - 0xfcec0))
+											if t133 == 0 {
+												goto L124
+											}
+											goto L132
+										}
+									}
+								L130:
+									l37 = (l37 + 0x18)
+									l12 = (l12 ^ 1)
+									l42 = (l42 + 0xffffffffffffffff)
+									if l42 != 0 {
+										goto L129
+									}
+								}
+							}
+						L128:
+							if l10 != 0 {
+								goto L4
+							}
+							goto L123
+						}
+					L124:
+						if l10 == 0 {
+							goto L4
+						}
+					}
+				L123:
+					{
+						{
+							{
+							L137:
+								{
+									if l38 == 0 {
+										goto L136
+									}
+									l38 = (l38 + 0xffffffffffffffff)
+									t138 := uint32(m.get8(uint32(l32) - 0xfcec0))
+									l12 = t138
+									l32 = (l32 + 1)
+									if l12 != 1 {
+										goto L137
+									}
+									goto L135
+								}
+							}
+						L136:
+							{
+								if (l13 & 0xff) == 0 {
+									goto L139
+								}
+								l38 = (l3 + 0x7e0)
+								l12 = 0
+								l37 = l14
+							L140:
+								{
+									{
+										if (l12 & 0xff) != l41 {
+											goto L141
+										}
+										t142 := m.get64(uint32((l38 + 0x10)) - 0xfcec0)
+										l32 = t142
+										l1 = 0
+									L143:
+										{
+											if l32 == l1 {
+												goto L141
+											}
+											l2 = (l38 + l1)
+											l1 = (l1 + 1)
+											t144 := uint32(m.get8(uint32(l2) - 0xfcec0))
+											if t144 != 1 {
+												goto L143
+											}
+											goto L135
+										}
+									}
+								L141:
+									l38 = (l38 + 0x18)
+									l12 = (l12 ^ 1)
+									l37 = (l37 + 0xffffffffffffffff)
+									if !(l37 == 0) {
+										goto L140
+									}
+								}
+							}
+						L139:
+							if l11 != 0 {
+								goto L4
+							}
+							goto L134
+						}
+					L135:
+						if l11 == 0 {
+							goto L4
+						}
+					}
+				L134:
+					l38 = (l3 + 0x7e0)
+					l43 = 0
+					l44 = 0
+					{
+						l45 = b2i(l28 == 0)
+						if l45 != 0 {
+							goto L145
+						}
+						l32 = 0
+						l37 = l38
+					L146:
+						{
+							l1 = l37
+							{
+								t148 := m.get64(uint32(((l38 + (l32 * 0x18)) + 0x10)) - 0xfcec0)
+								l2 = t148
+								if l2 == 0 {
+									goto L147
+								}
+								{
+								L150:
+									{
+										t151 := uint32(m.get8(uint32(l1) - 0xfcec0))
+										if t151 == 6 {
+											goto L149
+										}
+										l1 = (l1 + 1)
+										l2 = (l2 + 0xffffffffffffffff)
+										if l2 == 0 {
+											goto L147
+										}
+										goto L150
+									}
+								}
+							L149:
+								l44 = 1
+								goto L145
+							}
+						L147:
+							l37 = (l37 + 0x18)
+							l32 = (l32 + 1)
+							if l32 != l28 {
+								goto L146
+							}
+						}
+						l44 = 0
+					}
+				L145:
+					l11 = 0
+					l41 = 0
+					l46 = 0
+					l47 = 0
+					l12 = 0
+					{
+						if l34 == 0 {
+							goto L152
+						}
+						l43 = 0
+						l11 = 0
+						l41 = 0
+						l46 = 0
+						l47 = 0
+						l8 = 0
+					L153:
+						{
+							l12 = 1
+							{
+								{
+									{
+										{
+											{
+												{
+													{
+														t161 := uint64(m.get8(uint32(l35) - 0xfcec0))
+														switch uint32(t161) {
+														case 5:
+															goto L160
+														case 4:
+															goto L159
+														case 3:
+															goto L158
+														case 2:
+															goto L157
+														case 1:
+															goto L155
+														case 6:
+															goto L154
+														}
+														goto L156
+													}
+												L160:
+													l47 = 1
+													goto L155
+												}
+											L159:
+												l46 = 1
+												goto L155
+											}
+										L158:
+											l41 = 1
+											goto L155
+										}
+									L157:
+										l11 = 1
+										goto L155
+									}
+								L156:
+									l43 = 1
+								}
+							L155:
+								l12 = l8
+							}
+						L154:
+							l35 = (l35 + 1)
+							l8 = l12
+							l34 = (l34 + 0xffffffffffffffff)
+							if !(l34 == 0) {
+								goto L153
+							}
+						}
+					}
+				L152:
+					l48 = 0
+					{
+						{
+							if !(l31 == 0) {
+								goto L163
+							}
+							l8 = 0
+							goto L162
+						}
+					L163:
+						l10 = 0
+					L164:
+						{
+							l8 = 1
+							{
+								{
+									{
+										{
+											{
+												{
+													{
+														t172 := uint64(m.get8(uint32(l36) - 0xfcec0))
+														switch uint32(t172) {
+														case 2:
+															goto L171
+														case 3:
+															goto L170
+														case 4:
+															goto L169
+														case 5:
+															goto L168
+														case 6:
+															goto L167
+														case 1:
+															goto L166
+														}
+														goto L165
+													}
+												L171:
+													l11 = 1
+													goto L166
+												}
+											L170:
+												l41 = 1
+												goto L166
+											}
+										L169:
+											l46 = 1
+											goto L166
+										}
+									L168:
+										l47 = 1
+										goto L166
+									}
+								L167:
+									l12 = 1
+								}
+							L166:
+								l8 = l10
+							}
+						L165:
+							l36 = (l36 + 1)
+							l10 = l8
+							l31 = (l31 + 0xffffffffffffffff)
+							if l31 != 0 {
+								goto L164
+							}
+						}
+					}
+				L162:
+					{
+						if l45 != 0 {
+							goto L173
+						}
+						l32 = 0
+						l37 = l38
+					L174:
+						{
+							l1 = l37
+							{
+								t176 := m.get64(uint32(((l38 + (l32 * 0x18)) + 0x10)) - 0xfcec0)
+								l2 = t176
+								if l2 == 0 {
+									goto L175
+								}
+								{
+								L178:
+									{
+										t179 := uint32(m.get8(uint32(l1) - 0xfcec0))
+										if t179 == 6 {
+											goto L177
+										}
+										l1 = (l1 + 1)
+										l2 = (l2 + 0xffffffffffffffff)
+										if l2 == 0 {
+											goto L175
+										}
+										goto L178
+									}
+								}
+							L177:
+								l48 = 1
+								goto L173
+							}
+						L175:
+							l37 = (l37 + 0x18)
+							l32 = (l32 + 1)
+							if l32 != l28 {
+								goto L174
+							}
+						}
+					}
+				L173:
+					l10 = 1
+					{
+						if ((((l11 | l41) | l46) | l47) & 1) != 0 {
+							goto L180
+						}
+						l10 = (l12 | l48)
+						t181 := -uint32(b2i(l48 != 0))
+						t182 := ((l43 | l8) & t181) | (l10 &^ t181)
+						t183 := -uint32(b2i((l12 & 1) != 0))
+						t184 := (l10 & t183) | (t182 &^ t183)
+						l10 = t184
+					}
+				L180:
+					l12 = (l10 & 1)
+					{
+						{
+							{
+								if l44 == 0 {
+									goto L187
+								}
+								l1 = 0
+								if (l13 & 0xff) == 0 {
+									goto L185
+								}
+							L188:
+								{
+									l14 = (l14 + 0xffffffffffffffff)
+									{
+										t190 := m.get64(uint32((l38 + 0x10)) - 0xfcec0)
+										l37 = t190
+										if l37 == 0 {
+											goto L189
+										}
+										{
+											{
+												l32 = (l37 & 3)
+												if !(l32 == 0) {
+													goto L192
+												}
+												l2 = l38
+												l32 = l37
+												goto L191
+											}
+										L192:
+											l2 = 0
+										L193:
+											{
+												t194 := uint32(m.get8(uint32((l38 + l2)) - 0xfcec0))
+												l8 = b2i(t194 == 1)
+												t195 := -uint64(b2i(l8 != 0))
+												t196 := ((l1 + (uint64(l12) & 0xff)) & t195) | (0 &^ t195)
+												l1 = t196
+												t197 := -uint32(b2i(l8 != 0))
+												t198 := (l12 & t197) | (1 &^ t197)
+												l12 = t198
+												l2 = (l2 + 1)
+												if l32 != l2 {
+													goto L193
+												}
+											}
+											l32 = (l37 - l2)
+											l2 = (l38 + l2)
+										}
+									L191:
+										if l37 < 4 {
+											goto L189
+										}
+									L199:
+										{
+											t200 := uint32(m.get8(uint32(l2) - 0xfcec0))
+											l8 = b2i(t200 == 1)
+											t201 := -uint64(b2i(l8 != 0))
+											t202 := ((l1 + (uint64(l12) & 0xff)) & t201) | (0 &^ t201)
+											t203 := -uint32(b2i(l8 != 0))
+											t204 := (l12 & t203) | (1 &^ t203)
+											l12 = t204
+											t205 := uint32(m.get8(uint32((l2 + 1)) - 0xfcec0))
+											l8 = b2i(t205 == 1)
+											t206 := -uint64(b2i(l8 != 0))
+											t207 := ((t202 + (uint64(l12) & 0xff)) & t206) | (0 &^ t206)
+											t208 := -uint32(b2i(l8 != 0))
+											t209 := (l12 & t208) | (1 &^ t208)
+											l12 = t209
+											t210 := uint32(m.get8(uint32((l2 + 2)) - 0xfcec0))
+											l8 = b2i(t210 == 1)
+											t211 := -uint64(b2i(l8 != 0))
+											t212 := ((t207 + (uint64(l12) & 0xff)) & t211) | (0 &^ t211)
+											t213 := -uint32(b2i(l8 != 0))
+											t214 := (l12 & t213) | (1 &^ t213)
+											l12 = t214
+											t215 := uint32(m.get8(uint32((l2 + 3)) - 0xfcec0))
+											l8 = b2i(t215 == 1)
+											t216 := -uint64(b2i(l8 != 0))
+											t217 := ((t212 + (uint64(l12) & 0xff)) & t216) | (0 &^ t216)
+											l1 = t217
+											t218 := -uint32(b2i(l8 != 0))
+											t219 := (l12 & t218) | (1 &^ t218)
+											l12 = t219
+											l2 = (l2 + 4)
+											l32 = (l32 + 0xfffffffffffffffc)
+											if l32 != 0 {
+												goto L199
+											}
+										}
+									}
+								L189:
+									l38 = (l38 + 0x18)
+									l1 = (l1 + (uint64(l12) & 0xff))
+									if !(l14 == 0) {
+										goto L188
+									}
+									goto L186
+								}
+							}
+						L187:
+							l1 = 0
+							if (l13 & 0xff) == 0 {
+								goto L185
+							}
+						L220:
+							{
+								l14 = (l14 + 0xffffffffffffffff)
+								{
+									t222 := m.get64(uint32((l38 + 0x10)) - 0xfcec0)
+									l37 = t222
+									if l37 == 0 {
+										goto L221
+									}
+									l2 = 0
+								L223:
+									{
+										l32 = l1
+										l8 = l12
+										l12 = 1
+										l1 = 0
+										{
+											t225 := uint32(m.get8(uint32((l38 + l2)) - 0xfcec0))
+											l10 = t225
+											if (l10 + 0xfffffffe) < 5 {
+												goto L224
+											}
+											{
+												{
+													switch l10 {
+													case 1:
+														goto L227
+													}
+													goto L226
+												}
+											L227:
+												l1 = (l32 + (uint64(l8) & 0xff))
+												l12 = l8
+												goto L224
+											}
+										L226:
+											l12 = l8
+											l1 = l32
+										}
+									L224:
+										l2 = (l2 + 1)
+										if l37 != l2 {
+											goto L223
+										}
+									}
+								}
+							L221:
+								l38 = (l38 + 0x18)
+								l1 = (l1 + (uint64(l12) & 0xff))
+								if !(l14 == 0) {
+									goto L220
+								}
+							}
+						}
+					L186:
+						l10 = l12
+					}
+				L185:
+					if b2i(l16 == 0) == (l10 & 1) {
+						goto L4
+					}
+					if l21 != l1 {
+						goto L4
+					}
+					{
+						if l22 >= l29 {
+							goto L228
+						}
+						l12 = 0
+						m.fill(uint32((l3 + 0x3f0)), 0, 0x110)
+						m.put16(uint32(l3)-0xfcad4, 0)
+						m.put32(uint32(l3)-0xfcad8, 0)
+						m.put128q(uint32(l3)-0xfcaf8, l5a, l5b)
+						m.put128q(uint32(l3)-0xfcae8, l5a, l5b)
+						m.put128q(uint32(l3)-0xfcb18, l5a, l5b)
+						m.put128q(uint32(l3)-0xfcb08, l5a, l5b)
+						m.fill(uint32((l3 + 0x27a)), 0, 0x12e)
+						l1 = 0
+						m.put64(uint32(l3)-0xfcc52, 0)
+						m.put64(uint32(l3)-0xfcc58, 0)
+						m.put128q(uint32(l3)-0xfcc68, l5a, l5b)
+						m.put128q(uint32(l3)-0xfcc78, l5a, l5b)
+						m.put128q(uint32(l3)-0xfcc88, l5a, l5b)
+						m.put128q(uint32(l3)-0xfccc8, l5a, l5b)
+						m.put128q(uint32(l3)-0xfccb8, l5a, l5b)
+						m.put128q(uint32(l3)-0xfcca8, l5a, l5b)
+						m.put128q(uint32(l3)-0xfcc98, l5a, l5b)
+						m.put128q(uint32(l3)-0xfcce8, l5a, l5b)
+						m.put128q(uint32(l3)-0xfccd8, l5a, l5b)
+						m.put32(uint32(l3)-0xfcced, 0)
+						m.put32(uint32(l3)-0xfccf0, 0)
+						l7 = 0
+						l24 = 0
+						l25 = 0
+						l26 = 0
+						l23 = 0
+						goto L3
+					}
+				L228:
+					m.fill(uint32((l3 + 0x670)), 0, 0x120)
+					if (l6 & 0xff) > 9 {
+						goto L5
+					}
+					{
+						if l30 == 0 {
+							goto L229
+						}
+						m.copy(uint32((l3 + 0x670)), uint32(l39), uint32(l30))
+					}
+				L229:
+					m.put64(uint32(l3)-0xfc730, l29)
+					m.put32(uint32(l3)-0xfc2d0, 0)
+					m.put16(uint32(l3)-0xfc2cc, 0)
+					m.put32(uint32(l3)-0xfc310, 0)
+					m.put16(uint32(l3)-0xfc30c, 0)
+					l38 = 0
+					m.put64(uint32(l3)-0xfc538, 0)
+					m.put128q(uint32(l3)-0xfc530, l5a, l5b)
+					m.put128q(uint32(l3)-0xfc520, l5a, l5b)
+					m.put128q(uint32(l3)-0xfc510, l5a, l5b)
+					m.copy(uint32((l3 + 0x9c0)), uint32((l3 + 0xc0)), 0x110)
+					m.put8(uint32(l3)-0xfc3f0, uint8(l23))
+					m.put8(uint32(l3)-0xfc3c8, uint8(l9))
+					m.put64(uint32(l3)-0xfc3d0, l7)
+					m.put64(uint32(l3)-0xfc3d8, l24)
+					m.put64(uint32(l3)-0xfc3e0, l25)
+					m.put64(uint32(l3)-0xfc3e8, l26)
+					m.put8(uint32(l3)-0xfc3a7, uint8(l4))
+					t230 := m.get32(uint32(l3) - 0xfce08)
+					m.put32(uint32(l3)-0xfc3ef, t230)
+					t231 := m.get32(uint32(l3) - 0xfce05)
+					m.put32(uint32(l3)-0xfc3ec, t231)
+					t232, t233 := m.get128q(uint32(l3) - 0xfce28)
+					m.put128q(uint32(l3)-0xfc3c7, t232, t233)
+					t234, t235 := m.get128q(uint32(l3) - 0xfce18)
+					m.put128q(uint32(l3)-0xfc3b7, t234, t235)
+					t236, t237 := m.get128q(uint32(l3) - 0xfce48)
+					m.put128q(uint32(l3)-0xfc3a6, t236, t237)
+					t238, t239 := m.get128q(uint32(l3) - 0xfce38)
+					m.put128q(uint32(l3)-0xfc396, t238, t239)
+					m.put8(uint32(l3)-0xfc385, uint8(l27))
+					m.put8(uint32(l3)-0xfc386, uint8(l13))
+					m.copy(uint32((l3 + 0xb3c)), uint32((l3 + 0x34)), 0x44)
+					m.put8(uint32(l3)-0xfc340, uint8(l15))
+					m.put64(uint32(l3)-0xfc318, l21)
+					t240, t241 := m.get128q(uint32(l3) - 0xfceb0)
+					m.put128q(uint32(l3)-0xfc33f, t240, t241)
+					t242, t243 := m.get128q(uint32(l3) - 0xfcea0)
+					m.put128q(uint32(l3)-0xfc32f, t242, t243)
+					t244 := m.get32(uint32(l3) - 0xfceb8)
+					m.put32(uint32(l3)-0xfc31f, t244)
+					t245 := m.get32(uint32(l3) - 0xfceb5)
+					m.put32(uint32(l3)-0xfc31c, t245)
+					l12 = 0
+					{
+						t247 := m.get64(uint32(l3) - 0xfc3f8)
+						l22 = t247
+						if l22 == 0 {
+							goto L246
+						}
+						l37 = (l3 + 0xa08)
+						l32 = l37
+					L248:
+						{
+							l1 = l32
+							{
+								t250 := m.get64(uint32(((l37 + (l38 * 0x18)) + 0x10)) - 0xfcec0)
+								l2 = t250
+								if l2 == 0 {
+									goto L249
+								}
+								{
+								L252:
+									{
+										t253 := uint32(m.get8(uint32(l1) - 0xfcec0))
+										if t253 == 6 {
+											goto L251
+										}
+										l1 = (l1 + 1)
+										l2 = (l2 + 0xffffffffffffffff)
+										if l2 == 0 {
+											goto L249
+										}
+										goto L252
+									}
+								}
+							L251:
+								l12 = 1
+								goto L246
+							}
+						L249:
+							l32 = (l32 + 0x18)
+							l38 = (l38 + 1)
+							if l38 != l22 {
+								goto L248
+							}
+						}
+						l12 = 0
+					}
+				L246:
+					f33(m, (l3 + 0x988), (l3 + 0x9c0), l12, l40, l13)
+					t254, t255 := m.get128q(uint32(l3) - 0xfce78)
+					m.put128q(uint32(l3)-0xfc190, t254, t255)
+					t256, t257 := m.get128q(uint32(l3) - 0xfce88)
+					m.put128q(uint32(l3)-0xfc1a0, t256, t257)
+					t258, t259 := m.get128q(uint32(l3) - 0xfce68)
+					m.put128q(uint32(l3)-0xfc180, t258, t259)
+					t260, t261 := m.get128q(uint32(l3) - 0xfce58)
+					m.put128q(uint32(l3)-0xfc170, t260, t261)
+					m.copy(uint32((l3 + 0xbf6)), uint32((l3 + 0x670)), 0x128)
+					t262 := m.get64(uint32(l3) - 0xfc508)
+					m.put64(uint32(l3)-0xfc2da, t262)
+					t263, t264 := m.get128q(uint32(l3) - 0xfc518)
+					m.put128q(uint32(l3)-0xfc2ea, t263, t264)
+					t265, t266 := m.get128q(uint32(l3) - 0xfc528)
+					m.put128q(uint32(l3)-0xfc2fa, t265, t266)
+					t267, t268 := m.get128q(uint32(l3) - 0xfc538)
+					m.put128q(uint32(l3)-0xfc30a, t267, t268)
+					m.copy(uint32((l3 + 0x540)), uint32((l3 + 0xbf0)), 0x12e)
+					t269 := m.get64(uint32(l3) - 0xfc2da)
+					m.put64(uint32(l3)-0xfc98a, t269)
+					t270 := m.get64(uint32(l3) - 0xfc2e0)
+					m.put64(uint32(l3)-0xfc990, t270)
+					t271, t272 := m.get128q(uint32(l3) - 0xfc2f0)
+					m.put128q(uint32(l3)-0xfc9a0, t271, t272)
+					t273, t274 := m.get128q(uint32(l3) - 0xfc300)
+					m.put128q(uint32(l3)-0xfc9b0, t273, t274)
+					t275, t276 := m.get128q(uint32(l3) - 0xfc310)
+					m.put128q(uint32(l3)-0xfc9c0, t275, t276)
+					m.copy(uint32((l3 + 0x3f0)), uint32((l3 + 0xc0)), 0x110)
+					m.put16(uint32(l3)-0xfcad4, 0)
+					m.put32(uint32(l3)-0xfcad8, 0)
+					t277, t278 := m.get128q(uint32(l3) - 0xfce28)
+					m.put128q(uint32(l3)-0xfcaf8, t277, t278)
+					t279, t280 := m.get128q(uint32(l3) - 0xfce18)
+					m.put128q(uint32(l3)-0xfcae8, t279, t280)
+					t281, t282 := m.get128q(uint32(l3) - 0xfce48)
+					m.put128q(uint32(l3)-0xfcb18, t281, t282)
+					t283, t284 := m.get128q(uint32(l3) - 0xfce38)
+					m.put128q(uint32(l3)-0xfcb08, t283, t284)
+					m.copy(uint32((l3 + 0x27a)), uint32((l3 + 0x540)), 0x12e)
+					t285 := m.get64(uint32(l3) - 0xfc98a)
+					m.put64(uint32(l3)-0xfcc52, t285)
+					t286 := m.get64(uint32(l3) - 0xfc990)
+					m.put64(uint32(l3)-0xfcc58, t286)
+					t287, t288 := m.get128q(uint32(l3) - 0xfc9a0)
+					m.put128q(uint32(l3)-0xfcc68, t287, t288)
+					t289, t290 := m.get128q(uint32(l3) - 0xfc9b0)
+					m.put128q(uint32(l3)-0xfcc78, t289, t290)
+					t291, t292 := m.get128q(uint32(l3) - 0xfc9c0)
+					m.put128q(uint32(l3)-0xfcc88, t291, t292)
+					t293, t294 := m.get128q(uint32(l3) - 0xfc1a0)
+					m.put128q(uint32(l3)-0xfccc8, t293, t294)
+					t295, t296 := m.get128q(uint32(l3) - 0xfc190)
+					m.put128q(uint32(l3)-0xfccb8, t295, t296)
+					t297, t298 := m.get128q(uint32(l3) - 0xfc180)
+					m.put128q(uint32(l3)-0xfcca8, t297, t298)
+					t299, t300 := m.get128q(uint32(l3) - 0xfc170)
+					m.put128q(uint32(l3)-0xfcc98, t299, t300)
+					m.put32(uint32(l3)-0xfccf0, 0)
+					m.put32(uint32(l3)-0xfcced, 0)
+					t301, t302 := m.get128q(uint32(l3) - 0xfcea0)
+					m.put128q(uint32(l3)-0xfccd8, t301, t302)
+					t303, t304 := m.get128q(uint32(l3) - 0xfceb0)
+					m.put128q(uint32(l3)-0xfcce8, t303, t304)
+					l1 = 1
+					goto L2
+				}
+			L5:
+				panic("unreachable")
+			}
+		L4:
+			l23 = 0
+			m.fill(uint32((l3 + 0x3f0)), 0, 0x110)
+			m.put16(uint32(l3)-0xfcad4, 0)
+			m.put32(uint32(l3)-0xfcad8, 0)
+			m.put128q(uint32(l3)-0xfcaf8, l5a, l5b)
+			m.put128q(uint32(l3)-0xfcae8, l5a, l5b)
+			m.put128q(uint32(l3)-0xfcb18, l5a, l5b)
+			m.put128q(uint32(l3)-0xfcb08, l5a, l5b)
+			m.fill(uint32((l3 + 0x27a)), 0, 0x12e)
+			l7 = 0
+			m.put64(uint32(l3)-0xfcc52, 0)
+			m.put64(uint32(l3)-0xfcc58, 0)
+			m.put128q(uint32(l3)-0xfcc68, l5a, l5b)
+			m.put128q(uint32(l3)-0xfcc78, l5a, l5b)
+			m.put128q(uint32(l3)-0xfcc88, l5a, l5b)
+			m.put128q(uint32(l3)-0xfccc8, l5a, l5b)
+			m.put128q(uint32(l3)-0xfccb8, l5a, l5b)
+			m.put128q(uint32(l3)-0xfcca8, l5a, l5b)
+			m.put128q(uint32(l3)-0xfcc98, l5a, l5b)
+			m.put128q(uint32(l3)-0xfcce8, l5a, l5b)
+			m.put128q(uint32(l3)-0xfccd8, l5a, l5b)
+			m.put32(uint32(l3)-0xfcced, 0)
+			m.put32(uint32(l3)-0xfccf0, 0)
+			l24 = 0
+			l25 = 0
+			l26 = 0
+			l1 = 0
+			l12 = 0
+		}
+	L3:
+		l9 = 0
+		l4 = 0
+		l13 = 0
+		l27 = 0
+		l15 = 0
+		l21 = 0
+	}
+L2:
+	m.put64(uint32(l0)-0xfcec0, l1)
+	m.copy(uint32((l0 + 8)), uint32((l3 + 0x3f0)), 0x110)
+	m.put8(uint32((l0+0x139))-0xfcec0, uint8(l12))
+	m.put8(uint32((l0+0x138))-0xfcec0, uint8(l23))
+	m.put64(uint32((l0+0x130))-0xfcec0, l7)
+	m.put64(uint32((l0+0x128))-0xfcec0, l24)
+	m.put64(uint32((l0+0x120))-0xfcec0, l25)
+	m.put64(uint32((l0+0x118))-0xfcec0, l26)
+	m.put8(uint32((l0+0x140))-0xfcec0, uint8(l9))
+	m.put8(uint32((l0+0x161))-0xfcec0, uint8(l4))
+	t305 := m.get32(uint32(l3) - 0xfcad8)
+	m.put32(uint32((l0+0x13a))-0xfcec0, t305)
+	t306 := uint32(m.get16(uint32(l3) - 0xfcad4))
+	m.put16(uint32((l0+0x13e))-0xfcec0, uint16(t306))
+	t307, t308 := m.get128q(uint32(l3) - 0xfcaf8)
+	m.put128q(uint32((l0+0x141))-0xfcec0, t307, t308)
+	t309, t310 := m.get128q(uint32(l3) - 0xfcae8)
+	m.put128q(uint32((l0+0x151))-0xfcec0, t309, t310)
+	t311, t312 := m.get128q(uint32(l3) - 0xfcb18)
+	m.put128q(uint32((l0+0x162))-0xfcec0, t311, t312)
+	t313, t314 := m.get128q(uint32(l3) - 0xfcb08)
+	m.put128q(uint32((l0+0x172))-0xfcec0, t313, t314)
+	m.copy(uint32((l0 + 0x182)), uint32((l3 + 0x27a)), 0x12e)
+	m.put8(uint32((l0+0x2b9))-0xfcec0, uint8(l27))
+	m.put8(uint32((l0+0x2b8))-0xfcec0, uint8(l13))
+	m.put64(uint32((l0+0x2b0))-0xfcec0, 0)
+	t315 := m.get64(uint32(l3) - 0xfcc88)
+	m.put64(uint32((l0+0x2ba))-0xfcec0, t315)
+	t316, t317 := m.get128q(uint32(l3) - 0xfcc80)
+	m.put128q(uint32((l0+0x2c2))-0xfcec0, t316, t317)
+	t318, t319 := m.get128q(uint32(l3) - 0xfcc70)
+	m.put128q(uint32((l0+0x2d2))-0xfcec0, t318, t319)
+	t320, t321 := m.get128q(uint32(l3) - 0xfcc60)
+	m.put128q(uint32((l0+0x2e2))-0xfcec0, t320, t321)
+	t322 := m.get64(uint32(l3) - 0xfcc52)
+	m.put64(uint32((l0+0x2f0))-0xfcec0, t322)
+	t323, t324 := m.get128q(uint32(l3) - 0xfcc98)
+	m.put128q(uint32((l0+0x328))-0xfcec0, t323, t324)
+	t325, t326 := m.get128q(uint32(l3) - 0xfcca8)
+	m.put128q(uint32((l0+0x318))-0xfcec0, t325, t326)
+	t327, t328 := m.get128q(uint32(l3) - 0xfccb8)
+	m.put128q(uint32((l0+0x308))-0xfcec0, t327, t328)
+	t329, t330 := m.get128q(uint32(l3) - 0xfccc8)
+	m.put128q(uint32((l0+0x2f8))-0xfcec0, t329, t330)
+	m.put8(uint32((l0+0x338))-0xfcec0, uint8(l15))
+	m.put64(uint32((l0+0x360))-0xfcec0, l21)
+	t331, t332 := m.get128q(uint32(l3) - 0xfcce8)
+	m.put128q(uint32((l0+0x339))-0xfcec0, t331, t332)
+	t333, t334 := m.get128q(uint32(l3) - 0xfccd8)
+	m.put128q(uint32((l0+0x349))-0xfcec0, t333, t334)
+	t335 := m.get32(uint32(l3) - 0xfccf0)
+	m.put32(uint32((l0+0x359))-0xfcec0, t335)
+	t336 := m.get32(uint32(l3) - 0xfcced)
+	m.put32(uint32((l0+0x35c))-0xfcec0, t336)
+	m.g0 = (l3 + 0xd60)
+}
+
+// f33 is noise_handshake::layout::lay_next.
+func f33(m *memory, l0 uint64, l1 uint64, l2 uint32, l3 uint32, l4 uint32) {
+	var l7, l8 uint32
+	var l5, l9, l10, l11 uint64
+	var l6a, l6b uint64
+	{
+		t2 := m.g0
+		l5 = (t2 - 0x70)
+		if int64(l5) < 16 {
+			goto L1
+		}
+		l6a, l6b = 0, 0
+		t3 := m.at(uint32(l5) - 0xfce90)
+		binary.LittleEndian.PutUint64(t3[0:8], l6a)
+		binary.LittleEndian.PutUint64(t3[8:16], l6b)
+		t4 := m.at(uint32(l5) - 0xfcea0)
+		binary.LittleEndian.PutUint64(t4[0:8], l6a)
+		binary.LittleEndian.PutUint64(t4[8:16], l6b)
+		t5 := m.at(uint32(l5) - 0xfceb0)
+		binary.LittleEndian.PutUint64(t5[0:8], l6a)
+		binary.LittleEndian.PutUint64(t5[8:16], l6b)
+		l7 = 0
+		m.put32(uint32(l5)-0xfceb8, 0)
+		m.put8(uint32(l5)-0xfceb4, 0)
+		l8 = 0
+		{
+			t7 := m.get64(uint32((l1 + 0x108)) - 0xfcec0)
+			l9 = t7
+			l10 = (uint64(l4) & 0xff)
+			if l9 <= l10 {
+				goto L6
+			}
+			l4 = b2i(l9 > l10)
+			l11 = ((l1 + (l10 * 0x18)) + 0x48)
+			t8 := m.get64(uint32((l11 + 0x10)) - 0xfcec0)
+			l1 = t8
+			t9 := m.at(uint32(l5) - 0xfce60)
+			binary.LittleEndian.PutUint64(t9[0:8], l6a)
+			binary.LittleEndian.PutUint64(t9[8:16], l6b)
+			t10 := m.at(uint32(l5) - 0xfce70)
+			binary.LittleEndian.PutUint64(t10[0:8], l6a)
+			binary.LittleEndian.PutUint64(t10[8:16], l6b)
+			t11 := m.at(uint32(l5) - 0xfce80)
+			binary.LittleEndian.PutUint64(t11[0:8], l6a)
+			binary.LittleEndian.PutUint64(t11[8:16], l6b)
+			l7 = 0
+			{
+				if l1 == 0 {
+					goto L12
+				}
+				l9 = (l5 + 0x40)
+				l10 = 0
+			L13:
+				{
+					{
+						{
+							t16 := uint32(m.get8(uint32((l11 + l10)) - 0xfcec0))
+							l8 = t16
+							if (l8 + 0xfffffffe) < 5 {
+								goto L15
+							}
+							{
+								{
+									switch l8 {
+									case 1:
+										goto L17
+									}
+									goto L18
+								}
+							L18:
+								m.put32(uint32(l9)-0xfcec0, ((l7 << 16) | 0x2000))
+								m.put64(uint32(l5)-0xfce58, (l10 + 1))
+								l3 = (l2 | l3)
+								l8 = 0x20
+								goto L14
+							}
+						L17:
+							l8 = (l3 & 1)
+							t19 := -uint32(b2i(l8 != 0))
+							t20 := (0x3000 & t19) | (0x2000 &^ t19)
+							m.put32(uint32(l9)-0xfcec0, ((t20 | (l7 << 16)) | 1))
+							m.put64(uint32(l5)-0xfce58, (l10 + 1))
+							t21 := -uint32(b2i(l8 != 0))
+							t22 := (0x30 & t21) | (0x20 &^ t21)
+							l8 = t22
+							goto L14
+						}
+					L15:
+						m.put32(uint32(l9)-0xfcec0, ((l7 << 16) | l8))
+						m.put64(uint32(l5)-0xfce58, (l10 + 1))
+						l3 = 1
+						l8 = 0
+					}
+				L14:
+					l9 = (l9 + 4)
+					l7 = (l7 + l8)
+					l10 = (l10 + 1)
+					if l1 != l10 {
+						goto L13
+					}
+				}
+			}
+		L12:
+			t23 := -uint64(b2i(l4 != 0))
+			t24 := (l11 & t23) | (0 &^ t23)
+			l10 = t24
+			l11 = 0
+			{
+			L26:
+				{
+					if l1 == 0 {
+						goto L25
+					}
+					l1 = (l1 + 0xffffffffffffffff)
+					t27 := uint32(m.get8(uint32(l10) - 0xfcec0))
+					l8 = t27
+					l9 = (l10 + 1)
+					l10 = l9
+					if l8 != 6 {
+						goto L26
+					}
+					l11 = (l11 + 1)
+					l10 = l9
+					goto L26
+				}
+			}
+		L25:
+			t30 := m.at(uint32(l5) - 0xfce60)
+			t28 := binary.LittleEndian.Uint64(t30[0:8])
+			t29 := binary.LittleEndian.Uint64(t30[8:16])
+			t31 := m.at(uint32(l5) - 0xfce90)
+			binary.LittleEndian.PutUint64(t31[0:8], t28)
+			binary.LittleEndian.PutUint64(t31[8:16], t29)
+			t34 := m.at(uint32(l5) - 0xfce70)
+			t32 := binary.LittleEndian.Uint64(t34[0:8])
+			t33 := binary.LittleEndian.Uint64(t34[8:16])
+			t35 := m.at(uint32(l5) - 0xfcea0)
+			binary.LittleEndian.PutUint64(t35[0:8], t32)
+			binary.LittleEndian.PutUint64(t35[8:16], t33)
+			t38 := m.at(uint32(l5) - 0xfce80)
+			t36 := binary.LittleEndian.Uint64(t38[0:8])
+			t37 := binary.LittleEndian.Uint64(t38[8:16])
+			t39 := m.at(uint32(l5) - 0xfceb0)
+			binary.LittleEndian.PutUint64(t39[0:8], t36)
+			binary.LittleEndian.PutUint64(t39[8:16], t37)
+			m.put32(uint32(l5)-0xfceb8, 0)
+			m.put8(uint32(l5)-0xfceb4, 0)
+			t40 := -uint32(b2i((l3 & 1) != 0))
+			t41 := (0x10 & t40) | (0 &^ t40)
+			l7 = (l7 + t41)
+			l8 = uint32(l11)
+		}
+	L6:
+		t44 := m.at(uint32(l5) - 0xfce90)
+		t42 := binary.LittleEndian.Uint64(t44[0:8])
+		t43 := binary.LittleEndian.Uint64(t44[8:16])
+		t45 := m.at(uint32(l0) - 0xfcea0)
+		binary.LittleEndian.PutUint64(t45[0:8], t42)
+		binary.LittleEndian.PutUint64(t45[8:16], t43)
+		t48 := m.at(uint32(l5) - 0xfcea0)
+		t46 := binary.LittleEndian.Uint64(t48[0:8])
+		t47 := binary.LittleEndian.Uint64(t48[8:16])
+		t49 := m.at(uint32(l0) - 0xfceb0)
+		binary.LittleEndian.PutUint64(t49[0:8], t46)
+		binary.LittleEndian.PutUint64(t49[8:16], t47)
+		t52 := m.at(uint32(l5) - 0xfceb0)
+		t50 := binary.LittleEndian.Uint64(t52[0:8])
+		t51 := binary.LittleEndian.Uint64(t52[8:16])
+		t53 := m.at(uint32(l0) - 0xfcec0)
+		binary.LittleEndian.PutUint64(t53[0:8], t50)
+		binary.LittleEndian.PutUint64(t53[8:16], t51)
+		m.put8(uint32(l0)-0xfce8e, uint8(l8))
+		m.put16(uint32(l0)-0xfce90, uint16(l7))
+		t54 := m.get32(uint32(l5) - 0xfceb8)
+		m.put32(uint32(l0)-0xfce8d, t54)
+		t55 := uint32(m.get8(uint32(l5) - 0xfceb4))
+		m.put8(uint32(l0)-0xfce89, uint8(t55))
+		return
+	}
+L1:
+	panic("unreachable")
+}
+
+// f34 is noise_names::valid::ValidPattern::seen_after.
+func f34(m *memory, l0 uint64, l1 uint64, l2 uint64) {
+	var l3, l4, l5, l6, l7, l8, l9, l10, l13, l14, l15 uint32
+	var l11, l12, l16, l17 uint64
+	{
+		t2 := m.g0
+		if int64(t2) < 16 {
+			goto L1
+		}
+		l3 = 0
+		l4 = 0
+		l5 = 0
+		l6 = 0
+		l7 = 0
+		l8 = 0
+		l9 = 0
+		l10 = 0
+		{
+			t4 := m.get64(uint32((l1 + 0x30)) - 0xfcec0)
+			l11 = t4
+			if l11 == 0 {
+				goto L3
+			}
+			l12 = (l1 + 0x28)
+			l4 = 0
+			l5 = 0
+			l6 = 0
+			l7 = 0
+			l8 = 0
+			l9 = 0
+			l13 = 0
+		L5:
+			{
+				l10 = 1
+				{
+					{
+						{
+							{
+								{
+									{
+										{
+											{
+												t14 := uint64(m.get8(uint32(l12) - 0xfcec0))
+												switch uint32(t14) {
+												case 5:
+													goto L13
+												case 4:
+													goto L12
+												case 3:
+													goto L11
+												case 2:
+													goto L10
+												case 1:
+													goto L9
+												case 6:
+													goto L6
+												}
+												goto L8
+											}
+										L13:
+											l9 = 1
+											goto L7
+										}
+									L12:
+										l8 = 1
+										goto L7
+									}
+								L11:
+									l7 = 1
+									goto L7
+								}
+							L10:
+								l6 = 1
+								goto L7
+							}
+						L9:
+							l5 = 1
+							goto L7
+						}
+					L8:
+						l4 = 1
+					}
+				L7:
+					l10 = l13
+				}
+			L6:
+				l12 = (l12 + 1)
+				l13 = l10
+				l11 = (l11 + 0xffffffffffffffff)
+				if !(l11 == 0) {
+					goto L5
+				}
+			}
+		}
+	L3:
+		{
+			{
+				t17 := m.get64(uint32((l1 + 0x40)) - 0xfcec0)
+				l11 = t17
+				if !(l11 == 0) {
+					goto L16
+				}
+				l14 = 0
+				goto L15
+			}
+		L16:
+			l12 = (l1 + 0x38)
+			l13 = 0
+			l14 = 0
+		L18:
+			{
+				l3 = 1
+				{
+					{
+						{
+							{
+								{
+									{
+										{
+											{
+												t27 := uint64(m.get8(uint32(l12) - 0xfcec0))
+												switch uint32(t27) {
+												case 1:
+													goto L26
+												case 2:
+													goto L25
+												case 3:
+													goto L24
+												case 4:
+													goto L23
+												case 5:
+													goto L22
+												case 6:
+													goto L21
+												}
+												goto L19
+											}
+										L26:
+											l14 = 1
+											goto L20
+										}
+									L25:
+										l6 = 1
+										goto L20
+									}
+								L24:
+									l7 = 1
+									goto L20
+								}
+							L23:
+								l8 = 1
+								goto L20
+							}
+						L22:
+							l9 = 1
+							goto L20
+						}
+					L21:
+						l10 = 1
+					}
+				L20:
+					l3 = l13
+				}
+			L19:
+				l12 = (l12 + 1)
+				l13 = l3
+				l11 = (l11 + 0xffffffffffffffff)
+				if l11 != 0 {
+					goto L18
+				}
+			}
+		}
+	L15:
+		{
+			{
+				if !(l2 == 0) {
+					goto L29
+				}
+				l15 = 0
+				goto L28
+			}
+		L29:
+			l16 = 0
+			l15 = 0
+			l17 = (l1 + 0x48)
+			l1 = l17
+		L30:
+			{
+				{
+					t32 := m.get64(uint32(((l17 + (l16 * 0x18)) + 0x10)) - 0xfcec0)
+					l11 = t32
+					if l11 == 0 {
+						goto L31
+					}
+					{
+						if (l15 & 0xff) == 0 {
+							goto L33
+						}
+						l12 = l1
+					L34:
+						{
+							l13 = 1
+							{
+								{
+									{
+										{
+											{
+												{
+													{
+														{
+															t43 := uint64(m.get8(uint32(l12) - 0xfcec0))
+															switch uint32(t43) {
+															case 1:
+																goto L42
+															case 2:
+																goto L41
+															case 3:
+																goto L40
+															case 4:
+																goto L39
+															case 5:
+																goto L38
+															case 6:
+																goto L37
+															}
+															goto L35
+														}
+													L42:
+														l14 = 1
+														goto L36
+													}
+												L41:
+													l6 = 1
+													goto L36
+												}
+											L40:
+												l7 = 1
+												goto L36
+											}
+										L39:
+											l8 = 1
+											goto L36
+										}
+									L38:
+										l9 = 1
+										goto L36
+									}
+								L37:
+									l10 = 1
+								}
+							L36:
+								l13 = l3
+							}
+						L35:
+							l12 = (l12 + 1)
+							l3 = l13
+							l11 = (l11 + 0xffffffffffffffff)
+							if l11 != 0 {
+								goto L34
+							}
+						}
+						l3 = l13
+						goto L31
+					}
+				L33:
+					l12 = 0
+				L44:
+					{
+						l13 = 1
+						{
+							{
+								{
+									{
+										{
+											{
+												{
+													{
+														t53 := uint64(m.get8(uint32((l1 + l12)) - 0xfcec0))
+														switch uint32(t53) {
+														case 5:
+															goto L52
+														case 4:
+															goto L51
+														case 3:
+															goto L50
+														case 2:
+															goto L49
+														case 1:
+															goto L48
+														case 6:
+															goto L45
+														}
+														goto L47
+													}
+												L52:
+													l9 = 1
+													goto L46
+												}
+											L51:
+												l8 = 1
+												goto L46
+											}
+										L50:
+											l7 = 1
+											goto L46
+										}
+									L49:
+										l6 = 1
+										goto L46
+									}
+								L48:
+									l5 = 1
+									goto L46
+								}
+							L47:
+								l4 = 1
+							}
+						L46:
+							l13 = l10
+						}
+					L45:
+						l10 = l13
+						l12 = (l12 + 1)
+						if l11 != l12 {
+							goto L44
+						}
+					}
+					l10 = l13
+				}
+			L31:
+				l1 = (l1 + 0x18)
+				l15 = (l15 ^ 1)
+				l16 = (l16 + 1)
+				if l16 != l2 {
+					goto L30
+				}
+			}
+		}
+	L28:
+		m.put8(uint32(l0)-0xfceb7, uint8(l15))
+		m.put8(uint32(l0)-0xfceb8, uint8(l10))
+		m.put8(uint32(l0)-0xfceb9, uint8(l9))
+		m.put8(uint32(l0)-0xfceba, uint8(l8))
+		m.put8(uint32(l0)-0xfcebb, uint8(l7))
+		m.put8(uint32(l0)-0xfcebc, uint8(l6))
+		m.put8(uint32(l0)-0xfcebd, uint8(l14))
+		m.put8(uint32(l0)-0xfcebe, uint8(l3))
+		m.put8(uint32(l0)-0xfcebf, uint8(l5))
+		m.put8(uint32(l0)-0xfcec0, uint8(l4))
+		return
+	}
+L1:
+	panic("unreachable")
+}
+
+// f35 is noise_c::messages::read_next.
+func f35(m *memory, l0 uint64, l1 uint64, l2 uint64, l3 uint64) uint32 {
 	var l6, l15, l16, l17, l18, l19, l20, l21, l22, l23, l24 uint32
 	var l4, l5, l7, l8, l9, l14, l25 uint64
 	var l10a, l10b, l11a, l11b, l12a, l12b, l13a, l13b uint64
@@ -54,7 +1931,7 @@ func f34(m *memory, l0 uint64, l1 uint64, l2 uint64, l3 uint64) uint32 {
 															if t19 > 9 {
 																goto L15
 															}
-															f15(m, (l4 + 0x6d8), (l0 + 4), l5)
+															f16(m, (l4 + 0x6d8), (l0 + 4), l5)
 															t20 := uint32(m.get8(uint32(l4) - 0xfc7e8))
 															if t20 == 0 {
 																goto L14
@@ -65,7 +1942,7 @@ func f34(m *memory, l0 uint64, l1 uint64, l2 uint64, l3 uint64) uint32 {
 														goto L2
 													}
 												L14:
-													f31(m, (l4 + 0x7f0), l0, ((l4 + 0x6d8) + 8))
+													f32(m, (l4 + 0x7f0), l0, ((l4 + 0x6d8) + 8))
 													t21 := uint32(m.get8(uint32(l4) - 0xfc6d0))
 													l6 = t21
 													m.copy(uint32((l4 + 0x18)), uint32(((l4 + 0x7f0) + 8)), 0x360)
@@ -122,7 +1999,7 @@ func f34(m *memory, l0 uint64, l1 uint64, l2 uint64, l3 uint64) uint32 {
 													t33 := m.get64(uint32(l4) - 0xfc8a0)
 													l8 = t33
 													l9 = (t32 - l8)
-													f35(m, (l4 + 8), l5, l7, l9)
+													f36(m, (l4 + 8), l5, l7, l9)
 													{
 														{
 															{
@@ -178,7 +2055,7 @@ func f34(m *memory, l0 uint64, l1 uint64, l2 uint64, l3 uint64) uint32 {
 																l10a, l10b = 0, 0
 																m.put128q(uint32(l4)-0xfc350, l10a, l10b)
 																m.put128q(uint32(l4)-0xfc368, l10a, l10b)
-																f36(m, (l4 + 0xb68), (l4 + 0x7f0), (l4 + 0x6d8), (l4 + 0x488), (((l4 + 0x378) + (l8 << 5)) + 0x180), l9, l5, l7, l1, l2)
+																f37(m, (l4 + 0xb68), (l4 + 0x7f0), (l4 + 0x6d8), (l4 + 0x488), (((l4 + 0x378) + (l8 << 5)) + 0x180), l9, l5, l7, l1, l2)
 																t62 := m.get64(uint32(l4) - 0xfc350)
 																l8 = t62
 																{
@@ -187,7 +2064,7 @@ func f34(m *memory, l0 uint64, l1 uint64, l2 uint64, l3 uint64) uint32 {
 																		goto L63
 																	}
 																	l2 = (l2 - l8)
-																	f37(m, (l4 + 0xb58), (l4 + 0x7f0), (l1 + l8), l2)
+																	f38(m, (l4 + 0xb58), (l4 + 0x7f0), (l1 + l8), l2)
 																	t65 := uint32(m.get8(uint32(l4) - 0xfc368))
 																	if t65 == 0 {
 																		goto L35
@@ -406,7 +2283,7 @@ func f34(m *memory, l0 uint64, l1 uint64, l2 uint64, l3 uint64) uint32 {
 															m.put8(uint32(l4)-0xfc7e8, uint8(l15))
 															t148 := -uint64(b2i(l6 == 1))
 															t149 := ((l0 & 0xff) & t148) | (0 &^ t148)
-															f36(m, (l4 + 0xb68), (l4 + 0x7f0), (l4 + 0x6d8), (l4 + 0x488), (((l4 + 0x378) + (l8 << 5)) + 0x180), l9, l5, t149, l1, l2)
+															f37(m, (l4 + 0xb68), (l4 + 0x7f0), (l4 + 0x6d8), (l4 + 0x488), (((l4 + 0x378) + (l8 << 5)) + 0x180), l9, l5, t149, l1, l2)
 															t150 := uint32(m.get8(uint32(l4) - 0xfc358))
 															l6 = t150
 															l17 = b2i(l6 != 0)
@@ -561,7 +2438,7 @@ func f34(m *memory, l0 uint64, l1 uint64, l2 uint64, l3 uint64) uint32 {
 														t209 := uint32(m.get8(uint32(l4) - 0xfca17))
 														t210 := uint32(m.get8(uint32(l4) - 0xfc690))
 														l17 = t210
-														f32(m, (l4 + 0xb68), (l4 + 0x378), t209, b2i(l17 == 1), l6)
+														f33(m, (l4 + 0xb68), (l4 + 0x378), t209, b2i(l17 == 1), l6)
 														l2 = (l4 + 0x668)
 														t211, t212 := m.get128q(uint32(l4) - 0xfc6a0)
 														m.put128q(uint32(l2)-0xfce90, t211, t212)
@@ -908,8 +2785,8 @@ L2:
 	return l6
 }
 
-// f35 is noise_handshake::layout::psk_after.
-func f35(m *memory, l0 uint64, l1 uint64, l2 uint64, l3 uint64) {
+// f36 is noise_handshake::layout::psk_after.
+func f36(m *memory, l0 uint64, l1 uint64, l2 uint64, l3 uint64) {
 	var l6 uint32
 	var l4, l5, l7 uint64
 	t1 := m.g0
@@ -944,7 +2821,7 @@ func f35(m *memory, l0 uint64, l1 uint64, l2 uint64, l3 uint64) {
 					goto L3
 				}
 			L7:
-				f35(m, l4, l7, l2, (l3 + 0xffffffffffffffff))
+				f36(m, l4, l7, l2, (l3 + 0xffffffffffffffff))
 				t8 := m.get64(uint32(l4) - 0xfceb8)
 				t9 := uint32(m.get8(uint32(l4) - 0xfcec0))
 				l6 = t9
@@ -954,7 +2831,7 @@ func f35(m *memory, l0 uint64, l1 uint64, l2 uint64, l3 uint64) {
 				goto L3
 			}
 		L5:
-			f35(m, (l4 + 0x10), l7, l2, l3)
+			f36(m, (l4 + 0x10), l7, l2, l3)
 			t12 := m.get64(uint32(l4) - 0xfcea8)
 			t13 := uint32(m.get8(uint32(l4) - 0xfceb0))
 			l6 = t13
@@ -972,8 +2849,8 @@ L2:
 	panic("unreachable")
 }
 
-// f36 is noise_handshake::reader::read_tokens::<#3dfcfe118667ed30>.
-func f36(m *memory, l0 uint64, l1 uint64, l2 uint64, l3 uint64, l4 uint64, l5 uint64, l6 uint64, l7 uint64, l8 uint64, l9 uint64) {
+// f37 is noise_handshake::reader::read_tokens::<#3dfcfe118667ed30>.
+func f37(m *memory, l0 uint64, l1 uint64, l2 uint64, l3 uint64, l4 uint64, l5 uint64, l6 uint64, l7 uint64, l8 uint64, l9 uint64) {
 	var l14, l16 uint32
 	var l10, l12, l13, l15, l17, l18 uint64
 	var l11a, l11b uint64
@@ -1036,7 +2913,7 @@ func f36(m *memory, l0 uint64, l1 uint64, l2 uint64, l3 uint64, l4 uint64, l5 ui
 															}
 														L19:
 															t20 := uint32(m.get8(uint32((l3 + 0x21)) - 0xfcec0))
-															f38(m, l1, (t20 & 1), l12)
+															f39(m, l1, (t20 & 1), l12)
 															t21 := m.get64(uint32(l12) - 0xfcea8)
 															l13 = t21
 															t22 := m.get64(uint32(l12) - 0xfceb0)
@@ -1088,7 +2965,7 @@ func f36(m *memory, l0 uint64, l1 uint64, l2 uint64, l3 uint64, l4 uint64, l5 ui
 													}
 												L26:
 													m.put128q(uint32(l10)-0xfce50, l11a, l11b)
-													f37(m, (l10 + 0x70), l1, (l10 + 0x90), l17)
+													f38(m, (l10 + 0x70), l1, (l10 + 0x90), l17)
 													{
 														t28 := uint32(m.get8(uint32(l10) - 0xfce50))
 														if t28 == 0 {
@@ -1181,7 +3058,7 @@ func f36(m *memory, l0 uint64, l1 uint64, l2 uint64, l3 uint64, l4 uint64, l5 ui
 											goto L2
 										}
 									L11:
-										f39(m, l1, l4)
+										f40(m, l1, l4)
 										l15 = 0
 										goto L3
 									}
@@ -1207,7 +3084,7 @@ func f36(m *memory, l0 uint64, l1 uint64, l2 uint64, l3 uint64, l4 uint64, l5 ui
 					m.put128q(uint32(l10)-0xfce30, l11a, l11b)
 					t59 := m.get64(uint32((l3 + 0x10)) - 0xfcec0)
 					t60 := m.get64(uint32((l3 + 0x18)) - 0xfcec0)
-					f40(m, (l10 + 0x90), t59, t60, l14, (l10 + 0x70))
+					f41(m, (l10 + 0x90), t59, t60, l14, (l10 + 0x70))
 					t61, t62 := m.get128q(uint32(l10) - 0xfce2f)
 					m.put128q(uint32(l10)-0xfce90, t61, t62)
 					t63, t64 := m.get128q(uint32(l10) - 0xfce1f)
@@ -1224,7 +3101,7 @@ func f36(m *memory, l0 uint64, l1 uint64, l2 uint64, l3 uint64, l4 uint64, l5 ui
 					m.put128q(uint32(l10)-0xfce10, l11a, l11b)
 					m.put128q(uint32(l10)-0xfce20, l11a, l11b)
 					m.put128q(uint32(l10)-0xfce30, l11a, l11b)
-					f41(m, (l10 + 0x90), l1, (l10 + 0x50), 0x20)
+					f42(m, (l10 + 0x90), l1, (l10 + 0x50), 0x20)
 					m.put8(uint32((l1+0x40))-0xfcec0, 1)
 					l15 = 0
 					m.put64(uint32((l1+0x68))-0xfcec0, 0)
@@ -1256,7 +3133,7 @@ func f36(m *memory, l0 uint64, l1 uint64, l2 uint64, l3 uint64, l4 uint64, l5 ui
 		l14 = b2i(t80 == 6)
 		t81 := -uint64(b2i(l14 != 0))
 		t82 := (0x20 & t81) | (0 &^ t81)
-		f36(m, (l10 + 0x10), l1, l2, l3, (l4 + t82), (l5 - uint64(l14)), (l6 + 4), (l7 + 0xffffffffffffffff), l8, l9)
+		f37(m, (l10 + 0x10), l1, l2, l3, (l4 + t82), (l5 - uint64(l14)), (l6 + 4), (l7 + 0xffffffffffffffff), l8, l9)
 		t83 := m.get64(uint32(l10) - 0xfcea8)
 		l6 = t83
 		{
@@ -1289,8 +3166,8 @@ L2:
 	m.g0 = (l10 + 0xd0)
 }
 
-// f37 is noise_state::symmetric::SymmetricState::decrypt_and_hash.
-func f37(m *memory, l0 uint64, l1 uint64, l2 uint64, l3 uint64) {
+// f38 is noise_state::symmetric::SymmetricState::decrypt_and_hash.
+func f38(m *memory, l0 uint64, l1 uint64, l2 uint64, l3 uint64) {
 	var l7 uint32
 	var l4, l6 uint64
 	var l5a, l5b uint64
@@ -1360,9 +3237,9 @@ func f37(m *memory, l0 uint64, l1 uint64, l2 uint64, l3 uint64) {
 			binary.LittleEndian.PutUint64(t14[0:8], 0xbb67ae856a09e667)
 			binary.LittleEndian.PutUint64(t14[8:16], 0xa54ff53a3c6ef372)
 			l1 = (l1 + 0x20)
-			f42(m, (l4 + 0x30), l1, 0x20)
-			f42(m, (l4 + 0x30), l2, l3)
-			f43(m, (l4 + 0xa0), (l4 + 0x30))
+			f43(m, (l4 + 0x30), l1, 0x20)
+			f43(m, (l4 + 0x30), l2, l3)
+			f44(m, (l4 + 0xa0), (l4 + 0x30))
 			t17 := m.at(uint32(l4) - 0xfce10)
 			t15 := binary.LittleEndian.Uint64(t17[0:8])
 			t16 := binary.LittleEndian.Uint64(t17[8:16])
@@ -1412,8 +3289,8 @@ L2:
 	panic("unreachable")
 }
 
-// f38 is noise_handshake::tokens::mix_ephemeral.
-func f38(m *memory, l0 uint64, l1 uint32, l2 uint64) {
+// f39 is noise_handshake::tokens::mix_ephemeral.
+func f39(m *memory, l0 uint64, l1 uint32, l2 uint64) {
 	var l3, l5 uint64
 	var l4a, l4b uint64
 	t1 := m.g0
@@ -1438,9 +3315,9 @@ func f38(m *memory, l0 uint64, l1 uint32, l2 uint64) {
 		binary.LittleEndian.PutUint64(t6[0:8], 0xbb67ae856a09e667)
 		binary.LittleEndian.PutUint64(t6[8:16], 0xa54ff53a3c6ef372)
 		l5 = (l0 + 0x20)
-		f42(m, l3, l5, 0x20)
-		f42(m, l3, l2, 0x20)
-		f43(m, (l3 + 0x70), l3)
+		f43(m, l3, l5, 0x20)
+		f43(m, l3, l2, 0x20)
+		f44(m, (l3 + 0x70), l3)
 		t9 := m.at(uint32(l3) - 0xfce40)
 		t7 := binary.LittleEndian.Uint64(t9[0:8])
 		t8 := binary.LittleEndian.Uint64(t9[8:16])
@@ -1469,7 +3346,7 @@ func f38(m *memory, l0 uint64, l1 uint32, l2 uint64) {
 			t19 := m.at(uint32(l3) - 0xfcec0)
 			binary.LittleEndian.PutUint64(t19[0:8], l4a)
 			binary.LittleEndian.PutUint64(t19[8:16], l4b)
-			f41(m, l3, l0, l2, 0x20)
+			f42(m, l3, l0, l2, 0x20)
 			m.put8(uint32((l0+0x40))-0xfcec0, 1)
 			m.put64(uint32((l0+0x68))-0xfcec0, 0)
 			t22 := m.at(uint32(l3) - 0xfceb0)
@@ -1505,8 +3382,8 @@ L2:
 	panic("unreachable")
 }
 
-// f39 is noise_state::symmetric::SymmetricState::mix_key_and_hash.
-func f39(m *memory, l0 uint64, l1 uint64) {
+// f40 is noise_state::symmetric::SymmetricState::mix_key_and_hash.
+func f40(m *memory, l0 uint64, l1 uint64) {
 	var l2 uint64
 	var l3a, l3b, l4a, l4b, l5a, l5b, l6a, l6b, l7a, l7b uint64
 	t1 := m.g0
@@ -1533,9 +3410,9 @@ func f39(m *memory, l0 uint64, l1 uint64) {
 		binary.LittleEndian.PutUint64(t6[0:8], l3a)
 		binary.LittleEndian.PutUint64(t6[8:16], l3b)
 		m.fill(uint32((l2 + 0x1c0)), 0, 0xd0)
-		f45(m, (l2 + 0x1c0), l0)
-		f46(m, (l2 + 0x290), (l2 + 0x1c0), (l2 + 0x40), 1)
-		f45(m, (l2 + 0x50), (l2 + 0x290))
+		f46(m, (l2 + 0x1c0), l0)
+		f47(m, (l2 + 0x290), (l2 + 0x1c0), (l2 + 0x40), 1)
+		f46(m, (l2 + 0x50), (l2 + 0x290))
 		t7 := m.at(uint32(l2) - 0xfcbd0)
 		binary.LittleEndian.PutUint64(t7[0:8], l3a)
 		binary.LittleEndian.PutUint64(t7[8:16], l3b)
@@ -1548,7 +3425,7 @@ func f39(m *memory, l0 uint64, l1 uint64) {
 		t10 := m.at(uint32(l2) - 0xfcbe0)
 		binary.LittleEndian.PutUint64(t10[0:8], l3a)
 		binary.LittleEndian.PutUint64(t10[8:16], l3b)
-		f46(m, (l2 + 0x2d0), (l2 + 0x50), 0x100f50, 1)
+		f47(m, (l2 + 0x2d0), (l2 + 0x50), 0x100f50, 1)
 		m.put64(uint32(l2)-0xfcbf8, 1)
 		m.put64(uint32(l2)-0xfcc00, 0x100f68)
 		m.put64(uint32(l2)-0xfcc08, 0x20)
@@ -1565,7 +3442,7 @@ func f39(m *memory, l0 uint64, l1 uint64) {
 		binary.LittleEndian.PutUint64(t18[0:8], t15)
 		binary.LittleEndian.PutUint64(t18[8:16], t16)
 		m.put64(uint32(l2)-0xfcc10, (l2 + 0x310))
-		f46(m, (l2 + 0x2f0), (l2 + 0x50), (l2 + 0x2b0), 2)
+		f47(m, (l2 + 0x2f0), (l2 + 0x50), (l2 + 0x2b0), 2)
 		t21 := m.at(uint32(l2) - 0xfcba0)
 		t19 := binary.LittleEndian.Uint64(t21[0:8])
 		t20 := binary.LittleEndian.Uint64(t21[8:16])
@@ -1610,7 +3487,7 @@ func f39(m *memory, l0 uint64, l1 uint64) {
 		binary.LittleEndian.PutUint64(t38[0:8], l7a)
 		binary.LittleEndian.PutUint64(t38[8:16], l7b)
 		m.put64(uint32(l2)-0xfcea0, (l2 + 0x140))
-		f46(m, (l2 + 0x120), (l2 + 0x50), (l2 + 0x20), 2)
+		f47(m, (l2 + 0x120), (l2 + 0x50), (l2 + 0x20), 2)
 		t41 := m.at(uint32(l2) - 0xfcd70)
 		t39 := binary.LittleEndian.Uint64(t41[0:8])
 		t40 := binary.LittleEndian.Uint64(t41[8:16])
@@ -1669,9 +3546,9 @@ func f39(m *memory, l0 uint64, l1 uint64) {
 		binary.LittleEndian.PutUint64(t68[0:8], 0xbb67ae856a09e667)
 		binary.LittleEndian.PutUint64(t68[8:16], 0xa54ff53a3c6ef372)
 		l1 = (l0 + 0x20)
-		f42(m, (l2 + 0x1c0), l1, 0x20)
-		f42(m, (l2 + 0x1c0), l2, 0x20)
-		f43(m, (l2 + 0x330), (l2 + 0x1c0))
+		f43(m, (l2 + 0x1c0), l1, 0x20)
+		f43(m, (l2 + 0x1c0), l2, 0x20)
+		f44(m, (l2 + 0x330), (l2 + 0x1c0))
 		t71 := m.at(uint32(l2) - 0xfcb80)
 		t69 := binary.LittleEndian.Uint64(t71[0:8])
 		t70 := binary.LittleEndian.Uint64(t71[8:16])
@@ -1705,8 +3582,8 @@ L2:
 	panic("unreachable")
 }
 
-// f40 is noise_c::supplied_keys::result_for.
-func f40(m *memory, l0 uint64, l1 uint64, l2 uint64, l3 uint32, l4 uint64) {
+// f41 is noise_c::supplied_keys::result_for.
+func f41(m *memory, l0 uint64, l1 uint64, l2 uint64, l3 uint32, l4 uint64) {
 	var l7 uint32
 	var l5 uint64
 	var l6a, l6b, l8a, l8b uint64
@@ -1806,7 +3683,7 @@ func f40(m *memory, l0 uint64, l1 uint64, l2 uint64, l3 uint32, l4 uint64) {
 						goto L7
 					}
 				L8:
-					f40(m, (l5 + 8), (l1 + 0x41), (l2 + 0xffffffffffffffff), l3, l4)
+					f41(m, (l5 + 8), (l1 + 0x41), (l2 + 0xffffffffffffffff), l3, l4)
 					t69 := uint32(m.get8(uint32(l5) - 0xfceb8))
 					l7 = t69
 				}
@@ -1842,8 +3719,8 @@ L2:
 	m.g0 = (l5 + 0x30)
 }
 
-// f41 is noise_kdf::expand2.
-func f41(m *memory, l0 uint64, l1 uint64, l2 uint64, l3 uint64) {
+// f42 is noise_kdf::expand2.
+func f42(m *memory, l0 uint64, l1 uint64, l2 uint64, l3 uint64) {
 	var l4 uint64
 	var l5a, l5b, l6a, l6b, l7a, l7b, l8a, l8b uint64
 	t1 := m.g0
@@ -1864,9 +3741,9 @@ func f41(m *memory, l0 uint64, l1 uint64, l2 uint64, l3 uint64) {
 		binary.LittleEndian.PutUint64(t4[0:8], l5a)
 		binary.LittleEndian.PutUint64(t4[8:16], l5b)
 		m.fill(uint32((l4 + 0xe0)), 0, 0xd0)
-		f45(m, (l4 + 0xe0), l1)
-		f46(m, (l4 + 0x1b0), (l4 + 0xe0), l4, 1)
-		f45(m, (l4 + 0x10), (l4 + 0x1b0))
+		f46(m, (l4 + 0xe0), l1)
+		f47(m, (l4 + 0x1b0), (l4 + 0xe0), l4, 1)
+		f46(m, (l4 + 0x10), (l4 + 0x1b0))
 		t5 := m.at(uint32(l4) - 0xfccb0)
 		binary.LittleEndian.PutUint64(t5[0:8], l5a)
 		binary.LittleEndian.PutUint64(t5[8:16], l5b)
@@ -1879,7 +3756,7 @@ func f41(m *memory, l0 uint64, l1 uint64, l2 uint64, l3 uint64) {
 		t8 := m.at(uint32(l4) - 0xfccc0)
 		binary.LittleEndian.PutUint64(t8[0:8], l5a)
 		binary.LittleEndian.PutUint64(t8[8:16], l5b)
-		f46(m, (l4 + 0x1f0), (l4 + 0x10), 0x100f50, 1)
+		f47(m, (l4 + 0x1f0), (l4 + 0x10), 0x100f50, 1)
 		m.put64(uint32(l4)-0xfccd8, 1)
 		m.put64(uint32(l4)-0xfcce0, 0x100f68)
 		m.put64(uint32(l4)-0xfcce8, 0x20)
@@ -1896,7 +3773,7 @@ func f41(m *memory, l0 uint64, l1 uint64, l2 uint64, l3 uint64) {
 		binary.LittleEndian.PutUint64(t16[0:8], t13)
 		binary.LittleEndian.PutUint64(t16[8:16], t14)
 		m.put64(uint32(l4)-0xfccf0, (l4 + 0xe0))
-		f46(m, (l4 + 0x210), (l4 + 0x10), (l4 + 0x1d0), 2)
+		f47(m, (l4 + 0x210), (l4 + 0x10), (l4 + 0x1d0), 2)
 		t19 := m.at(uint32(l4) - 0xfcdd0)
 		t17 := binary.LittleEndian.Uint64(t19[0:8])
 		t18 := binary.LittleEndian.Uint64(t19[8:16])
@@ -1944,8 +3821,8 @@ L2:
 	panic("unreachable")
 }
 
-// f42 is sha2::block256::Core256::update.
-func f42(m *memory, l0 uint64, l1 uint64, l2 uint64) {
+// f43 is sha2::block256::Core256::update.
+func f43(m *memory, l0 uint64, l1 uint64, l2 uint64) {
 	var l3, l4, l5, l6, l7, l8, l9, l10, l11 uint64
 	{
 		{
@@ -2083,7 +3960,7 @@ func f42(m *memory, l0 uint64, l1 uint64, l2 uint64) {
 						m.copy(uint32(l9), uint32(l1), uint32(l7))
 					}
 				L8:
-					f44(m, l0, l8)
+					f45(m, l0, l8)
 				}
 			L6:
 				{
@@ -2095,7 +3972,7 @@ func f42(m *memory, l0 uint64, l1 uint64, l2 uint64) {
 					l4 = (l1 + l7)
 				L28:
 					{
-						f44(m, l0, l4)
+						f45(m, l0, l4)
 						l4 = (l4 + 0x40)
 						l9 = (l9 + 0xffffffffffffffff)
 						if l9 != 0 {
@@ -2262,8 +4139,8 @@ L1:
 	m.g0 = l3
 }
 
-// f43 is sha2::Sha256Digest::finalize.
-func f43(m *memory, l0 uint64, l1 uint64) {
+// f44 is sha2::Sha256Digest::finalize.
+func f44(m *memory, l0 uint64, l1 uint64) {
 	var l3, l4, l5, l6, l7, l8, l9, l10 uint32
 	var l2 uint64
 	t1 := m.g0
@@ -2276,10 +4153,10 @@ func f43(m *memory, l0 uint64, l1 uint64) {
 		m.copy(uint32((l2 + 8)), uint32(l1), 0x68)
 		t3 := m.get64(uint32(l2) - 0xfce58)
 		l1 = t3
-		f42(m, (l2 + 8), 0x100f0c, (((0x37 - l1) & 0x3f) + 1))
+		f43(m, (l2 + 8), 0x100f0c, (((0x37 - l1) & 0x3f) + 1))
 		t4 := (((((((l1 << 43) & 0xff000000000000) | (l1 << 59)) | ((l1 << 27) & 0xff0000000000)) | ((l1 << 11) & 0xff00000000)) | ((l1 >> 5) & 0xff000000)) | ((l1 >> 21) & 0xff0000))
 		m.put64(uint32(l2)-0xfcec0, ((t4 | ((l1 >> 37) & 0xff00)) | ((l1 >> 53) & 0xff)))
-		f42(m, (l2 + 8), l2, 8)
+		f43(m, (l2 + 8), l2, 8)
 		t5 := m.get32(uint32(l2) - 0xfceb8)
 		l3 = t5
 		t6 := m.get32(uint32(l2) - 0xfceb4)
@@ -2311,8 +4188,8 @@ L2:
 	panic("unreachable")
 }
 
-// f44 is sha2::block256::compress.
-func f44(m *memory, l0 uint64, l1 uint64) {
+// f45 is sha2::block256::compress.
+func f45(m *memory, l0 uint64, l1 uint64) {
 	var l3, l4, l5, l6, l8, l9, l10, l11, l12, l13, l14, l15, l16, l17, l18, l19, l20, l21, l22, l23, l24, l25, l26, l27, l28, l29, l30, l31 uint32
 	var l2a, l2b, l2c, l2d, l7a, l7b, l7c, l7d uint32
 	{
@@ -2621,8 +4498,8 @@ L1:
 	panic("unreachable")
 }
 
-// f45 is noise_kdf::keyed::Hmac::new.
-func f45(m *memory, l0 uint64, l1 uint64) {
+// f46 is noise_kdf::keyed::Hmac::new.
+func f46(m *memory, l0 uint64, l1 uint64) {
 	var l2 uint64
 	var l3a, l3b, l4a, l4b, l5a, l5b uint64
 	t1 := m.g0
@@ -2692,7 +4569,7 @@ func f45(m *memory, l0 uint64, l1 uint64) {
 		binary.LittleEndian.PutUint64(t38[8:16], l5b)
 		l1 = (l2 + 0x250)
 		m.fill(uint32(l1), 0, 0x48)
-		f42(m, (l2 + 0x230), (l2 + 0x70), 0x40)
+		f43(m, (l2 + 0x230), (l2 + 0x70), 0x40)
 		m.copy(uint32((l2 + 0xb8)), uint32((l2 + 0x230)), 0x68)
 		t41 := m.at(uint32(l2) - 0xfccd0)
 		t39 := binary.LittleEndian.Uint64(t41[0:8])
@@ -2730,7 +4607,7 @@ func f45(m *memory, l0 uint64, l1 uint64) {
 		binary.LittleEndian.PutUint64(t64[0:8], l5a)
 		binary.LittleEndian.PutUint64(t64[8:16], l5b)
 		m.fill(uint32(l1), 0, 0x48)
-		f42(m, (l2 + 0x230), (l2 + 0x1f0), 0x40)
+		f43(m, (l2 + 0x230), (l2 + 0x1f0), 0x40)
 		m.copy(uint32((l2 + 8)), uint32((l2 + 0x230)), 0x68)
 		m.copy(uint32((l2 + 0x120)), uint32((l2 + 0xb8)), 0x68)
 		m.copy(uint32(((l2 + 0x120) + 0x68)), uint32((l2 + 8)), 0x68)
@@ -2742,8 +4619,8 @@ L2:
 	panic("unreachable")
 }
 
-// f46 is noise_kdf::keyed::Hmac::code.
-func f46(m *memory, l0 uint64, l1 uint64, l2 uint64, l3 uint64) {
+// f47 is noise_kdf::keyed::Hmac::code.
+func f47(m *memory, l0 uint64, l1 uint64, l2 uint64, l3 uint64) {
 	var l4, l6, l7 uint64
 	var l5a, l5b uint64
 	t1 := m.g0
@@ -2815,7 +4692,7 @@ func f46(m *memory, l0 uint64, l1 uint64, l2 uint64, l3 uint64) {
 		{
 			t33 := m.get64(uint32(l2) - 0xfcec0)
 			t34 := m.get64(uint32((l2 + 8)) - 0xfcec0)
-			f42(m, (l4 + 0x150), t33, t34)
+			f43(m, (l4 + 0x150), t33, t34)
 			l2 = (l2 + 0x10)
 			l3 = (l3 + 0xffffffffffffffff)
 			if l3 != 0 {
@@ -2866,9 +4743,9 @@ func f46(m *memory, l0 uint64, l1 uint64, l2 uint64, l3 uint64) {
 		m.copy(uint32((l4 + 0x88)), uint32((l4 + 0x28)), 0x60)
 		m.copy(uint32((l4 + 0xe8)), uint32((l4 + 0x88)), 0x60)
 		m.put64(uint32(l4)-0xfcd78, l2)
-		f43(m, (l4 + 8), (l4 + 0x150))
-		f42(m, (l4 + 0xe8), (l4 + 8), 0x20)
-		f43(m, (l4 + 0x1b8), (l4 + 0xe8))
+		f44(m, (l4 + 8), (l4 + 0x150))
+		f43(m, (l4 + 0xe8), (l4 + 8), 0x20)
+		f44(m, (l4 + 0x1b8), (l4 + 0xe8))
 		t62 := m.at(uint32(l4) - 0xfccf8)
 		t60 := binary.LittleEndian.Uint64(t62[0:8])
 		t61 := binary.LittleEndian.Uint64(t62[8:16])
@@ -2888,8 +4765,8 @@ L2:
 	panic("unreachable")
 }
 
-// f47 is noise_handshake::setup::mix_premessage.
-func f47(m *memory, l0 uint64, l1 uint32, l2 uint64, l3 uint64, l4 uint64) {
+// f48 is noise_handshake::setup::mix_premessage.
+func f48(m *memory, l0 uint64, l1 uint32, l2 uint64, l3 uint64, l4 uint64) {
 	var l7 uint32
 	var l5, l8 uint64
 	var l6a, l6b uint64
@@ -2943,7 +4820,7 @@ func f47(m *memory, l0 uint64, l1 uint32, l2 uint64, l3 uint64, l4 uint64) {
 					t18 := m.at(uint32(l5) - 0xfcea0)
 					binary.LittleEndian.PutUint64(t18[0:8], t15)
 					binary.LittleEndian.PutUint64(t18[8:16], t16)
-					f38(m, l0, l1, (l5 + 0x20))
+					f39(m, l0, l1, (l5 + 0x20))
 					goto L6
 				}
 			L8:
@@ -2978,9 +4855,9 @@ func f47(m *memory, l0 uint64, l1 uint32, l2 uint64, l3 uint64, l4 uint64) {
 				binary.LittleEndian.PutUint64(t31[0:8], 0xbb67ae856a09e667)
 				binary.LittleEndian.PutUint64(t31[8:16], 0xa54ff53a3c6ef372)
 				l8 = (l0 + 0x20)
-				f42(m, (l5 + 0x40), l8, 0x20)
-				f42(m, (l5 + 0x40), l5, 0x20)
-				f43(m, (l5 + 0xb0), (l5 + 0x40))
+				f43(m, (l5 + 0x40), l8, 0x20)
+				f43(m, (l5 + 0x40), l5, 0x20)
+				f44(m, (l5 + 0xb0), (l5 + 0x40))
 				t34 := m.at(uint32(l5) - 0xfce00)
 				t32 := binary.LittleEndian.Uint64(t34[0:8])
 				t33 := binary.LittleEndian.Uint64(t34[8:16])
@@ -2995,7 +4872,7 @@ func f47(m *memory, l0 uint64, l1 uint32, l2 uint64, l3 uint64, l4 uint64) {
 				binary.LittleEndian.PutUint64(t39[8:16], t37)
 			}
 		L6:
-			f47(m, l0, l1, l2, (l3 + 1), (l4 + 0xffffffffffffffff))
+			f48(m, l0, l1, l2, (l3 + 1), (l4 + 0xffffffffffffffff))
 		}
 	L5:
 		m.g0 = (l5 + 0xd0)
@@ -3005,8 +4882,8 @@ L2:
 	panic("unreachable")
 }
 
-// f48 is noise_session::sender::Sender::seal_frame.
-func f48(m *memory, l0 uint64, l1 uint64, l2 uint64, l3 uint64, l4 uint64, l5 uint64) {
+// f49 is noise_session::sender::Sender::seal_frame.
+func f49(m *memory, l0 uint64, l1 uint64, l2 uint64, l3 uint64, l4 uint64, l5 uint64) {
 	var l14 uint32
 	var l6, l7, l8, l9, l10, l11, l12, l13 uint64
 	t1 := m.g0
@@ -3144,7 +5021,7 @@ func f48(m *memory, l0 uint64, l1 uint64, l2 uint64, l3 uint64, l4 uint64, l5 ui
 			binary.LittleEndian.PutUint64(t26[0:8], 0)
 			binary.LittleEndian.PutUint64(t26[8:16], 0)
 			l10 = (l1 + 0x10)
-			f12(m, l7, l10, 0x10000f, 0, l8, l3)
+			f13(m, l7, l10, 0x10000f, 0, l8, l3)
 			t27 := uint32(m.get8(uint32(l7) - 0xfcec0))
 			if t27 != 0 {
 				goto L2
@@ -3161,7 +5038,7 @@ func f48(m *memory, l0 uint64, l1 uint64, l2 uint64, l3 uint64, l4 uint64, l5 ui
 				if (t31 % l2) != 0 {
 					goto L29
 				}
-				f13(m, l10)
+				f14(m, l10)
 			}
 		L29:
 			l14 = uint32(l6)
@@ -3178,8 +5055,8 @@ L2:
 	panic("unreachable")
 }
 
-// f49 is noise_c::pattern_info::keys_needed.
-func f49(m *memory, l0 uint64, l1 uint64, l2 uint32) {
+// f50 is noise_c::pattern_info::keys_needed.
+func f50(m *memory, l0 uint64, l1 uint64, l2 uint32) {
 	var l3, l10, l14 uint32
 	var l4, l5, l6, l7, l8, l9, l11, l12, l13 uint64
 	{
@@ -3378,8 +5255,8 @@ L1:
 	panic("unreachable")
 }
 
-// f50 is noise_names::valid::ValidPattern::overhead.
-func f50(m *memory, l0 uint64, l1 uint32) uint32 {
+// f51 is noise_names::valid::ValidPattern::overhead.
+func f51(m *memory, l0 uint64, l1 uint32) uint32 {
 	var l4, l10 uint32
 	var l2, l3, l5, l6, l7, l8, l9 uint64
 	t1 := m.g0
@@ -3395,7 +5272,7 @@ func f50(m *memory, l0 uint64, l1 uint32) uint32 {
 		l5 = 0
 		m.put64(uint32(l3)-0xfcec0, 0)
 		l6 = ((uint64(l1) & 0xff) + 0xffffffffffffffff)
-		f33(m, l3, l0, l6)
+		f34(m, l3, l0, l6)
 		t3 := uint32(m.get8(uint32(l3) - 0xfceb8))
 		m.put8(uint32(l3)-0xfcea8, uint8(t3))
 		t4 := m.get64(uint32(l3) - 0xfcec0)
@@ -3449,7 +5326,7 @@ func f50(m *memory, l0 uint64, l1 uint32) uint32 {
 	L6:
 		l0 = (l7 + (l6 * 0x18))
 		t14 := m.get64(uint32((l0 + 0x10)) - 0xfcec0)
-		t15 := f51(m, (l3 + 0x10), l4, l1, l0, t14)
+		t15 := f52(m, (l3 + 0x10), l4, l1, l0, t14)
 		l1 = t15
 		{
 			{
@@ -3503,8 +5380,8 @@ L2:
 	panic("unreachable")
 }
 
-// f51 is noise_names::seen::Seen::tokens_len.
-func f51(m *memory, l0 uint64, l1 uint32, l2 uint32, l3 uint64, l4 uint64) uint32 {
+// f52 is noise_names::seen::Seen::tokens_len.
+func f52(m *memory, l0 uint64, l1 uint32, l2 uint32, l3 uint64, l4 uint64) uint32 {
 	var l5 uint32
 	{
 		{
@@ -3849,8 +5726,8 @@ L1:
 	return l1
 }
 
-// f52 is noise_c::message_layout::piece.
-func f52(m *memory, l0 uint64, l1 uint64, l2 uint32, l3 uint32, l4 uint32, l5 uint32, l6 uint32) {
+// f53 is noise_c::message_layout::piece.
+func f53(m *memory, l0 uint64, l1 uint64, l2 uint32, l3 uint32, l4 uint32, l5 uint32, l6 uint32) {
 	var l9, l13, l14 uint32
 	var l7, l8, l10, l11, l12, l15, l16, l17, l18, l19 uint64
 	var l20a, l20b, l20c, l20d uint32
@@ -3867,7 +5744,7 @@ func f52(m *memory, l0 uint64, l1 uint64, l2 uint32, l3 uint32, l4 uint32, l5 ui
 		l10 = 0
 		m.put64(uint32(l8)-0xfcec0, 0)
 		l11 = ((uint64(l2) & 0xff) + 0xffffffffffffffff)
-		f33(m, l8, l1, l11)
+		f34(m, l8, l1, l11)
 		t3 := uint32(m.get8(uint32(l8) - 0xfceb8))
 		m.put8(uint32(l8)-0xfcea8, uint8(t3))
 		t4 := m.get64(uint32(l8) - 0xfcec0)
@@ -3924,7 +5801,7 @@ func f52(m *memory, l0 uint64, l1 uint64, l2 uint32, l3 uint32, l4 uint32, l5 ui
 	L6:
 		l18 = (l12 + (l11 * 0x18))
 		l19 = (uint64(l3) & 0xff)
-		_ = f51(m, (l8 + 0x10), l14, l13, l18, l19)
+		_ = f52(m, (l8 + 0x10), l14, l13, l18, l19)
 		t14 := m.get32(uint32(l8) - 0xfceac)
 		l20a, l20b, l20c, l20d = t14, 0, 0, 0
 		{
@@ -3999,7 +5876,7 @@ func f52(m *memory, l0 uint64, l1 uint64, l2 uint32, l3 uint32, l4 uint32, l5 ui
 		m.put16(uint32(l8)-0xfceb8, 0)
 		l10 = 0
 		m.put64(uint32(l8)-0xfcec0, 0)
-		f33(m, l8, l1, l11)
+		f34(m, l8, l1, l11)
 		t46 := uint32(m.get8(uint32(l8) - 0xfceb8))
 		m.put8(uint32(l8)-0xfcea8, uint8(t46))
 		t47 := m.get64(uint32(l8) - 0xfcec0)
@@ -4050,7 +5927,7 @@ func f52(m *memory, l0 uint64, l1 uint64, l2 uint32, l3 uint32, l4 uint32, l5 ui
 			l14 = 0
 		}
 	L49:
-		t56 := f51(m, (l8 + 0x10), l14, l9, l18, l19)
+		t56 := f52(m, (l8 + 0x10), l14, l9, l18, l19)
 		l2 = t56
 		l14 = (l5 & l3)
 		t57 := -uint32(b2i(l14 != 0))
@@ -4065,1990 +5942,4 @@ func f52(m *memory, l0 uint64, l1 uint64, l2 uint32, l3 uint32, l4 uint32, l5 ui
 	}
 L2:
 	panic("unreachable")
-}
-
-// f53 is noise_c::split::finished.
-func f53(m *memory, l0 uint64, l1 uint64) {
-	var l5, l6, l8, l9, l10, l11, l12, l13, l14, l15 uint32
-	var l2, l4, l7 uint64
-	var l3a, l3b uint64
-	t1 := m.g0
-	l2 = (t1 - 0x760)
-	m.g0 = l2
-	{
-		{
-			{
-				if int64(l2) < 16 {
-					goto L4
-				}
-				l3a, l3b = 0, 0
-				m.put128q(uint32(l2)-0xfcd98, l3a, l3b)
-				m.put128q(uint32(l2)-0xfcda8, l3a, l3b)
-				m.put128q(uint32(l2)-0xfcdc8, l3a, l3b)
-				m.put128q(uint32(l2)-0xfcdb8, l3a, l3b)
-				m.put32(uint32(l2)-0xfcdd0, 0)
-				m.put8(uint32(l2)-0xfcdcc, 0)
-				m.put128q(uint32(l2)-0xfcdf0, l3a, l3b)
-				m.put128q(uint32(l2)-0xfcde0, l3a, l3b)
-				m.put32(uint32(l2)-0xfcdf8, 0)
-				m.put32(uint32(l2)-0xfcdf5, 0)
-				m.put128q(uint32(l2)-0xfce18, l3a, l3b)
-				m.put128q(uint32(l2)-0xfce08, l3a, l3b)
-				m.put32(uint32(l2)-0xfce20, 0)
-				m.put32(uint32(l2)-0xfce1d, 0)
-				m.put128q(uint32(l2)-0xfce40, l3a, l3b)
-				m.put128q(uint32(l2)-0xfce30, l3a, l3b)
-				m.put128q(uint32(l2)-0xfcea0, l3a, l3b)
-				m.put32(uint32(l2)-0xfceb8, 0)
-				m.put32(uint32(l2)-0xfceb5, 0)
-				m.put128q(uint32(l2)-0xfceb0, l3a, l3b)
-				m.put32(uint32(l2)-0xfce90, 0)
-				m.put32(uint32(l2)-0xfce8d, 0)
-				m.put128q(uint32(l2)-0xfce78, l3a, l3b)
-				m.put128q(uint32(l2)-0xfce88, l3a, l3b)
-				m.put32(uint32(l2)-0xfce68, 0)
-				m.put8(uint32(l2)-0xfce64, 0)
-				m.put128q(uint32(l2)-0xfce50, l3a, l3b)
-				m.put128q(uint32(l2)-0xfce60, l3a, l3b)
-				m.put128q(uint32(l2)-0xfccd0, l3a, l3b)
-				m.put128q(uint32(l2)-0xfccc0, l3a, l3b)
-				m.put128q(uint32(l2)-0xfccf0, l3a, l3b)
-				m.put128q(uint32(l2)-0xfcce0, l3a, l3b)
-				m.put128q(uint32(l2)-0xfcd10, l3a, l3b)
-				m.put128q(uint32(l2)-0xfcd00, l3a, l3b)
-				m.put128q(uint32(l2)-0xfcd30, l3a, l3b)
-				m.put128q(uint32(l2)-0xfcd20, l3a, l3b)
-				m.put8(uint32(l2)-0xfcd34, 0)
-				m.put32(uint32(l2)-0xfcd38, 0)
-				m.put128q(uint32(l2)-0xfcd48, l3a, l3b)
-				m.put128q(uint32(l2)-0xfcd58, l3a, l3b)
-				m.put32(uint32(l2)-0xfcd5d, 0)
-				m.put32(uint32(l2)-0xfcd60, 0)
-				m.put128q(uint32(l2)-0xfcd70, l3a, l3b)
-				m.put128q(uint32(l2)-0xfcd80, l3a, l3b)
-				m.put32(uint32(l2)-0xfcd85, 0)
-				m.put32(uint32(l2)-0xfcd88, 0)
-				m.fill(uint32((l2 + 0x3d8)), 0, 0x368)
-				m.fill(uint32((l2 + 0x2c0)), 0, 0x118)
-				t5 := m.get32(uint32(l1) - 0xfcec0)
-				if t5 != 0x4e6f0101 {
-					goto L3
-				}
-				t6 := uint64(m.get16(uint32((l1 + 0x1a4)) - 0xfcec0))
-				l4 = t6
-				if l4 > 0x1a0 {
-					goto L3
-				}
-				t7 := uint32(m.get8(uint32((l1 + 0x34e)) - 0xfcec0))
-				if t7 > 8 {
-					goto L3
-				}
-				t8 := uint32(m.get8(uint32((l1 + 0x22d)) - 0xfcec0))
-				if t8 > 9 {
-					goto L3
-				}
-				f15(m, (l2 + 0x2c0), (l1 + 4), l4)
-				t9 := uint32(m.get8(uint32(l2) - 0xfcc00))
-				if t9 != 0 {
-					goto L3
-				}
-				f31(m, (l2 + 0x3d8), l1, (l2 + 0x2c8))
-				t10, t11 := m.get128q(uint32(l2) - 0xfc986)
-				m.put128q(uint32(l2)-0xfc780, t10, t11)
-				t12, t13 := m.get128q(uint32(l2) - 0xfc976)
-				m.put128q(uint32(l2)-0xfc770, t12, t13)
-				t14 := uint32(m.get8(uint32(l2) - 0xfc987))
-				l5 = t14
-				t15 := uint32(m.get8(uint32(l2) - 0xfc9b0))
-				l6 = t15
-				t16 := m.get64(uint32(l2) - 0xfc9d8)
-				l4 = t16
-				t17 := uint64(m.get8(uint32(l2) - 0xfc830))
-				l7 = t17
-				t18 := uint32(m.get8(uint32(l2) - 0xfc82f))
-				l8 = t18
-				t19 := uint32(m.get8(uint32(l2) - 0xfcae8))
-				l9 = t19
-				m.copy(uint32((l2 + 0x210)), uint32((l2 + 0x692)), 0xae)
-				if l9 != 1 {
-					goto L3
-				}
-				{
-					{
-						l9 = (l8 | b2i(l4 > l7))
-						if (l9 & 1) != 0 {
-							goto L21
-						}
-						m.put128q(uint32(l2)-0xfcbd0, l3a, l3b)
-						m.put128q(uint32(l2)-0xfcbe0, l3a, l3b)
-						m.put128q(uint32(l2)-0xfcbf0, l3a, l3b)
-						m.put128q(uint32(l2)-0xfcc00, l3a, l3b)
-						m.copy(uint32((l2 + 0x3d8)), uint32((l2 + 0x24e)), 0x70)
-						f41(m, (l2 + 0x2c0), (l2 + 0x3d8), 0x10000f, 0)
-						t22, t23 := m.get128q(uint32(l2) - 0xfcbf0)
-						m.put128q(uint32(l2)-0xfccc0, t22, t23)
-						t24, t25 := m.get128q(uint32(l2) - 0xfcc00)
-						m.put128q(uint32(l2)-0xfccd0, t24, t25)
-						t26, t27 := m.get128q(uint32(l2) - 0xfcbe0)
-						m.put128q(uint32(l2)-0xfccf0, t26, t27)
-						t28, t29 := m.get128q(uint32(l2) - 0xfcbd0)
-						m.put128q(uint32(l2)-0xfcce0, t28, t29)
-						t30, t31 := m.get128q(uint32(l2) - 0xfcc52)
-						m.put128q(uint32(l2)-0xfcd10, t30, t31)
-						t32, t33 := m.get128q(uint32(l2) - 0xfcc42)
-						m.put128q(uint32(l2)-0xfcd00, t32, t33)
-						t34, t35 := m.get128q(uint32(l2) - 0xfc780)
-						m.put128q(uint32(l2)-0xfcd30, t34, t35)
-						t36, t37 := m.get128q(uint32(l2) - 0xfc770)
-						m.put128q(uint32(l2)-0xfcd20, t36, t37)
-						l10 = 0
-						m.put8(uint32(l2)-0xfcd34, 0)
-						m.put32(uint32(l2)-0xfcd38, 0)
-						t38, t39 := m.get128q(uint32(l2) - 0xfccc0)
-						m.put128q(uint32(l2)-0xfcd48, t38, t39)
-						t40, t41 := m.get128q(uint32(l2) - 0xfccd0)
-						m.put128q(uint32(l2)-0xfcd58, t40, t41)
-						m.put32(uint32(l2)-0xfcd5d, 0)
-						m.put32(uint32(l2)-0xfcd60, 0)
-						t42, t43 := m.get128q(uint32(l2) - 0xfcce0)
-						m.put128q(uint32(l2)-0xfcd70, t42, t43)
-						t44, t45 := m.get128q(uint32(l2) - 0xfccf0)
-						m.put128q(uint32(l2)-0xfcd80, t44, t45)
-						m.put32(uint32(l2)-0xfcd85, 0)
-						m.put32(uint32(l2)-0xfcd88, 0)
-						l11 = b2i(l4 == 1)
-						l12 = 1
-						goto L20
-					}
-				L21:
-					t46 := uint32(m.get8(uint32((l1 + 0x1a7)) - 0xfcec0))
-					t47 := -uint32(b2i(t46 != 0))
-					t48 := (0xd & t47) | (0x13 &^ t47)
-					l10 = t48
-					l6 = 0
-					l11 = 0
-					l5 = 0
-					l12 = 0
-				}
-			L20:
-				t49, t50 := m.get128q(uint32(l2) - 0xfcd00)
-				m.put128q(uint32(l2)-0xfce30, t49, t50)
-				t51, t52 := m.get128q(uint32(l2) - 0xfcd10)
-				m.put128q(uint32(l2)-0xfce40, t51, t52)
-				t53, t54 := m.get128q(uint32(l2) - 0xfcd30)
-				m.put128q(uint32(l2)-0xfce60, t53, t54)
-				t55, t56 := m.get128q(uint32(l2) - 0xfcd20)
-				m.put128q(uint32(l2)-0xfce50, t55, t56)
-				t57 := m.get32(uint32(l2) - 0xfcd38)
-				m.put32(uint32(l2)-0xfce68, t57)
-				t58 := uint32(m.get8(uint32(l2) - 0xfcd34))
-				m.put8(uint32(l2)-0xfce64, uint8(t58))
-				t59, t60 := m.get128q(uint32(l2) - 0xfcd58)
-				m.put128q(uint32(l2)-0xfce88, t59, t60)
-				t61, t62 := m.get128q(uint32(l2) - 0xfcd48)
-				m.put128q(uint32(l2)-0xfce78, t61, t62)
-				t63 := m.get32(uint32(l2) - 0xfcd5d)
-				m.put32(uint32(l2)-0xfce8d, t63)
-				t64 := m.get32(uint32(l2) - 0xfcd60)
-				m.put32(uint32(l2)-0xfce90, t64)
-				t65, t66 := m.get128q(uint32(l2) - 0xfcd70)
-				m.put128q(uint32(l2)-0xfcea0, t65, t66)
-				t67, t68 := m.get128q(uint32(l2) - 0xfcd80)
-				m.put128q(uint32(l2)-0xfceb0, t67, t68)
-				t69 := m.get32(uint32(l2) - 0xfcd88)
-				m.put32(uint32(l2)-0xfceb8, t69)
-				t70 := m.get32(uint32(l2) - 0xfcd85)
-				m.put32(uint32(l2)-0xfceb5, t70)
-				l13 = (l9 ^ 1)
-				goto L2
-			}
-		L4:
-			panic("unreachable")
-		}
-	L3:
-		m.put128q(uint32(l2)-0xfce30, l3a, l3b)
-		m.put128q(uint32(l2)-0xfce40, l3a, l3b)
-		m.put128q(uint32(l2)-0xfce60, l3a, l3b)
-		m.put128q(uint32(l2)-0xfce50, l3a, l3b)
-		l13 = 0
-		m.put32(uint32(l2)-0xfce68, 0)
-		m.put8(uint32(l2)-0xfce64, 0)
-		m.put128q(uint32(l2)-0xfce88, l3a, l3b)
-		m.put128q(uint32(l2)-0xfce78, l3a, l3b)
-		m.put32(uint32(l2)-0xfce90, 0)
-		m.put32(uint32(l2)-0xfce8d, 0)
-		m.put128q(uint32(l2)-0xfceb0, l3a, l3b)
-		m.put128q(uint32(l2)-0xfcea0, l3a, l3b)
-		m.put32(uint32(l2)-0xfceb8, 0)
-		m.put32(uint32(l2)-0xfceb5, 0)
-		l10 = 0x17
-		l6 = 0
-		l11 = 0
-		l5 = 0
-		l12 = 0
-	}
-L2:
-	m.put128q(uint32(l2)-0xfcae8, l3a, l3b)
-	m.put128q(uint32(l2)-0xfcad8, l3a, l3b)
-	m.put128q(uint32(l2)-0xfcc00, l3a, l3b)
-	m.put128q(uint32(l2)-0xfcbf0, l3a, l3b)
-	l14 = 0
-	m.put32(uint32(l2)-0xfcd10, 0)
-	m.put8(uint32(l2)-0xfcd0c, 0)
-	m.put128q(uint32(l2)-0xfccb0, l3a, l3b)
-	m.put128q(uint32(l2)-0xfcca0, l3a, l3b)
-	m.put32(uint32(l2)-0xfcccd, 0)
-	m.put32(uint32(l2)-0xfccd0, 0)
-	m.put128q(uint32(l2)-0xfc770, l3a, l3b)
-	m.put128q(uint32(l2)-0xfc780, l3a, l3b)
-	m.put32(uint32(l2)-0xfcced, 0)
-	m.put32(uint32(l2)-0xfccf0, 0)
-	l8 = 0
-	l15 = 0
-	l9 = 0
-	{
-		l13 = (l13 & 1)
-		if l13 == 0 {
-			goto L71
-		}
-		t72, t73 := m.get128q(uint32(l2) - 0xfce30)
-		m.put128q(uint32(l2)-0xfcad8, t72, t73)
-		t74, t75 := m.get128q(uint32(l2) - 0xfce40)
-		m.put128q(uint32(l2)-0xfcae8, t74, t75)
-		t76, t77 := m.get128q(uint32(l2) - 0xfce60)
-		m.put128q(uint32(l2)-0xfcc00, t76, t77)
-		t78, t79 := m.get128q(uint32(l2) - 0xfce50)
-		m.put128q(uint32(l2)-0xfcbf0, t78, t79)
-		t80 := m.get32(uint32(l2) - 0xfce68)
-		m.put32(uint32(l2)-0xfcd10, t80)
-		t81 := uint32(m.get8(uint32(l2) - 0xfce64))
-		m.put8(uint32(l2)-0xfcd0c, uint8(t81))
-		t82, t83 := m.get128q(uint32(l2) - 0xfce88)
-		m.put128q(uint32(l2)-0xfccb0, t82, t83)
-		t84, t85 := m.get128q(uint32(l2) - 0xfce78)
-		m.put128q(uint32(l2)-0xfcca0, t84, t85)
-		t86 := m.get32(uint32(l2) - 0xfce8d)
-		m.put32(uint32(l2)-0xfcccd, t86)
-		t87 := m.get32(uint32(l2) - 0xfce90)
-		m.put32(uint32(l2)-0xfccd0, t87)
-		t88, t89 := m.get128q(uint32(l2) - 0xfcea0)
-		m.put128q(uint32(l2)-0xfc770, t88, t89)
-		t90, t91 := m.get128q(uint32(l2) - 0xfceb0)
-		m.put128q(uint32(l2)-0xfc780, t90, t91)
-		t92 := m.get32(uint32(l2) - 0xfceb8)
-		m.put32(uint32(l2)-0xfccf0, t92)
-		t93 := m.get32(uint32(l2) - 0xfceb5)
-		m.put32(uint32(l2)-0xfcced, t93)
-		l10 = 0
-		l14 = l6
-		l8 = l11
-		l15 = l5
-		l9 = l12
-	}
-L71:
-	t94, t95 := m.get128q(uint32(l2) - 0xfcad8)
-	m.put128q(uint32(l2)-0xfcd98, t94, t95)
-	t96, t97 := m.get128q(uint32(l2) - 0xfcae8)
-	m.put128q(uint32(l2)-0xfcda8, t96, t97)
-	t98, t99 := m.get128q(uint32(l2) - 0xfcc00)
-	m.put128q(uint32(l2)-0xfcdc8, t98, t99)
-	t100, t101 := m.get128q(uint32(l2) - 0xfcbf0)
-	m.put128q(uint32(l2)-0xfcdb8, t100, t101)
-	t102 := m.get32(uint32(l2) - 0xfcd10)
-	m.put32(uint32(l2)-0xfcdd0, t102)
-	t103 := uint32(m.get8(uint32(l2) - 0xfcd0c))
-	m.put8(uint32(l2)-0xfcdcc, uint8(t103))
-	t104, t105 := m.get128q(uint32(l2) - 0xfccb0)
-	m.put128q(uint32(l2)-0xfcdf0, t104, t105)
-	t106, t107 := m.get128q(uint32(l2) - 0xfcca0)
-	m.put128q(uint32(l2)-0xfcde0, t106, t107)
-	t108 := m.get32(uint32(l2) - 0xfcccd)
-	m.put32(uint32(l2)-0xfcdf5, t108)
-	t109 := m.get32(uint32(l2) - 0xfccd0)
-	m.put32(uint32(l2)-0xfcdf8, t109)
-	t110, t111 := m.get128q(uint32(l2) - 0xfc770)
-	m.put128q(uint32(l2)-0xfce08, t110, t111)
-	t112, t113 := m.get128q(uint32(l2) - 0xfc780)
-	m.put128q(uint32(l2)-0xfce18, t112, t113)
-	t114 := m.get32(uint32(l2) - 0xfccf0)
-	m.put32(uint32(l2)-0xfce20, t114)
-	t115 := m.get32(uint32(l2) - 0xfcced)
-	m.put32(uint32(l2)-0xfce1d, t115)
-	{
-		{
-			if l13 == 0 {
-				goto L117
-			}
-			m.put8(uint32((l1+0x1a7))-0xfcec0, 1)
-			m.put128q(uint32((l1+0x598))-0xfcec0, l3a, l3b)
-			m.put128q(uint32((l1+0x5a8))-0xfcec0, l3a, l3b)
-			m.fill(uint32((l1 + 0x22d)), 0, 0x34a)
-			m.put8(uint32((l0+8))-0xfcec0, uint8(l14))
-			m.put64(uint32(l0)-0xfcec0, 0)
-			t118, t119 := m.get128q(uint32(l2) - 0xfcda8)
-			m.put128q(uint32((l0+0xa))-0xfcec0, t118, t119)
-			t120, t121 := m.get128q(uint32(l2) - 0xfcd98)
-			m.put128q(uint32((l0+0x1a))-0xfcec0, t120, t121)
-			t122, t123 := m.get128q(uint32(l2) - 0xfcdc8)
-			m.put128q(uint32((l0+0x2b))-0xfcec0, t122, t123)
-			t124, t125 := m.get128q(uint32(l2) - 0xfcdb8)
-			m.put128q(uint32((l0+0x3b))-0xfcec0, t124, t125)
-			t126 := uint32(m.get8(uint32(l2) - 0xfcdcc))
-			m.put8(uint32((l0+0x4f))-0xfcec0, uint8(t126))
-			t127 := m.get32(uint32(l2) - 0xfcdd0)
-			m.put32(uint32((l0+0x4b))-0xfcec0, t127)
-			t128, t129 := m.get128q(uint32(l2) - 0xfcdf0)
-			m.put128q(uint32((l0+0x51))-0xfcec0, t128, t129)
-			t130, t131 := m.get128q(uint32(l2) - 0xfcde0)
-			m.put128q(uint32((l0+0x61))-0xfcec0, t130, t131)
-			t132 := m.get32(uint32(l2) - 0xfcdf5)
-			m.put32(uint32((l0+0x74))-0xfcec0, t132)
-			t133 := m.get32(uint32(l2) - 0xfcdf8)
-			m.put32(uint32((l0+0x71))-0xfcec0, t133)
-			t134, t135 := m.get128q(uint32(l2) - 0xfce18)
-			m.put128q(uint32((l0+0x81))-0xfcec0, t134, t135)
-			t136, t137 := m.get128q(uint32(l2) - 0xfce08)
-			m.put128q(uint32((l0+0x91))-0xfcec0, t136, t137)
-			t138 := m.get32(uint32(l2) - 0xfce20)
-			m.put32(uint32((l0+0xa1))-0xfcec0, t138)
-			t139 := m.get32(uint32(l2) - 0xfce1d)
-			m.put32(uint32((l0+0xa4))-0xfcec0, t139)
-			goto L116
-		}
-	L117:
-		m.put32(uint32(l0)-0xfcec0, 1)
-		l8 = 0
-		m.put8(uint32((l0+8))-0xfcec0, 0)
-		m.put32(uint32((l0+4))-0xfcec0, l10)
-		m.put128q(uint32((l0+0xa))-0xfcec0, l3a, l3b)
-		m.put128q(uint32((l0+0x1a))-0xfcec0, l3a, l3b)
-		m.put128q(uint32((l0+0x2b))-0xfcec0, l3a, l3b)
-		m.put128q(uint32((l0+0x3b))-0xfcec0, l3a, l3b)
-		m.put64(uint32((l0+0x48))-0xfcec0, 0)
-		m.put128q(uint32((l0+0x51))-0xfcec0, l3a, l3b)
-		m.put128q(uint32((l0+0x61))-0xfcec0, l3a, l3b)
-		m.put64(uint32((l0+0x70))-0xfcec0, 0)
-		m.put128q(uint32((l0+0x91))-0xfcec0, l3a, l3b)
-		m.put128q(uint32((l0+0x81))-0xfcec0, l3a, l3b)
-		m.put64(uint32((l0+0xa0))-0xfcec0, 0)
-		l15 = 0
-		l9 = 0
-	}
-L116:
-	m.put64(uint32((l0+0xa8))-0xfcec0, 0)
-	m.put8(uint32((l0+0x80))-0xfcec0, uint8(l9))
-	m.put64(uint32((l0+0x78))-0xfcec0, 0)
-	m.put8(uint32((l0+0x50))-0xfcec0, uint8(l9))
-	m.put8(uint32((l0+0x2a))-0xfcec0, uint8(l15))
-	m.put8(uint32((l0+9))-0xfcec0, uint8(l8))
-	m.g0 = (l2 + 0x760)
-}
-
-// f54 is noise_handshake::writer::write_lacking::<#9bbb2dae5a99aff0>.
-func f54(m *memory, l0 uint64, l1 uint64, l2 uint64, l3 uint64, l4 uint64, l5 uint64, l6 uint64) {
-	var l9, l10 uint32
-	var l7 uint64
-	var l8a, l8b uint64
-	t1 := m.g0
-	l7 = (t1 - 0x70)
-	m.g0 = l7
-	{
-		{
-			{
-				{
-					{
-						{
-							{
-								if int64(l7) < 16 {
-									goto L8
-								}
-								m.put16(uint32(l7)-0xfcea0, 0)
-								l8a, l8b = 0, 0
-								t9 := m.at(uint32(l7) - 0xfceb0)
-								binary.LittleEndian.PutUint64(t9[0:8], l8a)
-								binary.LittleEndian.PutUint64(t9[8:16], l8b)
-								t10 := m.at(uint32(l7) - 0xfcec0)
-								binary.LittleEndian.PutUint64(t10[0:8], l8a)
-								binary.LittleEndian.PutUint64(t10[8:16], l8b)
-								{
-									{
-										{
-											if l6 == 0 {
-												goto L13
-											}
-											{
-												t15 := uint32(m.get8(uint32(l5) - 0xfcec0))
-												l9 = t15
-												switch l9 {
-												case 2, 3, 4, 5:
-													goto L14
-												case 1:
-													goto L12
-												case 6:
-													goto L5
-												}
-												goto L11
-											}
-										L14:
-											{
-												{
-													{
-														{
-															{
-																t21 := uint32(m.get8(uint32((l2 + 0x20)) - 0xfcec0))
-																if t21 != 0 {
-																	goto L20
-																}
-																switch l9 + 0xfffffffe {
-																case 1, 3:
-																	goto L19
-																}
-																goto L17
-															}
-														L20:
-															if (l9 & 0xfe) == 4 {
-																goto L18
-															}
-															t22 := uint32(m.get8(uint32(l1) - 0xfcec0))
-															if t22 != 1 {
-																goto L4
-															}
-															t25 := m.at(uint32((l1 + 0x11)) - 0xfcec0)
-															t23 := binary.LittleEndian.Uint64(t25[0:8])
-															t24 := binary.LittleEndian.Uint64(t25[8:16])
-															t26 := m.at(uint32(l7) - 0xfce88)
-															binary.LittleEndian.PutUint64(t26[0:8], t23)
-															binary.LittleEndian.PutUint64(t26[8:16], t24)
-															t29 := m.at(uint32((l1 + 1)) - 0xfcec0)
-															t27 := binary.LittleEndian.Uint64(t29[0:8])
-															t28 := binary.LittleEndian.Uint64(t29[8:16])
-															t30 := m.at(uint32(l7) - 0xfce98)
-															binary.LittleEndian.PutUint64(t30[0:8], t27)
-															binary.LittleEndian.PutUint64(t30[8:16], t28)
-															goto L7
-														}
-													L19:
-														t31 := uint32(m.get8(uint32((l1 + 0x21)) - 0xfcec0))
-														if t31 != 1 {
-															goto L4
-														}
-														t34 := m.at(uint32((l1 + 0x32)) - 0xfcec0)
-														t32 := binary.LittleEndian.Uint64(t34[0:8])
-														t33 := binary.LittleEndian.Uint64(t34[8:16])
-														t35 := m.at(uint32(l7) - 0xfce88)
-														binary.LittleEndian.PutUint64(t35[0:8], t32)
-														binary.LittleEndian.PutUint64(t35[8:16], t33)
-														t38 := m.at(uint32((l1 + 0x22)) - 0xfcec0)
-														t36 := binary.LittleEndian.Uint64(t38[0:8])
-														t37 := binary.LittleEndian.Uint64(t38[8:16])
-														t39 := m.at(uint32(l7) - 0xfce98)
-														binary.LittleEndian.PutUint64(t39[0:8], t36)
-														binary.LittleEndian.PutUint64(t39[8:16], t37)
-														goto L16
-													}
-												L18:
-													t40 := uint32(m.get8(uint32((l1 + 0x21)) - 0xfcec0))
-													if t40 != 1 {
-														goto L4
-													}
-													t43 := m.at(uint32((l1 + 0x32)) - 0xfcec0)
-													t41 := binary.LittleEndian.Uint64(t43[0:8])
-													t42 := binary.LittleEndian.Uint64(t43[8:16])
-													t44 := m.at(uint32(l7) - 0xfce88)
-													binary.LittleEndian.PutUint64(t44[0:8], t41)
-													binary.LittleEndian.PutUint64(t44[8:16], t42)
-													t47 := m.at(uint32((l1 + 0x22)) - 0xfcec0)
-													t45 := binary.LittleEndian.Uint64(t47[0:8])
-													t46 := binary.LittleEndian.Uint64(t47[8:16])
-													t48 := m.at(uint32(l7) - 0xfce98)
-													binary.LittleEndian.PutUint64(t48[0:8], t45)
-													binary.LittleEndian.PutUint64(t48[8:16], t46)
-													goto L7
-												}
-											L17:
-												t49 := uint32(m.get8(uint32(l1) - 0xfcec0))
-												if t49 != 1 {
-													goto L4
-												}
-												t52 := m.at(uint32((l1 + 0x11)) - 0xfcec0)
-												t50 := binary.LittleEndian.Uint64(t52[0:8])
-												t51 := binary.LittleEndian.Uint64(t52[8:16])
-												t53 := m.at(uint32(l7) - 0xfce88)
-												binary.LittleEndian.PutUint64(t53[0:8], t50)
-												binary.LittleEndian.PutUint64(t53[8:16], t51)
-												t56 := m.at(uint32((l1 + 1)) - 0xfcec0)
-												t54 := binary.LittleEndian.Uint64(t56[0:8])
-												t55 := binary.LittleEndian.Uint64(t56[8:16])
-												t57 := m.at(uint32(l7) - 0xfce98)
-												binary.LittleEndian.PutUint64(t57[0:8], t54)
-												binary.LittleEndian.PutUint64(t57[8:16], t55)
-											}
-										L16:
-											l10 = b2i((l9 & 0xfe) == 4)
-											goto L6
-										}
-									L13:
-										m.put16(uint32(l0)-0xfcea0, 0)
-										t58 := m.at(uint32(l0) - 0xfceb0)
-										binary.LittleEndian.PutUint64(t58[0:8], l8a)
-										binary.LittleEndian.PutUint64(t58[8:16], l8b)
-										t59 := m.at(uint32(l0) - 0xfcec0)
-										binary.LittleEndian.PutUint64(t59[0:8], l8a)
-										binary.LittleEndian.PutUint64(t59[8:16], l8b)
-										goto L2
-									}
-								L12:
-									t60 := m.get64(uint32((l2 + 8)) - 0xfcec0)
-									t61 := uint32(m.get8(uint32(t60) - 0xfcec0))
-									if t61 == 0 {
-										goto L4
-									}
-									goto L5
-								}
-							L11:
-								t62 := m.get64(uint32(l2) - 0xfcec0)
-								t63 := uint32(m.get8(uint32(t62) - 0xfcec0))
-								if t63 != 0 {
-									goto L5
-								}
-								goto L4
-							}
-						L8:
-							panic("unreachable")
-						}
-					L7:
-						l10 = (uint32(0x1000100) >> ((((l9 + 0xfffffffe) & 0xff) << 3) & 31))
-					}
-				L6:
-					m.put8(uint32(l7)-0xfce58, 0)
-					t64 := m.at(uint32(l7) - 0xfce68)
-					binary.LittleEndian.PutUint64(t64[0:8], l8a)
-					binary.LittleEndian.PutUint64(t64[8:16], l8b)
-					t65 := m.at(uint32(l7) - 0xfce78)
-					binary.LittleEndian.PutUint64(t65[0:8], l8a)
-					binary.LittleEndian.PutUint64(t65[8:16], l8b)
-					t66 := m.get64(uint32((l2 + 0x10)) - 0xfcec0)
-					t67 := m.get64(uint32((l2 + 0x18)) - 0xfcec0)
-					f40(m, (l7 + 0x48), t66, t67, l10, (l7 + 0x28))
-					t68 := uint32(m.get8(uint32(l7) - 0xfce78))
-					if t68 != 1 {
-						goto L4
-					}
-				}
-			L5:
-				l9 = b2i(l9 == 6)
-				t69 := -uint64(b2i(l9 != 0))
-				t70 := (0x20 & t69) | (0 &^ t69)
-				f54(m, l7, l1, l2, (l3 + t70), (l4 - uint64(l9)), (l5 + 4), (l6 + 0xffffffffffffffff))
-				t71 := uint32(m.get8(uint32(l7) - 0xfcec0))
-				l9 = t71
-				goto L3
-			}
-		L4:
-			{
-				{
-					{
-						{
-							{
-								t77 := uint32(m.get8(uint32((l2 + 0x20)) - 0xfcec0))
-								if t77 != 0 {
-									goto L76
-								}
-								if ((uint32(1) << (l9 & 31)) & 0x17) == 0 {
-									goto L75
-								}
-								t80 := m.at(uint32((l1 + 1)) - 0xfcec0)
-								t78 := binary.LittleEndian.Uint64(t80[0:8])
-								t79 := binary.LittleEndian.Uint64(t80[8:16])
-								t81 := m.at(uint32(l7) - 0xfce78)
-								binary.LittleEndian.PutUint64(t81[0:8], t78)
-								binary.LittleEndian.PutUint64(t81[8:16], t79)
-								t84 := m.at(uint32((l1 + 0x11)) - 0xfcec0)
-								t82 := binary.LittleEndian.Uint64(t84[0:8])
-								t83 := binary.LittleEndian.Uint64(t84[8:16])
-								t85 := m.at(uint32(l7) - 0xfce68)
-								binary.LittleEndian.PutUint64(t85[0:8], t82)
-								binary.LittleEndian.PutUint64(t85[8:16], t83)
-								t86 := uint32(m.get8(uint32(l1) - 0xfcec0))
-								if t86 != 1 {
-									goto L74
-								}
-								goto L73
-							}
-						L76:
-							{
-								{
-									if (l9 & 0xfe) == 4 {
-										goto L88
-									}
-									t91 := m.at(uint32((l1 + 1)) - 0xfcec0)
-									t89 := binary.LittleEndian.Uint64(t91[0:8])
-									t90 := binary.LittleEndian.Uint64(t91[8:16])
-									t92 := m.at(uint32(l7) - 0xfce78)
-									binary.LittleEndian.PutUint64(t92[0:8], t89)
-									binary.LittleEndian.PutUint64(t92[8:16], t90)
-									t95 := m.at(uint32((l1 + 0x11)) - 0xfcec0)
-									t93 := binary.LittleEndian.Uint64(t95[0:8])
-									t94 := binary.LittleEndian.Uint64(t95[8:16])
-									t96 := m.at(uint32(l7) - 0xfce68)
-									binary.LittleEndian.PutUint64(t96[0:8], t93)
-									binary.LittleEndian.PutUint64(t96[8:16], t94)
-									t97 := uint32(m.get8(uint32(l1) - 0xfcec0))
-									if t97 == 1 {
-										goto L87
-									}
-									goto L74
-								}
-							L88:
-								t100 := m.at(uint32((l1 + 0x22)) - 0xfcec0)
-								t98 := binary.LittleEndian.Uint64(t100[0:8])
-								t99 := binary.LittleEndian.Uint64(t100[8:16])
-								t101 := m.at(uint32(l7) - 0xfce78)
-								binary.LittleEndian.PutUint64(t101[0:8], t98)
-								binary.LittleEndian.PutUint64(t101[8:16], t99)
-								t104 := m.at(uint32((l1 + 0x32)) - 0xfcec0)
-								t102 := binary.LittleEndian.Uint64(t104[0:8])
-								t103 := binary.LittleEndian.Uint64(t104[8:16])
-								t105 := m.at(uint32(l7) - 0xfce68)
-								binary.LittleEndian.PutUint64(t105[0:8], t102)
-								binary.LittleEndian.PutUint64(t105[8:16], t103)
-								t106 := uint32(m.get8(uint32((l1 + 0x21)) - 0xfcec0))
-								if t106 != 1 {
-									goto L74
-								}
-							}
-						L87:
-							l9 = uint32((uint64(0x10001000000) >> ((uint64(l9) << 3) & 63)))
-							goto L72
-						}
-					L75:
-						t109 := m.at(uint32((l1 + 0x22)) - 0xfcec0)
-						t107 := binary.LittleEndian.Uint64(t109[0:8])
-						t108 := binary.LittleEndian.Uint64(t109[8:16])
-						t110 := m.at(uint32(l7) - 0xfce78)
-						binary.LittleEndian.PutUint64(t110[0:8], t107)
-						binary.LittleEndian.PutUint64(t110[8:16], t108)
-						t113 := m.at(uint32((l1 + 0x32)) - 0xfcec0)
-						t111 := binary.LittleEndian.Uint64(t113[0:8])
-						t112 := binary.LittleEndian.Uint64(t113[8:16])
-						t114 := m.at(uint32(l7) - 0xfce68)
-						binary.LittleEndian.PutUint64(t114[0:8], t111)
-						binary.LittleEndian.PutUint64(t114[8:16], t112)
-						t115 := uint32(m.get8(uint32((l1 + 0x21)) - 0xfcec0))
-						if t115 == 1 {
-							goto L73
-						}
-					}
-				L74:
-					l9 = 0
-					m.put16(uint32(l7)-0xfcea0, 0)
-					t116 := m.at(uint32(l7) - 0xfceb0)
-					binary.LittleEndian.PutUint64(t116[0:8], l8a)
-					binary.LittleEndian.PutUint64(t116[8:16], l8b)
-					t117 := m.at(uint32(l7) - 0xfcec0)
-					binary.LittleEndian.PutUint64(t117[0:8], l8a)
-					binary.LittleEndian.PutUint64(t117[8:16], l8b)
-					goto L3
-				}
-			L73:
-				l9 = b2i((l9 & 0xfe) == 4)
-			}
-		L72:
-			m.put8(uint32(l7)-0xfcebf, uint8(l9))
-			t120 := m.at(uint32(l7) - 0xfce78)
-			t118 := binary.LittleEndian.Uint64(t120[0:8])
-			t119 := binary.LittleEndian.Uint64(t120[8:16])
-			t121 := m.at(uint32(l7) - 0xfcebe)
-			binary.LittleEndian.PutUint64(t121[0:8], t118)
-			binary.LittleEndian.PutUint64(t121[8:16], t119)
-			t124 := m.at(uint32(l7) - 0xfce68)
-			t122 := binary.LittleEndian.Uint64(t124[0:8])
-			t123 := binary.LittleEndian.Uint64(t124[8:16])
-			t125 := m.at(uint32(l7) - 0xfceae)
-			binary.LittleEndian.PutUint64(t125[0:8], t122)
-			binary.LittleEndian.PutUint64(t125[8:16], t123)
-			l9 = 1
-		}
-	L3:
-		m.put8(uint32(l0)-0xfcec0, uint8(l9))
-		t128 := m.at(uint32(l7) - 0xfcebf)
-		t126 := binary.LittleEndian.Uint64(t128[0:8])
-		t127 := binary.LittleEndian.Uint64(t128[8:16])
-		t129 := m.at(uint32((l0 + 1)) - 0xfcec0)
-		binary.LittleEndian.PutUint64(t129[0:8], t126)
-		binary.LittleEndian.PutUint64(t129[8:16], t127)
-		t132 := m.at(uint32(l7) - 0xfceaf)
-		t130 := binary.LittleEndian.Uint64(t132[0:8])
-		t131 := binary.LittleEndian.Uint64(t132[8:16])
-		t133 := m.at(uint32((l0 + 0x11)) - 0xfcec0)
-		binary.LittleEndian.PutUint64(t133[0:8], t130)
-		binary.LittleEndian.PutUint64(t133[8:16], t131)
-		t134 := uint32(m.get8(uint32(l7) - 0xfce9f))
-		m.put8(uint32((l0+0x21))-0xfcec0, uint8(t134))
-	}
-L2:
-	m.g0 = (l7 + 0x70)
-}
-
-// f55 is noise_handshake::writer::write_tokens::<#3dfcfe118667ed30>.
-func f55(m *memory, l0 uint64, l1 uint64, l2 uint64, l3 uint64, l4 uint64, l5 uint64, l6 uint64, l7 uint64, l8 uint64, l9 uint64) {
-	var l12 uint32
-	var l10, l11 uint64
-	var l13a, l13b uint64
-	t1 := m.g0
-	l10 = (t1 - 0xf0)
-	m.g0 = l10
-	{
-		{
-			{
-				{
-					{
-						{
-							{
-								{
-									if int64(l10) < 16 {
-										goto L9
-									}
-									l11 = 0
-									{
-										if !(l7 == 0) {
-											goto L10
-										}
-										l12 = 0
-										goto L2
-									}
-								L10:
-									{
-										{
-											{
-												{
-													{
-														{
-															t17 := uint32(m.get8(uint32(l6) - 0xfcec0))
-															l12 = t17
-															switch l12 {
-															case 1:
-																goto L15
-															case 6:
-																goto L14
-															case 2, 3, 4, 5:
-																goto L13
-															}
-															goto L16
-														}
-													L16:
-														t18 := m.get64(uint32(l3) - 0xfcec0)
-														l11 = t18
-														t19 := uint32(m.get8(uint32(l11) - 0xfcec0))
-														if t19 == 0 {
-															goto L9
-														}
-														t22 := m.at(uint32((l11 + 0x11)) - 0xfcec0)
-														t20 := binary.LittleEndian.Uint64(t22[0:8])
-														t21 := binary.LittleEndian.Uint64(t22[8:16])
-														t23 := m.at(uint32(l10) - 0xfce40)
-														binary.LittleEndian.PutUint64(t23[0:8], t20)
-														binary.LittleEndian.PutUint64(t23[8:16], t21)
-														t26 := m.at(uint32((l11 + 1)) - 0xfcec0)
-														t24 := binary.LittleEndian.Uint64(t26[0:8])
-														t25 := binary.LittleEndian.Uint64(t26[8:16])
-														t27 := m.at(uint32(l10) - 0xfce50)
-														binary.LittleEndian.PutUint64(t27[0:8], t24)
-														binary.LittleEndian.PutUint64(t27[8:16], t25)
-														t28 := uint32(m.get8(uint32((l3 + 0x21)) - 0xfcec0))
-														f38(m, l1, t28, (l10 + 0x70))
-														if (l8 - (l10 + 0x70)) > 0x1f {
-															goto L12
-														}
-														t31 := m.at(uint32(l10) - 0xfce50)
-														t29 := binary.LittleEndian.Uint64(t31[0:8])
-														t30 := binary.LittleEndian.Uint64(t31[8:16])
-														t32 := m.at(uint32(l8) - 0xfcec0)
-														binary.LittleEndian.PutUint64(t32[0:8], t29)
-														binary.LittleEndian.PutUint64(t32[8:16], t30)
-														t35 := m.at(uint32(l10) - 0xfce40)
-														t33 := binary.LittleEndian.Uint64(t35[0:8])
-														t34 := binary.LittleEndian.Uint64(t35[8:16])
-														t36 := m.at(uint32(l8) - 0xfceb0)
-														binary.LittleEndian.PutUint64(t36[0:8], t33)
-														binary.LittleEndian.PutUint64(t36[8:16], t34)
-														goto L11
-													}
-												L15:
-													t37 := m.get64(uint32((l3 + 8)) - 0xfcec0)
-													l11 = t37
-													t38 := uint32(m.get8(uint32(l11) - 0xfcec0))
-													if t38 == 0 {
-														goto L9
-													}
-													t41 := m.at(uint32((l11 + 0x11)) - 0xfcec0)
-													t39 := binary.LittleEndian.Uint64(t41[0:8])
-													t40 := binary.LittleEndian.Uint64(t41[8:16])
-													t42 := m.at(uint32(l10) - 0xfce60)
-													binary.LittleEndian.PutUint64(t42[0:8], t39)
-													binary.LittleEndian.PutUint64(t42[8:16], t40)
-													t45 := m.at(uint32((l11 + 1)) - 0xfcec0)
-													t43 := binary.LittleEndian.Uint64(t45[0:8])
-													t44 := binary.LittleEndian.Uint64(t45[8:16])
-													t46 := m.at(uint32(l10) - 0xfce70)
-													binary.LittleEndian.PutUint64(t46[0:8], t43)
-													binary.LittleEndian.PutUint64(t46[8:16], t44)
-													t47 := f56(m, l1, (l10 + 0x50), 0x20, l8)
-													l11 = t47
-													goto L3
-												}
-											L14:
-												f39(m, l1, l4)
-												l11 = 0
-												goto L3
-											}
-										L13:
-											{
-												{
-													{
-														{
-															t52 := uint32(m.get8(uint32((l3 + 0x20)) - 0xfcec0))
-															if t52 != 0 {
-																goto L51
-															}
-															switch l12 + 0xfffffffe {
-															case 1, 3:
-																goto L50
-															}
-															goto L48
-														}
-													L51:
-														if (l12 & 0xfe) == 4 {
-															goto L49
-														}
-														t53 := uint32(m.get8(uint32(l2) - 0xfcec0))
-														if t53 != 1 {
-															goto L4
-														}
-														t56 := m.at(uint32((l2 + 0x11)) - 0xfcec0)
-														t54 := binary.LittleEndian.Uint64(t56[0:8])
-														t55 := binary.LittleEndian.Uint64(t56[8:16])
-														t57 := m.at(uint32(l10) - 0xfce20)
-														binary.LittleEndian.PutUint64(t57[0:8], t54)
-														binary.LittleEndian.PutUint64(t57[8:16], t55)
-														t60 := m.at(uint32((l2 + 1)) - 0xfcec0)
-														t58 := binary.LittleEndian.Uint64(t60[0:8])
-														t59 := binary.LittleEndian.Uint64(t60[8:16])
-														t61 := m.at(uint32(l10) - 0xfce30)
-														binary.LittleEndian.PutUint64(t61[0:8], t58)
-														binary.LittleEndian.PutUint64(t61[8:16], t59)
-														goto L6
-													}
-												L50:
-													t62 := uint32(m.get8(uint32((l2 + 0x21)) - 0xfcec0))
-													if t62 != 1 {
-														goto L4
-													}
-													t65 := m.at(uint32((l2 + 0x32)) - 0xfcec0)
-													t63 := binary.LittleEndian.Uint64(t65[0:8])
-													t64 := binary.LittleEndian.Uint64(t65[8:16])
-													t66 := m.at(uint32(l10) - 0xfce20)
-													binary.LittleEndian.PutUint64(t66[0:8], t63)
-													binary.LittleEndian.PutUint64(t66[8:16], t64)
-													t69 := m.at(uint32((l2 + 0x22)) - 0xfcec0)
-													t67 := binary.LittleEndian.Uint64(t69[0:8])
-													t68 := binary.LittleEndian.Uint64(t69[8:16])
-													t70 := m.at(uint32(l10) - 0xfce30)
-													binary.LittleEndian.PutUint64(t70[0:8], t67)
-													binary.LittleEndian.PutUint64(t70[8:16], t68)
-													goto L7
-												}
-											L49:
-												t71 := uint32(m.get8(uint32((l2 + 0x21)) - 0xfcec0))
-												if t71 != 1 {
-													goto L4
-												}
-												t74 := m.at(uint32((l2 + 0x32)) - 0xfcec0)
-												t72 := binary.LittleEndian.Uint64(t74[0:8])
-												t73 := binary.LittleEndian.Uint64(t74[8:16])
-												t75 := m.at(uint32(l10) - 0xfce20)
-												binary.LittleEndian.PutUint64(t75[0:8], t72)
-												binary.LittleEndian.PutUint64(t75[8:16], t73)
-												t78 := m.at(uint32((l2 + 0x22)) - 0xfcec0)
-												t76 := binary.LittleEndian.Uint64(t78[0:8])
-												t77 := binary.LittleEndian.Uint64(t78[8:16])
-												t79 := m.at(uint32(l10) - 0xfce30)
-												binary.LittleEndian.PutUint64(t79[0:8], t76)
-												binary.LittleEndian.PutUint64(t79[8:16], t77)
-												goto L6
-											}
-										L48:
-											t80 := uint32(m.get8(uint32(l2) - 0xfcec0))
-											if t80 == 1 {
-												goto L8
-											}
-											goto L4
-										}
-									L12:
-										t83 := m.at(uint32(l10) - 0xfce40)
-										t81 := binary.LittleEndian.Uint64(t83[0:8])
-										t82 := binary.LittleEndian.Uint64(t83[8:16])
-										t84 := m.at(uint32(l8) - 0xfceb0)
-										binary.LittleEndian.PutUint64(t84[0:8], t81)
-										binary.LittleEndian.PutUint64(t84[8:16], t82)
-										t87 := m.at(uint32(l10) - 0xfce50)
-										t85 := binary.LittleEndian.Uint64(t87[0:8])
-										t86 := binary.LittleEndian.Uint64(t87[8:16])
-										t88 := m.at(uint32(l8) - 0xfcec0)
-										binary.LittleEndian.PutUint64(t88[0:8], t85)
-										binary.LittleEndian.PutUint64(t88[8:16], t86)
-									}
-								L11:
-									l11 = 0x20
-									goto L3
-								}
-							L9:
-								panic("unreachable")
-							}
-						L8:
-							t91 := m.at(uint32((l2 + 0x11)) - 0xfcec0)
-							t89 := binary.LittleEndian.Uint64(t91[0:8])
-							t90 := binary.LittleEndian.Uint64(t91[8:16])
-							t92 := m.at(uint32(l10) - 0xfce20)
-							binary.LittleEndian.PutUint64(t92[0:8], t89)
-							binary.LittleEndian.PutUint64(t92[8:16], t90)
-							t95 := m.at(uint32((l2 + 1)) - 0xfcec0)
-							t93 := binary.LittleEndian.Uint64(t95[0:8])
-							t94 := binary.LittleEndian.Uint64(t95[8:16])
-							t96 := m.at(uint32(l10) - 0xfce30)
-							binary.LittleEndian.PutUint64(t96[0:8], t93)
-							binary.LittleEndian.PutUint64(t96[8:16], t94)
-						}
-					L7:
-						l12 = b2i((l12 & 0xfe) == 4)
-						goto L5
-					}
-				L6:
-					l12 = (uint32(0x1000100) >> ((((l12 + 0xfffffffe) & 0xff) << 3) & 31))
-				}
-			L5:
-				m.put8(uint32(l10)-0xfcdf0, 0)
-				l13a, l13b = 0, 0
-				t97 := m.at(uint32(l10) - 0xfce00)
-				binary.LittleEndian.PutUint64(t97[0:8], l13a)
-				binary.LittleEndian.PutUint64(t97[8:16], l13b)
-				t98 := m.at(uint32(l10) - 0xfce10)
-				binary.LittleEndian.PutUint64(t98[0:8], l13a)
-				binary.LittleEndian.PutUint64(t98[8:16], l13b)
-				t99 := m.get64(uint32((l3 + 0x10)) - 0xfcec0)
-				t100 := m.get64(uint32((l3 + 0x18)) - 0xfcec0)
-				f40(m, (l10 + 0xb0), t99, t100, l12, (l10 + 0x90))
-				t103 := m.at(uint32(l10) - 0xfce0f)
-				t101 := binary.LittleEndian.Uint64(t103[0:8])
-				t102 := binary.LittleEndian.Uint64(t103[8:16])
-				t104 := m.at(uint32(l10) - 0xfceb0)
-				binary.LittleEndian.PutUint64(t104[0:8], t101)
-				binary.LittleEndian.PutUint64(t104[8:16], t102)
-				t107 := m.at(uint32(l10) - 0xfcdff)
-				t105 := binary.LittleEndian.Uint64(t107[0:8])
-				t106 := binary.LittleEndian.Uint64(t107[8:16])
-				t108 := m.at(uint32(l10) - 0xfcea0)
-				binary.LittleEndian.PutUint64(t108[0:8], t105)
-				binary.LittleEndian.PutUint64(t108[8:16], t106)
-				t109 := uint32(m.get8(uint32(l10) - 0xfce10))
-				if t109 != 1 {
-					goto L4
-				}
-				t112 := m.at(uint32(l10) - 0xfcea0)
-				t110 := binary.LittleEndian.Uint64(t112[0:8])
-				t111 := binary.LittleEndian.Uint64(t112[8:16])
-				t113 := m.at(uint32(l10) - 0xfce80)
-				binary.LittleEndian.PutUint64(t113[0:8], t110)
-				binary.LittleEndian.PutUint64(t113[8:16], t111)
-				t116 := m.at(uint32(l10) - 0xfceb0)
-				t114 := binary.LittleEndian.Uint64(t116[0:8])
-				t115 := binary.LittleEndian.Uint64(t116[8:16])
-				t117 := m.at(uint32(l10) - 0xfce90)
-				binary.LittleEndian.PutUint64(t117[0:8], t114)
-				binary.LittleEndian.PutUint64(t117[8:16], t115)
-				t118 := m.at(uint32(l10) - 0xfcde0)
-				binary.LittleEndian.PutUint64(t118[0:8], l13a)
-				binary.LittleEndian.PutUint64(t118[8:16], l13b)
-				t119 := m.at(uint32(l10) - 0xfcdf0)
-				binary.LittleEndian.PutUint64(t119[0:8], l13a)
-				binary.LittleEndian.PutUint64(t119[8:16], l13b)
-				t120 := m.at(uint32(l10) - 0xfce00)
-				binary.LittleEndian.PutUint64(t120[0:8], l13a)
-				binary.LittleEndian.PutUint64(t120[8:16], l13b)
-				t121 := m.at(uint32(l10) - 0xfce10)
-				binary.LittleEndian.PutUint64(t121[0:8], l13a)
-				binary.LittleEndian.PutUint64(t121[8:16], l13b)
-				f41(m, (l10 + 0xb0), l1, (l10 + 0x30), 0x20)
-				m.put8(uint32((l1+0x40))-0xfcec0, 1)
-				l11 = 0
-				m.put64(uint32((l1+0x68))-0xfcec0, 0)
-				t124 := m.at(uint32(l10) - 0xfce00)
-				t122 := binary.LittleEndian.Uint64(t124[0:8])
-				t123 := binary.LittleEndian.Uint64(t124[8:16])
-				t125 := m.at(uint32(l1) - 0xfceb0)
-				binary.LittleEndian.PutUint64(t125[0:8], t122)
-				binary.LittleEndian.PutUint64(t125[8:16], t123)
-				t128 := m.at(uint32(l10) - 0xfce10)
-				t126 := binary.LittleEndian.Uint64(t128[0:8])
-				t127 := binary.LittleEndian.Uint64(t128[8:16])
-				t129 := m.at(uint32(l1) - 0xfcec0)
-				binary.LittleEndian.PutUint64(t129[0:8], t126)
-				binary.LittleEndian.PutUint64(t129[8:16], t127)
-				t132 := m.at(uint32(l10) - 0xfcdf0)
-				t130 := binary.LittleEndian.Uint64(t132[0:8])
-				t131 := binary.LittleEndian.Uint64(t132[8:16])
-				t133 := m.at(uint32((l1 + 0x41)) - 0xfcec0)
-				binary.LittleEndian.PutUint64(t133[0:8], t130)
-				binary.LittleEndian.PutUint64(t133[8:16], t131)
-				t136 := m.at(uint32(l10) - 0xfcde0)
-				t134 := binary.LittleEndian.Uint64(t136[0:8])
-				t135 := binary.LittleEndian.Uint64(t136[8:16])
-				t137 := m.at(uint32((l1 + 0x51)) - 0xfcec0)
-				binary.LittleEndian.PutUint64(t137[0:8], t134)
-				binary.LittleEndian.PutUint64(t137[8:16], t135)
-				goto L3
-			}
-		L4:
-			l12 = 1
-			goto L2
-		}
-	L3:
-		t138 := uint32(m.get8(uint32(l6) - 0xfcec0))
-		l12 = b2i(t138 == 6)
-		t139 := -uint64(b2i(l12 != 0))
-		t140 := (0x20 & t139) | (0 &^ t139)
-		f55(m, l10, l1, l2, l3, (l4 + t140), (l5 - uint64(l12)), (l6 + 4), (l7 + 0xffffffffffffffff), (l8 + l11), (l9 - l11))
-		t141 := uint32(m.get8(uint32(l10) - 0xfcec0))
-		l12 = t141
-		t142 := -uint64(b2i(l12 != 0))
-		t143 := (1 & t142) | (l11 &^ t142)
-		t144 := m.get64(uint32(l10) - 0xfceb8)
-		l11 = (t143 + t144)
-	}
-L2:
-	m.put64(uint32(l0)-0xfceb8, l11)
-	m.put8(uint32(l0)-0xfcec0, uint8(l12))
-	m.g0 = (l10 + 0xf0)
-}
-
-// f56 is noise_handshake::writer::write_part.
-func f56(m *memory, l0 uint64, l1 uint64, l2 uint64, l3 uint64) uint64 {
-	var l4, l5, l6, l7, l8, l9, l10 uint64
-	var l11a, l11b uint64
-	t1 := m.g0
-	l4 = (t1 - 0xa0)
-	m.g0 = l4
-	{
-		{
-			l5 = l4
-			if int64(l5) < 16 {
-				goto L3
-			}
-			{
-				{
-					l4 = (l3 - l1)
-					if l4 >= l2 {
-						goto L5
-					}
-					l6 = 0
-					{
-						if l2 < 0x10 {
-							goto L6
-						}
-						if l4 < 0x10 {
-							goto L6
-						}
-						l4 = l3
-						l7 = l1
-						l6 = (l2 & 0xfffffffffffffff0)
-						l8 = l6
-					L7:
-						{
-							t10 := m.at(uint32(l7) - 0xfcec0)
-							t8 := binary.LittleEndian.Uint64(t10[0:8])
-							t9 := binary.LittleEndian.Uint64(t10[8:16])
-							t11 := m.at(uint32(l4) - 0xfcec0)
-							binary.LittleEndian.PutUint64(t11[0:8], t8)
-							binary.LittleEndian.PutUint64(t11[8:16], t9)
-							l4 = (l4 + 0x10)
-							l7 = (l7 + 0x10)
-							l8 = (l8 + 0xfffffffffffffff0)
-							if l8 != 0 {
-								goto L7
-							}
-						}
-						if l2 == l6 {
-							goto L4
-						}
-					}
-				L6:
-					l4 = l6
-					{
-						l7 = (l2 & 3)
-						if l7 == 0 {
-							goto L12
-						}
-						l4 = l6
-					L13:
-						{
-							t14 := uint32(m.get8(uint32((l1 + l4)) - 0xfcec0))
-							m.put8(uint32((l3+l4))-0xfcec0, uint8(t14))
-							l4 = (l4 + 1)
-							l7 = (l7 + 0xffffffffffffffff)
-							if l7 != 0 {
-								goto L13
-							}
-						}
-					}
-				L12:
-					l9 = l3
-					l10 = l2
-					if (l6 - l2) > 0xfffffffffffffffc {
-						goto L4
-					}
-				L15:
-					{
-						l7 = (l9 + l4)
-						l8 = (l1 + l4)
-						t16 := uint32(m.get8(uint32(l8) - 0xfcec0))
-						m.put8(uint32(l7)-0xfcec0, uint8(t16))
-						t17 := uint32(m.get8(uint32((l8 + 1)) - 0xfcec0))
-						m.put8(uint32((l7+1))-0xfcec0, uint8(t17))
-						t18 := uint32(m.get8(uint32((l8 + 2)) - 0xfcec0))
-						m.put8(uint32((l7+2))-0xfcec0, uint8(t18))
-						t19 := uint32(m.get8(uint32((l8 + 3)) - 0xfcec0))
-						m.put8(uint32((l7+3))-0xfcec0, uint8(t19))
-						l9 = (l9 + 4)
-						l1 = (l1 + 4)
-						l10 = (l10 + 0xfffffffffffffffc)
-						if l4 != l10 {
-							goto L15
-						}
-						goto L4
-					}
-				}
-			L5:
-				if l2 == 0 {
-					goto L4
-				}
-				m.copy(uint32(l3), uint32(l1), uint32(l2))
-			}
-		L4:
-			l11a, l11b = 0, 0
-			t20 := m.at(uint32(l5) - 0xfcec0)
-			binary.LittleEndian.PutUint64(t20[0:8], l11a)
-			binary.LittleEndian.PutUint64(t20[8:16], l11b)
-			l4 = (l0 + 0x20)
-			f12(m, l5, (l0 + 0x40), l4, 0x20, l3, l2)
-			t21 := uint32(m.get8(uint32(l5) - 0xfcec0))
-			if t21 == 0 {
-				goto L2
-			}
-		}
-	L3:
-		panic("unreachable")
-	}
-L2:
-	t22 := m.at(uint32(l5) - 0xfce40)
-	binary.LittleEndian.PutUint64(t22[0:8], l11a)
-	binary.LittleEndian.PutUint64(t22[8:16], l11b)
-	t23 := m.at(uint32(l5) - 0xfce30)
-	binary.LittleEndian.PutUint64(t23[0:8], l11a)
-	binary.LittleEndian.PutUint64(t23[8:16], l11b)
-	t24 := m.get64(uint32(l5) - 0xfceb8)
-	l1 = t24
-	m.fill(uint32(((l5 + 0x10) + 0x20)), 0, 0x48)
-	t25 := m.at(uint32(l5) - 0xfcea0)
-	binary.LittleEndian.PutUint64(t25[0:8], 0x9b05688c510e527f)
-	binary.LittleEndian.PutUint64(t25[8:16], 0x5be0cd191f83d9ab)
-	t26 := m.at(uint32(l5) - 0xfceb0)
-	binary.LittleEndian.PutUint64(t26[0:8], 0xbb67ae856a09e667)
-	binary.LittleEndian.PutUint64(t26[8:16], 0xa54ff53a3c6ef372)
-	f42(m, (l5 + 0x10), l4, 0x20)
-	f42(m, (l5 + 0x10), l3, l1)
-	f43(m, (l5 + 0x80), (l5 + 0x10))
-	t29 := m.at(uint32(l5) - 0xfce30)
-	t27 := binary.LittleEndian.Uint64(t29[0:8])
-	t28 := binary.LittleEndian.Uint64(t29[8:16])
-	t30 := m.at(uint32(l4) - 0xfceb0)
-	binary.LittleEndian.PutUint64(t30[0:8], t27)
-	binary.LittleEndian.PutUint64(t30[8:16], t28)
-	t33 := m.at(uint32(l5) - 0xfce40)
-	t31 := binary.LittleEndian.Uint64(t33[0:8])
-	t32 := binary.LittleEndian.Uint64(t33[8:16])
-	t34 := m.at(uint32(l4) - 0xfcec0)
-	binary.LittleEndian.PutUint64(t34[0:8], t31)
-	binary.LittleEndian.PutUint64(t34[8:16], t32)
-	m.g0 = (l5 + 0xa0)
-	return l1
-}
-
-// f57 is noise_cipher_decrypt.
-func f57(m *memory, l0 uint64, l1 uint64, l2 uint64, l3 uint64, l4 uint64, l5 uint64) uint32 {
-	var l6 uint32
-	{
-		t2 := f0(m)
-		if t2 == 0 {
-			goto L1
-		}
-		f2(m)
-		panic("unreachable")
-	}
-L1:
-	t3 := f58(m, l0, l1, l2, l3, l4, l5)
-	l6 = t3
-	f1(m)
-	return l6
-}
-
-// f58 is rattle::export noise_cipher_decrypt.
-func f58(m *memory, l0 uint64, l1 uint64, l2 uint64, l3 uint64, l4 uint64, l5 uint64) uint32 {
-	var l7 uint32
-	var l6 uint64
-	t1 := m.g0
-	l6 = (t1 - 0x40)
-	m.g0 = l6
-	{
-		{
-			{
-				if int64(l6) < 16 {
-					goto L4
-				}
-				m.put64(uint32(l6)-0xfce90, 0)
-				t5 := m.at(uint32(l6) - 0xfcec0)
-				binary.LittleEndian.PutUint64(t5[0:8], 0)
-				binary.LittleEndian.PutUint64(t5[8:16], 0)
-				{
-					t7 := m.get32(uint32(l0) - 0xfcec0)
-					if t7 == 0x4e6f0901 {
-						goto L6
-					}
-					l7 = 0x17
-					goto L2
-				}
-			L6:
-				{
-					t9 := uint32(m.get8(uint32((l0 + 4)) - 0xfcec0))
-					if t9 == 0 {
-						goto L8
-					}
-					l7 = 0x16
-					goto L2
-				}
-			L8:
-				m.put8(uint32(l6)-0xfceb0, 1)
-				t12 := m.at(uint32((l0 + 5)) - 0xfcec0)
-				t10 := binary.LittleEndian.Uint64(t12[0:8])
-				t11 := binary.LittleEndian.Uint64(t12[8:16])
-				t13 := m.at(uint32(l6) - 0xfceaf)
-				binary.LittleEndian.PutUint64(t13[0:8], t10)
-				binary.LittleEndian.PutUint64(t13[8:16], t11)
-				t16 := m.at(uint32((l0 + 0x15)) - 0xfcec0)
-				t14 := binary.LittleEndian.Uint64(t16[0:8])
-				t15 := binary.LittleEndian.Uint64(t16[8:16])
-				t17 := m.at(uint32(l6) - 0xfce9f)
-				binary.LittleEndian.PutUint64(t17[0:8], t14)
-				binary.LittleEndian.PutUint64(t17[8:16], t15)
-				t18 := m.get64(uint32((l0 + 0x28)) - 0xfcec0)
-				m.put64(uint32(l6)-0xfce88, t18)
-				{
-					if l2 <= 0xffff {
-						goto L19
-					}
-					l7 = 0x18
-					goto L2
-				}
-			L19:
-				t20 := -uint64(b2i(l1 == 0))
-				t21 := (0x1000 & t20) | (0 &^ t20)
-				t22 := -uint64(b2i(l3 == 0))
-				t23 := (0x1000 & t22) | (0 &^ t22)
-				f4(m, l6, (l6 + 0x10), (l1 + t21), l2, (l3 + t23), l4)
-				t24 := uint32(m.get8(uint32(l6) - 0xfcec0))
-				if t24 != 0 {
-					goto L3
-				}
-				m.put64(uint32(l5)-0xfcec0, 0)
-				t25 := m.get64(uint32(l6) - 0xfceb8)
-				m.put64(uint32((l5+8))-0xfcec0, t25)
-				t26 := m.get64(uint32(l6) - 0xfce88)
-				m.put64(uint32((l0+0x28))-0xfcec0, t26)
-				l7 = 0
-				goto L2
-			}
-		L4:
-			panic("unreachable")
-		}
-	L3:
-		t27 := uint64(m.get8(uint32(l6) - 0xfcebf))
-		t28 := m.get32(uint32((t27 << 2)) + 0x412c)
-		l7 = t28
-	}
-L2:
-	m.g0 = (l6 + 0x40)
-	return l7
-}
-
-// f59 is noise_cipher_encrypt.
-func f59(m *memory, l0 uint64, l1 uint64, l2 uint64, l3 uint64, l4 uint64, l5 uint64, l6 uint64) uint32 {
-	var l7 uint32
-	{
-		t2 := f0(m)
-		if t2 == 0 {
-			goto L1
-		}
-		f2(m)
-		panic("unreachable")
-	}
-L1:
-	t3 := f60(m, l0, l1, l2, l3, l4, l5, l6)
-	l7 = t3
-	f1(m)
-	return l7
-}
-
-// f60 is rattle::export noise_cipher_encrypt.
-func f60(m *memory, l0 uint64, l1 uint64, l2 uint64, l3 uint64, l4 uint64, l5 uint64, l6 uint64) uint32 {
-	var l8 uint32
-	var l7 uint64
-	t1 := m.g0
-	l7 = (t1 - 0x40)
-	m.g0 = l7
-	{
-		{
-			{
-				if int64(l7) < 16 {
-					goto L4
-				}
-				m.put64(uint32(l7)-0xfce90, 0)
-				t5 := m.at(uint32(l7) - 0xfcec0)
-				binary.LittleEndian.PutUint64(t5[0:8], 0)
-				binary.LittleEndian.PutUint64(t5[8:16], 0)
-				{
-					t7 := m.get32(uint32(l0) - 0xfcec0)
-					if t7 == 0x4e6f0801 {
-						goto L6
-					}
-					l8 = 0x17
-					goto L2
-				}
-			L6:
-				{
-					t9 := uint32(m.get8(uint32((l0 + 4)) - 0xfcec0))
-					if t9 == 0 {
-						goto L8
-					}
-					l8 = 0x16
-					goto L2
-				}
-			L8:
-				m.put8(uint32(l7)-0xfceb0, 1)
-				t12 := m.at(uint32((l0 + 5)) - 0xfcec0)
-				t10 := binary.LittleEndian.Uint64(t12[0:8])
-				t11 := binary.LittleEndian.Uint64(t12[8:16])
-				t13 := m.at(uint32(l7) - 0xfceaf)
-				binary.LittleEndian.PutUint64(t13[0:8], t10)
-				binary.LittleEndian.PutUint64(t13[8:16], t11)
-				t16 := m.at(uint32((l0 + 0x15)) - 0xfcec0)
-				t14 := binary.LittleEndian.Uint64(t16[0:8])
-				t15 := binary.LittleEndian.Uint64(t16[8:16])
-				t17 := m.at(uint32(l7) - 0xfce9f)
-				binary.LittleEndian.PutUint64(t17[0:8], t14)
-				binary.LittleEndian.PutUint64(t17[8:16], t15)
-				t18 := m.get64(uint32((l0 + 0x28)) - 0xfcec0)
-				m.put64(uint32(l7)-0xfce88, t18)
-				{
-					if l2 <= 0xffff {
-						goto L19
-					}
-					l8 = 0x18
-					goto L2
-				}
-			L19:
-				l8 = 0x12
-				if l4 < 0x10 {
-					goto L2
-				}
-				if (l4 + 0xfffffffffffffff0) < l5 {
-					goto L2
-				}
-				t20 := -uint64(b2i(l1 == 0))
-				t21 := (0x1000 & t20) | (0 &^ t20)
-				t22 := -uint64(b2i(l3 == 0))
-				t23 := (0x1000 & t22) | (0 &^ t22)
-				f12(m, l7, (l7 + 0x10), (l1 + t21), l2, (l3 + t23), l5)
-				t24 := uint32(m.get8(uint32(l7) - 0xfcec0))
-				if t24 != 0 {
-					goto L3
-				}
-				m.put64(uint32(l6)-0xfcec0, 0)
-				t25 := m.get64(uint32(l7) - 0xfceb8)
-				m.put64(uint32((l6+8))-0xfcec0, t25)
-				t26 := m.get64(uint32(l7) - 0xfce88)
-				m.put64(uint32((l0+0x28))-0xfcec0, t26)
-				l8 = 0
-				goto L2
-			}
-		L4:
-			panic("unreachable")
-		}
-	L3:
-		t27 := uint64(m.get8(uint32(l7) - 0xfcebf))
-		t28 := m.get32(uint32((t27 << 2)) + 0x412c)
-		l8 = t28
-	}
-L2:
-	m.g0 = (l7 + 0x40)
-	return l8
-}
-
-// f61 is noise_cipher_nonce.
-func f61(m *memory, l0 uint64, l1 uint64) uint32 {
-	var l2 uint32
-	{
-		t2 := f0(m)
-		if t2 == 0 {
-			goto L1
-		}
-		f2(m)
-		panic("unreachable")
-	}
-L1:
-	t3 := f62(m, l0, l1)
-	l2 = t3
-	f1(m)
-	return l2
-}
-
-// f62 is rattle::export noise_cipher_nonce.
-func f62(m *memory, l0 uint64, l1 uint64) uint32 {
-	{
-		{
-			t3 := m.g0
-			if int64(t3) < 16 {
-				goto L2
-			}
-			{
-				t5 := m.get32(uint32(l0) - 0xfcec0)
-				if (t5 & 0xfffffeff) == 0x4e6f0801 {
-					goto L4
-				}
-				return 0x17
-			}
-		L4:
-			t6 := uint32(m.get8(uint32((l0 + 4)) - 0xfcec0))
-			if t6 == 0 {
-				goto L1
-			}
-			return 0x16
-		}
-	L2:
-		panic("unreachable")
-	}
-L1:
-	t7 := m.get64(uint32((l0 + 0x28)) - 0xfcec0)
-	m.put64(uint32(l1)-0xfcec0, t7)
-	return 0
-}
-
-// f63 is noise_cipher_rekey.
-func f63(m *memory, l0 uint64) uint32 {
-	var l1 uint32
-	{
-		t2 := f0(m)
-		if t2 == 0 {
-			goto L1
-		}
-		f2(m)
-		panic("unreachable")
-	}
-L1:
-	t3 := f64(m, l0)
-	l1 = t3
-	f1(m)
-	return l1
-}
-
-// f64 is rattle::export noise_cipher_rekey.
-func f64(m *memory, l0 uint64) uint32 {
-	var l2 uint32
-	var l1, l3 uint64
-	t1 := m.g0
-	l1 = (t1 - 0x30)
-	m.g0 = l1
-	{
-		if int64(l1) < 16 {
-			goto L2
-		}
-		m.put64(uint32(l1)-0xfcea0, 0)
-		{
-			{
-				t5 := m.get32(uint32(l0) - 0xfcec0)
-				if (t5 & 0xfffffeff) == 0x4e6f0801 {
-					goto L4
-				}
-				l2 = 0x17
-				goto L3
-			}
-		L4:
-			{
-				t7 := uint32(m.get8(uint32((l0 + 4)) - 0xfcec0))
-				if t7 == 0 {
-					goto L6
-				}
-				l2 = 0x16
-				goto L3
-			}
-		L6:
-			l3 = (l0 + 5)
-			t10 := m.at(uint32(l3) - 0xfcec0)
-			t8 := binary.LittleEndian.Uint64(t10[0:8])
-			t9 := binary.LittleEndian.Uint64(t10[8:16])
-			t11 := m.at(uint32(l1) - 0xfcebf)
-			binary.LittleEndian.PutUint64(t11[0:8], t8)
-			binary.LittleEndian.PutUint64(t11[8:16], t9)
-			t14 := m.at(uint32((l0 + 0x15)) - 0xfcec0)
-			t12 := binary.LittleEndian.Uint64(t14[0:8])
-			t13 := binary.LittleEndian.Uint64(t14[8:16])
-			t15 := m.at(uint32(l1) - 0xfceaf)
-			binary.LittleEndian.PutUint64(t15[0:8], t12)
-			binary.LittleEndian.PutUint64(t15[8:16], t13)
-			t16 := m.get64(uint32((l0 + 0x28)) - 0xfcec0)
-			m.put64(uint32(l1)-0xfce98, t16)
-			m.put8(uint32(l1)-0xfcec0, 1)
-			f13(m, l1)
-			l2 = 0
-			t17 := uint32(m.get8(uint32(l1) - 0xfcec0))
-			if t17 != 1 {
-				goto L3
-			}
-			l0 = (l1 | 1)
-			t20 := m.at(uint32(l0) - 0xfceb0)
-			t18 := binary.LittleEndian.Uint64(t20[0:8])
-			t19 := binary.LittleEndian.Uint64(t20[8:16])
-			t21 := m.at(uint32(l3) - 0xfceb0)
-			binary.LittleEndian.PutUint64(t21[0:8], t18)
-			binary.LittleEndian.PutUint64(t21[8:16], t19)
-			t24 := m.at(uint32(l0) - 0xfcec0)
-			t22 := binary.LittleEndian.Uint64(t24[0:8])
-			t23 := binary.LittleEndian.Uint64(t24[8:16])
-			t25 := m.at(uint32(l3) - 0xfcec0)
-			binary.LittleEndian.PutUint64(t25[0:8], t22)
-			binary.LittleEndian.PutUint64(t25[8:16], t23)
-		}
-	L3:
-		m.g0 = (l1 + 0x30)
-		return l2
-	}
-L2:
-	panic("unreachable")
-}
-
-// f65 is noise_cipher_set_nonce.
-func f65(m *memory, l0 uint64, l1 uint64) uint32 {
-	var l2 uint32
-	{
-		t2 := f0(m)
-		if t2 == 0 {
-			goto L1
-		}
-		f2(m)
-		panic("unreachable")
-	}
-L1:
-	t3 := f66(m, l0, l1)
-	l2 = t3
-	f1(m)
-	return l2
-}
-
-// f66 is rattle::export noise_cipher_set_nonce.
-func f66(m *memory, l0 uint64, l1 uint64) uint32 {
-	{
-		{
-			t3 := m.g0
-			if int64(t3) < 16 {
-				goto L2
-			}
-			{
-				t5 := m.get32(uint32(l0) - 0xfcec0)
-				if (t5 & 0xfffffeff) == 0x4e6f0801 {
-					goto L4
-				}
-				return 0x17
-			}
-		L4:
-			t6 := uint32(m.get8(uint32((l0 + 4)) - 0xfcec0))
-			if t6 == 0 {
-				goto L1
-			}
-			return 0x16
-		}
-	L2:
-		panic("unreachable")
-	}
-L1:
-	m.put64(uint32((l0+0x28))-0xfcec0, l1)
-	return 0
-}
-
-// f67 is noise_cipher_size.
-func f67(m *memory) uint64 {
-	{
-		t2 := f0(m)
-		if t2 == 0 {
-			goto L1
-		}
-		f2(m)
-		panic("unreachable")
-	}
-L1:
-	f68(m)
-	f1(m)
-	return 0x30
-}
-
-// f68 is rattle::export noise_cipher_size.
-func f68(m *memory) {
-	{
-		t2 := m.g0
-		if int64(t2) > 15 {
-			goto L1
-		}
-		panic("unreachable")
-	}
-L1:
-}
-
-// f69 is noise_datagram_receiver_size.
-func f69(m *memory) uint64 {
-	{
-		t2 := f0(m)
-		if t2 == 0 {
-			goto L1
-		}
-		f2(m)
-		panic("unreachable")
-	}
-L1:
-	f70(m)
-	f1(m)
-	return 0xc0
-}
-
-// f70 is rattle::export noise_datagram_receiver_size.
-func f70(m *memory) {
-	{
-		t2 := m.g0
-		if int64(t2) > 15 {
-			goto L1
-		}
-		panic("unreachable")
-	}
-L1:
-}
-
-// f71 is noise_datagram_sender_size.
-func f71(m *memory) uint64 {
-	{
-		t2 := f0(m)
-		if t2 == 0 {
-			goto L1
-		}
-		f2(m)
-		panic("unreachable")
-	}
-L1:
-	f72(m)
-	f1(m)
-	return 0x30
-}
-
-// f72 is rattle::export noise_datagram_sender_size.
-func f72(m *memory) {
-	{
-		t2 := m.g0
-		if int64(t2) > 15 {
-			goto L1
-		}
-		panic("unreachable")
-	}
-L1:
-}
-
-// f73 is noise_frame_find.
-func f73(m *memory, l0 uint64, l1 uint64, l2 uint64) uint32 {
-	var l3 uint32
-	{
-		t2 := f0(m)
-		if t2 == 0 {
-			goto L1
-		}
-		f2(m)
-		panic("unreachable")
-	}
-L1:
-	t3 := f74(m, l0, l1, l2)
-	l3 = t3
-	f1(m)
-	return l3
-}
-
-// f74 is rattle::export noise_frame_find.
-func f74(m *memory, l0 uint64, l1 uint64, l2 uint64) uint32 {
-	var l3 uint64
-	{
-		{
-			t3 := m.g0
-			if int64(t3) < 16 {
-				goto L2
-			}
-			l3 = 2
-			{
-				if l1 < 2 {
-					goto L4
-				}
-				t5 := -uint64(b2i(l0 == 0))
-				t6 := (0x1000 & t5) | (0 &^ t5)
-				l3 = (l0 + t6)
-				t7 := uint64(m.get8(uint32(l3) - 0xfcec0))
-				t8 := uint64(m.get8(uint32(l3) - 0xfcebf))
-				l0 = ((t7 << 8) | t8)
-				l3 = (l0 + 2)
-				if l1 >= l3 {
-					goto L1
-				}
-			}
-		L4:
-			m.put64(uint32((l2+0x18))-0xfcec0, (l3 - l1))
-			return 0x2a
-		}
-	L2:
-		panic("unreachable")
-	}
-L1:
-	m.put64(uint32(l2)-0xfcec0, 2)
-	m.put64(uint32((l2+0x10))-0xfcec0, l3)
-	m.put64(uint32((l2+8))-0xfcec0, l0)
-	return 0
-}
-
-// f75 is noise_frame_message.
-func f75(m *memory, l0 uint64, l1 uint64, l2 uint64, l3 uint64) uint32 {
-	var l4 uint32
-	{
-		t2 := f0(m)
-		if t2 == 0 {
-			goto L1
-		}
-		f2(m)
-		panic("unreachable")
-	}
-L1:
-	t3 := f76(m, l0, l1, l2, l3)
-	l4 = t3
-	f1(m)
-	return l4
-}
-
-// f76 is rattle::export noise_frame_message.
-func f76(m *memory, l0 uint64, l1 uint64, l2 uint64, l3 uint64) uint32 {
-	var l4 uint32
-	{
-		t2 := m.g0
-		if int64(t2) < 16 {
-			goto L1
-		}
-		l4 = 0x18
-		{
-			if l2 > 0xffff {
-				goto L3
-			}
-			l4 = 0x12
-			if l1 < 2 {
-				goto L3
-			}
-			if (l1 + 0xfffffffffffffffe) < l2 {
-				goto L3
-			}
-			t4 := -uint64(b2i(l0 == 0))
-			t5 := (0x1000 & t4) | (0 &^ t4)
-			l4 = uint32(l2)
-			m.put16(uint32((l0+t5))-0xfcec0, uint16(((l4 << 8) | ((l4 & 0xff00) >> 8))))
-			m.put64(uint32((l3+8))-0xfcec0, (l2 + 2))
-			l4 = 0
-		}
-	L3:
-		return l4
-	}
-L1:
-	panic("unreachable")
-}
-
-// f77 is noise_handshake_size.
-func f77(m *memory) uint64 {
-	{
-		t2 := f0(m)
-		if t2 == 0 {
-			goto L1
-		}
-		f2(m)
-		panic("unreachable")
-	}
-L1:
-	f78(m)
-	f1(m)
-	return 0x5c0
-}
-
-// f78 is rattle::export noise_handshake_size.
-func f78(m *memory) {
-	{
-		t2 := m.g0
-		if int64(t2) > 15 {
-			goto L1
-		}
-		panic("unreachable")
-	}
-L1:
-}
-
-// f79 is noise_receiver_size.
-func f79(m *memory) uint64 {
-	{
-		t2 := f0(m)
-		if t2 == 0 {
-			goto L1
-		}
-		f2(m)
-		panic("unreachable")
-	}
-L1:
-	f80(m)
-	f1(m)
-	return 0x38
-}
-
-// f80 is rattle::export noise_receiver_size.
-func f80(m *memory) {
-	{
-		t2 := m.g0
-		if int64(t2) > 15 {
-			goto L1
-		}
-		panic("unreachable")
-	}
-L1:
-}
-
-// f81 is noise_sender_size.
-func f81(m *memory) uint64 {
-	{
-		t2 := f0(m)
-		if t2 == 0 {
-			goto L1
-		}
-		f2(m)
-		panic("unreachable")
-	}
-L1:
-	f82(m)
-	f1(m)
-	return 0x38
-}
-
-// f82 is rattle::export noise_sender_size.
-func f82(m *memory) {
-	{
-		t2 := m.g0
-		if int64(t2) > 15 {
-			goto L1
-		}
-		panic("unreachable")
-	}
-L1:
-}
-
-// f83 is noise_stream_receiver_size.
-func f83(m *memory) uint64 {
-	{
-		t2 := f0(m)
-		if t2 == 0 {
-			goto L1
-		}
-		f2(m)
-		panic("unreachable")
-	}
-L1:
-	f84(m)
-	f1(m)
-	return 0x40
-}
-
-// f84 is rattle::export noise_stream_receiver_size.
-func f84(m *memory) {
-	{
-		t2 := m.g0
-		if int64(t2) > 15 {
-			goto L1
-		}
-		panic("unreachable")
-	}
-L1:
-}
-
-// f85 is noise_stream_sender_size.
-func f85(m *memory) uint64 {
-	{
-		t2 := f0(m)
-		if t2 == 0 {
-			goto L1
-		}
-		f2(m)
-		panic("unreachable")
-	}
-L1:
-	f86(m)
-	f1(m)
-	return 0x40
-}
-
-// f86 is rattle::export noise_stream_sender_size.
-func f86(m *memory) {
-	{
-		t2 := m.g0
-		if int64(t2) > 15 {
-			goto L1
-		}
-		panic("unreachable")
-	}
-L1:
-}
-
-// f87 is noise_version.
-func f87(m *memory) uint32 {
-	{
-		t2 := f0(m)
-		if t2 == 0 {
-			goto L1
-		}
-		f2(m)
-		panic("unreachable")
-	}
-L1:
-	f88(m)
-	f1(m)
-	return 0x10000
-}
-
-// f88 is rattle::export noise_version.
-func f88(m *memory) {
-	{
-		t2 := m.g0
-		if int64(t2) > 15 {
-			goto L1
-		}
-		panic("unreachable")
-	}
-L1:
 }

@@ -8,8 +8,1225 @@ import (
 	"encoding/binary"
 )
 
-// f89 is noise_answer.
-func f89(m *memory, l0 uint64, l1 uint32, l2 uint64, l3 uint64) uint32 {
+// f54 is noise_c::split::finished.
+func f54(m *memory, l0 uint64, l1 uint64) {
+	var l5, l6, l8, l9, l10, l11, l12, l13, l14, l15 uint32
+	var l2, l4, l7 uint64
+	var l3a, l3b uint64
+	t1 := m.g0
+	l2 = (t1 - 0x760)
+	m.g0 = l2
+	{
+		{
+			{
+				if int64(l2) < 16 {
+					goto L4
+				}
+				l3a, l3b = 0, 0
+				m.put128q(uint32(l2)-0xfcd98, l3a, l3b)
+				m.put128q(uint32(l2)-0xfcda8, l3a, l3b)
+				m.put128q(uint32(l2)-0xfcdc8, l3a, l3b)
+				m.put128q(uint32(l2)-0xfcdb8, l3a, l3b)
+				m.put32(uint32(l2)-0xfcdd0, 0)
+				m.put8(uint32(l2)-0xfcdcc, 0)
+				m.put128q(uint32(l2)-0xfcdf0, l3a, l3b)
+				m.put128q(uint32(l2)-0xfcde0, l3a, l3b)
+				m.put32(uint32(l2)-0xfcdf8, 0)
+				m.put32(uint32(l2)-0xfcdf5, 0)
+				m.put128q(uint32(l2)-0xfce18, l3a, l3b)
+				m.put128q(uint32(l2)-0xfce08, l3a, l3b)
+				m.put32(uint32(l2)-0xfce20, 0)
+				m.put32(uint32(l2)-0xfce1d, 0)
+				m.put128q(uint32(l2)-0xfce40, l3a, l3b)
+				m.put128q(uint32(l2)-0xfce30, l3a, l3b)
+				m.put128q(uint32(l2)-0xfcea0, l3a, l3b)
+				m.put32(uint32(l2)-0xfceb8, 0)
+				m.put32(uint32(l2)-0xfceb5, 0)
+				m.put128q(uint32(l2)-0xfceb0, l3a, l3b)
+				m.put32(uint32(l2)-0xfce90, 0)
+				m.put32(uint32(l2)-0xfce8d, 0)
+				m.put128q(uint32(l2)-0xfce78, l3a, l3b)
+				m.put128q(uint32(l2)-0xfce88, l3a, l3b)
+				m.put32(uint32(l2)-0xfce68, 0)
+				m.put8(uint32(l2)-0xfce64, 0)
+				m.put128q(uint32(l2)-0xfce50, l3a, l3b)
+				m.put128q(uint32(l2)-0xfce60, l3a, l3b)
+				m.put128q(uint32(l2)-0xfccd0, l3a, l3b)
+				m.put128q(uint32(l2)-0xfccc0, l3a, l3b)
+				m.put128q(uint32(l2)-0xfccf0, l3a, l3b)
+				m.put128q(uint32(l2)-0xfcce0, l3a, l3b)
+				m.put128q(uint32(l2)-0xfcd10, l3a, l3b)
+				m.put128q(uint32(l2)-0xfcd00, l3a, l3b)
+				m.put128q(uint32(l2)-0xfcd30, l3a, l3b)
+				m.put128q(uint32(l2)-0xfcd20, l3a, l3b)
+				m.put8(uint32(l2)-0xfcd34, 0)
+				m.put32(uint32(l2)-0xfcd38, 0)
+				m.put128q(uint32(l2)-0xfcd48, l3a, l3b)
+				m.put128q(uint32(l2)-0xfcd58, l3a, l3b)
+				m.put32(uint32(l2)-0xfcd5d, 0)
+				m.put32(uint32(l2)-0xfcd60, 0)
+				m.put128q(uint32(l2)-0xfcd70, l3a, l3b)
+				m.put128q(uint32(l2)-0xfcd80, l3a, l3b)
+				m.put32(uint32(l2)-0xfcd85, 0)
+				m.put32(uint32(l2)-0xfcd88, 0)
+				m.fill(uint32((l2 + 0x3d8)), 0, 0x368)
+				m.fill(uint32((l2 + 0x2c0)), 0, 0x118)
+				t5 := m.get32(uint32(l1) - 0xfcec0)
+				if t5 != 0x4e6f0101 {
+					goto L3
+				}
+				t6 := uint64(m.get16(uint32((l1 + 0x1a4)) - 0xfcec0))
+				l4 = t6
+				if l4 > 0x1a0 {
+					goto L3
+				}
+				t7 := uint32(m.get8(uint32((l1 + 0x34e)) - 0xfcec0))
+				if t7 > 8 {
+					goto L3
+				}
+				t8 := uint32(m.get8(uint32((l1 + 0x22d)) - 0xfcec0))
+				if t8 > 9 {
+					goto L3
+				}
+				f16(m, (l2 + 0x2c0), (l1 + 4), l4)
+				t9 := uint32(m.get8(uint32(l2) - 0xfcc00))
+				if t9 != 0 {
+					goto L3
+				}
+				f32(m, (l2 + 0x3d8), l1, (l2 + 0x2c8))
+				t10, t11 := m.get128q(uint32(l2) - 0xfc986)
+				m.put128q(uint32(l2)-0xfc780, t10, t11)
+				t12, t13 := m.get128q(uint32(l2) - 0xfc976)
+				m.put128q(uint32(l2)-0xfc770, t12, t13)
+				t14 := uint32(m.get8(uint32(l2) - 0xfc987))
+				l5 = t14
+				t15 := uint32(m.get8(uint32(l2) - 0xfc9b0))
+				l6 = t15
+				t16 := m.get64(uint32(l2) - 0xfc9d8)
+				l4 = t16
+				t17 := uint64(m.get8(uint32(l2) - 0xfc830))
+				l7 = t17
+				t18 := uint32(m.get8(uint32(l2) - 0xfc82f))
+				l8 = t18
+				t19 := uint32(m.get8(uint32(l2) - 0xfcae8))
+				l9 = t19
+				m.copy(uint32((l2 + 0x210)), uint32((l2 + 0x692)), 0xae)
+				if l9 != 1 {
+					goto L3
+				}
+				{
+					{
+						l9 = (l8 | b2i(l4 > l7))
+						if (l9 & 1) != 0 {
+							goto L21
+						}
+						m.put128q(uint32(l2)-0xfcbd0, l3a, l3b)
+						m.put128q(uint32(l2)-0xfcbe0, l3a, l3b)
+						m.put128q(uint32(l2)-0xfcbf0, l3a, l3b)
+						m.put128q(uint32(l2)-0xfcc00, l3a, l3b)
+						m.copy(uint32((l2 + 0x3d8)), uint32((l2 + 0x24e)), 0x70)
+						f42(m, (l2 + 0x2c0), (l2 + 0x3d8), 0x10000f, 0)
+						t22, t23 := m.get128q(uint32(l2) - 0xfcbf0)
+						m.put128q(uint32(l2)-0xfccc0, t22, t23)
+						t24, t25 := m.get128q(uint32(l2) - 0xfcc00)
+						m.put128q(uint32(l2)-0xfccd0, t24, t25)
+						t26, t27 := m.get128q(uint32(l2) - 0xfcbe0)
+						m.put128q(uint32(l2)-0xfccf0, t26, t27)
+						t28, t29 := m.get128q(uint32(l2) - 0xfcbd0)
+						m.put128q(uint32(l2)-0xfcce0, t28, t29)
+						t30, t31 := m.get128q(uint32(l2) - 0xfcc52)
+						m.put128q(uint32(l2)-0xfcd10, t30, t31)
+						t32, t33 := m.get128q(uint32(l2) - 0xfcc42)
+						m.put128q(uint32(l2)-0xfcd00, t32, t33)
+						t34, t35 := m.get128q(uint32(l2) - 0xfc780)
+						m.put128q(uint32(l2)-0xfcd30, t34, t35)
+						t36, t37 := m.get128q(uint32(l2) - 0xfc770)
+						m.put128q(uint32(l2)-0xfcd20, t36, t37)
+						l10 = 0
+						m.put8(uint32(l2)-0xfcd34, 0)
+						m.put32(uint32(l2)-0xfcd38, 0)
+						t38, t39 := m.get128q(uint32(l2) - 0xfccc0)
+						m.put128q(uint32(l2)-0xfcd48, t38, t39)
+						t40, t41 := m.get128q(uint32(l2) - 0xfccd0)
+						m.put128q(uint32(l2)-0xfcd58, t40, t41)
+						m.put32(uint32(l2)-0xfcd5d, 0)
+						m.put32(uint32(l2)-0xfcd60, 0)
+						t42, t43 := m.get128q(uint32(l2) - 0xfcce0)
+						m.put128q(uint32(l2)-0xfcd70, t42, t43)
+						t44, t45 := m.get128q(uint32(l2) - 0xfccf0)
+						m.put128q(uint32(l2)-0xfcd80, t44, t45)
+						m.put32(uint32(l2)-0xfcd85, 0)
+						m.put32(uint32(l2)-0xfcd88, 0)
+						l11 = b2i(l4 == 1)
+						l12 = 1
+						goto L20
+					}
+				L21:
+					t46 := uint32(m.get8(uint32((l1 + 0x1a7)) - 0xfcec0))
+					t47 := -uint32(b2i(t46 != 0))
+					t48 := (0xd & t47) | (0x13 &^ t47)
+					l10 = t48
+					l6 = 0
+					l11 = 0
+					l5 = 0
+					l12 = 0
+				}
+			L20:
+				t49, t50 := m.get128q(uint32(l2) - 0xfcd00)
+				m.put128q(uint32(l2)-0xfce30, t49, t50)
+				t51, t52 := m.get128q(uint32(l2) - 0xfcd10)
+				m.put128q(uint32(l2)-0xfce40, t51, t52)
+				t53, t54 := m.get128q(uint32(l2) - 0xfcd30)
+				m.put128q(uint32(l2)-0xfce60, t53, t54)
+				t55, t56 := m.get128q(uint32(l2) - 0xfcd20)
+				m.put128q(uint32(l2)-0xfce50, t55, t56)
+				t57 := m.get32(uint32(l2) - 0xfcd38)
+				m.put32(uint32(l2)-0xfce68, t57)
+				t58 := uint32(m.get8(uint32(l2) - 0xfcd34))
+				m.put8(uint32(l2)-0xfce64, uint8(t58))
+				t59, t60 := m.get128q(uint32(l2) - 0xfcd58)
+				m.put128q(uint32(l2)-0xfce88, t59, t60)
+				t61, t62 := m.get128q(uint32(l2) - 0xfcd48)
+				m.put128q(uint32(l2)-0xfce78, t61, t62)
+				t63 := m.get32(uint32(l2) - 0xfcd5d)
+				m.put32(uint32(l2)-0xfce8d, t63)
+				t64 := m.get32(uint32(l2) - 0xfcd60)
+				m.put32(uint32(l2)-0xfce90, t64)
+				t65, t66 := m.get128q(uint32(l2) - 0xfcd70)
+				m.put128q(uint32(l2)-0xfcea0, t65, t66)
+				t67, t68 := m.get128q(uint32(l2) - 0xfcd80)
+				m.put128q(uint32(l2)-0xfceb0, t67, t68)
+				t69 := m.get32(uint32(l2) - 0xfcd88)
+				m.put32(uint32(l2)-0xfceb8, t69)
+				t70 := m.get32(uint32(l2) - 0xfcd85)
+				m.put32(uint32(l2)-0xfceb5, t70)
+				l13 = (l9 ^ 1)
+				goto L2
+			}
+		L4:
+			panic("unreachable")
+		}
+	L3:
+		m.put128q(uint32(l2)-0xfce30, l3a, l3b)
+		m.put128q(uint32(l2)-0xfce40, l3a, l3b)
+		m.put128q(uint32(l2)-0xfce60, l3a, l3b)
+		m.put128q(uint32(l2)-0xfce50, l3a, l3b)
+		l13 = 0
+		m.put32(uint32(l2)-0xfce68, 0)
+		m.put8(uint32(l2)-0xfce64, 0)
+		m.put128q(uint32(l2)-0xfce88, l3a, l3b)
+		m.put128q(uint32(l2)-0xfce78, l3a, l3b)
+		m.put32(uint32(l2)-0xfce90, 0)
+		m.put32(uint32(l2)-0xfce8d, 0)
+		m.put128q(uint32(l2)-0xfceb0, l3a, l3b)
+		m.put128q(uint32(l2)-0xfcea0, l3a, l3b)
+		m.put32(uint32(l2)-0xfceb8, 0)
+		m.put32(uint32(l2)-0xfceb5, 0)
+		l10 = 0x17
+		l6 = 0
+		l11 = 0
+		l5 = 0
+		l12 = 0
+	}
+L2:
+	m.put128q(uint32(l2)-0xfcae8, l3a, l3b)
+	m.put128q(uint32(l2)-0xfcad8, l3a, l3b)
+	m.put128q(uint32(l2)-0xfcc00, l3a, l3b)
+	m.put128q(uint32(l2)-0xfcbf0, l3a, l3b)
+	l14 = 0
+	m.put32(uint32(l2)-0xfcd10, 0)
+	m.put8(uint32(l2)-0xfcd0c, 0)
+	m.put128q(uint32(l2)-0xfccb0, l3a, l3b)
+	m.put128q(uint32(l2)-0xfcca0, l3a, l3b)
+	m.put32(uint32(l2)-0xfcccd, 0)
+	m.put32(uint32(l2)-0xfccd0, 0)
+	m.put128q(uint32(l2)-0xfc770, l3a, l3b)
+	m.put128q(uint32(l2)-0xfc780, l3a, l3b)
+	m.put32(uint32(l2)-0xfcced, 0)
+	m.put32(uint32(l2)-0xfccf0, 0)
+	l8 = 0
+	l15 = 0
+	l9 = 0
+	{
+		l13 = (l13 & 1)
+		if l13 == 0 {
+			goto L71
+		}
+		t72, t73 := m.get128q(uint32(l2) - 0xfce30)
+		m.put128q(uint32(l2)-0xfcad8, t72, t73)
+		t74, t75 := m.get128q(uint32(l2) - 0xfce40)
+		m.put128q(uint32(l2)-0xfcae8, t74, t75)
+		t76, t77 := m.get128q(uint32(l2) - 0xfce60)
+		m.put128q(uint32(l2)-0xfcc00, t76, t77)
+		t78, t79 := m.get128q(uint32(l2) - 0xfce50)
+		m.put128q(uint32(l2)-0xfcbf0, t78, t79)
+		t80 := m.get32(uint32(l2) - 0xfce68)
+		m.put32(uint32(l2)-0xfcd10, t80)
+		t81 := uint32(m.get8(uint32(l2) - 0xfce64))
+		m.put8(uint32(l2)-0xfcd0c, uint8(t81))
+		t82, t83 := m.get128q(uint32(l2) - 0xfce88)
+		m.put128q(uint32(l2)-0xfccb0, t82, t83)
+		t84, t85 := m.get128q(uint32(l2) - 0xfce78)
+		m.put128q(uint32(l2)-0xfcca0, t84, t85)
+		t86 := m.get32(uint32(l2) - 0xfce8d)
+		m.put32(uint32(l2)-0xfcccd, t86)
+		t87 := m.get32(uint32(l2) - 0xfce90)
+		m.put32(uint32(l2)-0xfccd0, t87)
+		t88, t89 := m.get128q(uint32(l2) - 0xfcea0)
+		m.put128q(uint32(l2)-0xfc770, t88, t89)
+		t90, t91 := m.get128q(uint32(l2) - 0xfceb0)
+		m.put128q(uint32(l2)-0xfc780, t90, t91)
+		t92 := m.get32(uint32(l2) - 0xfceb8)
+		m.put32(uint32(l2)-0xfccf0, t92)
+		t93 := m.get32(uint32(l2) - 0xfceb5)
+		m.put32(uint32(l2)-0xfcced, t93)
+		l10 = 0
+		l14 = l6
+		l8 = l11
+		l15 = l5
+		l9 = l12
+	}
+L71:
+	t94, t95 := m.get128q(uint32(l2) - 0xfcad8)
+	m.put128q(uint32(l2)-0xfcd98, t94, t95)
+	t96, t97 := m.get128q(uint32(l2) - 0xfcae8)
+	m.put128q(uint32(l2)-0xfcda8, t96, t97)
+	t98, t99 := m.get128q(uint32(l2) - 0xfcc00)
+	m.put128q(uint32(l2)-0xfcdc8, t98, t99)
+	t100, t101 := m.get128q(uint32(l2) - 0xfcbf0)
+	m.put128q(uint32(l2)-0xfcdb8, t100, t101)
+	t102 := m.get32(uint32(l2) - 0xfcd10)
+	m.put32(uint32(l2)-0xfcdd0, t102)
+	t103 := uint32(m.get8(uint32(l2) - 0xfcd0c))
+	m.put8(uint32(l2)-0xfcdcc, uint8(t103))
+	t104, t105 := m.get128q(uint32(l2) - 0xfccb0)
+	m.put128q(uint32(l2)-0xfcdf0, t104, t105)
+	t106, t107 := m.get128q(uint32(l2) - 0xfcca0)
+	m.put128q(uint32(l2)-0xfcde0, t106, t107)
+	t108 := m.get32(uint32(l2) - 0xfcccd)
+	m.put32(uint32(l2)-0xfcdf5, t108)
+	t109 := m.get32(uint32(l2) - 0xfccd0)
+	m.put32(uint32(l2)-0xfcdf8, t109)
+	t110, t111 := m.get128q(uint32(l2) - 0xfc770)
+	m.put128q(uint32(l2)-0xfce08, t110, t111)
+	t112, t113 := m.get128q(uint32(l2) - 0xfc780)
+	m.put128q(uint32(l2)-0xfce18, t112, t113)
+	t114 := m.get32(uint32(l2) - 0xfccf0)
+	m.put32(uint32(l2)-0xfce20, t114)
+	t115 := m.get32(uint32(l2) - 0xfcced)
+	m.put32(uint32(l2)-0xfce1d, t115)
+	{
+		{
+			if l13 == 0 {
+				goto L117
+			}
+			m.put8(uint32((l1+0x1a7))-0xfcec0, 1)
+			m.put128q(uint32((l1+0x598))-0xfcec0, l3a, l3b)
+			m.put128q(uint32((l1+0x5a8))-0xfcec0, l3a, l3b)
+			m.fill(uint32((l1 + 0x22d)), 0, 0x34a)
+			m.put8(uint32((l0+8))-0xfcec0, uint8(l14))
+			m.put64(uint32(l0)-0xfcec0, 0)
+			t118, t119 := m.get128q(uint32(l2) - 0xfcda8)
+			m.put128q(uint32((l0+0xa))-0xfcec0, t118, t119)
+			t120, t121 := m.get128q(uint32(l2) - 0xfcd98)
+			m.put128q(uint32((l0+0x1a))-0xfcec0, t120, t121)
+			t122, t123 := m.get128q(uint32(l2) - 0xfcdc8)
+			m.put128q(uint32((l0+0x2b))-0xfcec0, t122, t123)
+			t124, t125 := m.get128q(uint32(l2) - 0xfcdb8)
+			m.put128q(uint32((l0+0x3b))-0xfcec0, t124, t125)
+			t126 := uint32(m.get8(uint32(l2) - 0xfcdcc))
+			m.put8(uint32((l0+0x4f))-0xfcec0, uint8(t126))
+			t127 := m.get32(uint32(l2) - 0xfcdd0)
+			m.put32(uint32((l0+0x4b))-0xfcec0, t127)
+			t128, t129 := m.get128q(uint32(l2) - 0xfcdf0)
+			m.put128q(uint32((l0+0x51))-0xfcec0, t128, t129)
+			t130, t131 := m.get128q(uint32(l2) - 0xfcde0)
+			m.put128q(uint32((l0+0x61))-0xfcec0, t130, t131)
+			t132 := m.get32(uint32(l2) - 0xfcdf5)
+			m.put32(uint32((l0+0x74))-0xfcec0, t132)
+			t133 := m.get32(uint32(l2) - 0xfcdf8)
+			m.put32(uint32((l0+0x71))-0xfcec0, t133)
+			t134, t135 := m.get128q(uint32(l2) - 0xfce18)
+			m.put128q(uint32((l0+0x81))-0xfcec0, t134, t135)
+			t136, t137 := m.get128q(uint32(l2) - 0xfce08)
+			m.put128q(uint32((l0+0x91))-0xfcec0, t136, t137)
+			t138 := m.get32(uint32(l2) - 0xfce20)
+			m.put32(uint32((l0+0xa1))-0xfcec0, t138)
+			t139 := m.get32(uint32(l2) - 0xfce1d)
+			m.put32(uint32((l0+0xa4))-0xfcec0, t139)
+			goto L116
+		}
+	L117:
+		m.put32(uint32(l0)-0xfcec0, 1)
+		l8 = 0
+		m.put8(uint32((l0+8))-0xfcec0, 0)
+		m.put32(uint32((l0+4))-0xfcec0, l10)
+		m.put128q(uint32((l0+0xa))-0xfcec0, l3a, l3b)
+		m.put128q(uint32((l0+0x1a))-0xfcec0, l3a, l3b)
+		m.put128q(uint32((l0+0x2b))-0xfcec0, l3a, l3b)
+		m.put128q(uint32((l0+0x3b))-0xfcec0, l3a, l3b)
+		m.put64(uint32((l0+0x48))-0xfcec0, 0)
+		m.put128q(uint32((l0+0x51))-0xfcec0, l3a, l3b)
+		m.put128q(uint32((l0+0x61))-0xfcec0, l3a, l3b)
+		m.put64(uint32((l0+0x70))-0xfcec0, 0)
+		m.put128q(uint32((l0+0x91))-0xfcec0, l3a, l3b)
+		m.put128q(uint32((l0+0x81))-0xfcec0, l3a, l3b)
+		m.put64(uint32((l0+0xa0))-0xfcec0, 0)
+		l15 = 0
+		l9 = 0
+	}
+L116:
+	m.put64(uint32((l0+0xa8))-0xfcec0, 0)
+	m.put8(uint32((l0+0x80))-0xfcec0, uint8(l9))
+	m.put64(uint32((l0+0x78))-0xfcec0, 0)
+	m.put8(uint32((l0+0x50))-0xfcec0, uint8(l9))
+	m.put8(uint32((l0+0x2a))-0xfcec0, uint8(l15))
+	m.put8(uint32((l0+9))-0xfcec0, uint8(l8))
+	m.g0 = (l2 + 0x760)
+}
+
+// f55 is noise_handshake::writer::write_lacking::<#9bbb2dae5a99aff0>.
+func f55(m *memory, l0 uint64, l1 uint64, l2 uint64, l3 uint64, l4 uint64, l5 uint64, l6 uint64) {
+	var l9, l10 uint32
+	var l7 uint64
+	var l8a, l8b uint64
+	t1 := m.g0
+	l7 = (t1 - 0x70)
+	m.g0 = l7
+	{
+		{
+			{
+				{
+					{
+						{
+							{
+								if int64(l7) < 16 {
+									goto L8
+								}
+								m.put16(uint32(l7)-0xfcea0, 0)
+								l8a, l8b = 0, 0
+								t9 := m.at(uint32(l7) - 0xfceb0)
+								binary.LittleEndian.PutUint64(t9[0:8], l8a)
+								binary.LittleEndian.PutUint64(t9[8:16], l8b)
+								t10 := m.at(uint32(l7) - 0xfcec0)
+								binary.LittleEndian.PutUint64(t10[0:8], l8a)
+								binary.LittleEndian.PutUint64(t10[8:16], l8b)
+								{
+									{
+										{
+											if l6 == 0 {
+												goto L13
+											}
+											{
+												t15 := uint32(m.get8(uint32(l5) - 0xfcec0))
+												l9 = t15
+												switch l9 {
+												case 2, 3, 4, 5:
+													goto L14
+												case 1:
+													goto L12
+												case 6:
+													goto L5
+												}
+												goto L11
+											}
+										L14:
+											{
+												{
+													{
+														{
+															{
+																t21 := uint32(m.get8(uint32((l2 + 0x20)) - 0xfcec0))
+																if t21 != 0 {
+																	goto L20
+																}
+																switch l9 + 0xfffffffe {
+																case 1, 3:
+																	goto L19
+																}
+																goto L17
+															}
+														L20:
+															if (l9 & 0xfe) == 4 {
+																goto L18
+															}
+															t22 := uint32(m.get8(uint32(l1) - 0xfcec0))
+															if t22 != 1 {
+																goto L4
+															}
+															t25 := m.at(uint32((l1 + 0x11)) - 0xfcec0)
+															t23 := binary.LittleEndian.Uint64(t25[0:8])
+															t24 := binary.LittleEndian.Uint64(t25[8:16])
+															t26 := m.at(uint32(l7) - 0xfce88)
+															binary.LittleEndian.PutUint64(t26[0:8], t23)
+															binary.LittleEndian.PutUint64(t26[8:16], t24)
+															t29 := m.at(uint32((l1 + 1)) - 0xfcec0)
+															t27 := binary.LittleEndian.Uint64(t29[0:8])
+															t28 := binary.LittleEndian.Uint64(t29[8:16])
+															t30 := m.at(uint32(l7) - 0xfce98)
+															binary.LittleEndian.PutUint64(t30[0:8], t27)
+															binary.LittleEndian.PutUint64(t30[8:16], t28)
+															goto L7
+														}
+													L19:
+														t31 := uint32(m.get8(uint32((l1 + 0x21)) - 0xfcec0))
+														if t31 != 1 {
+															goto L4
+														}
+														t34 := m.at(uint32((l1 + 0x32)) - 0xfcec0)
+														t32 := binary.LittleEndian.Uint64(t34[0:8])
+														t33 := binary.LittleEndian.Uint64(t34[8:16])
+														t35 := m.at(uint32(l7) - 0xfce88)
+														binary.LittleEndian.PutUint64(t35[0:8], t32)
+														binary.LittleEndian.PutUint64(t35[8:16], t33)
+														t38 := m.at(uint32((l1 + 0x22)) - 0xfcec0)
+														t36 := binary.LittleEndian.Uint64(t38[0:8])
+														t37 := binary.LittleEndian.Uint64(t38[8:16])
+														t39 := m.at(uint32(l7) - 0xfce98)
+														binary.LittleEndian.PutUint64(t39[0:8], t36)
+														binary.LittleEndian.PutUint64(t39[8:16], t37)
+														goto L16
+													}
+												L18:
+													t40 := uint32(m.get8(uint32((l1 + 0x21)) - 0xfcec0))
+													if t40 != 1 {
+														goto L4
+													}
+													t43 := m.at(uint32((l1 + 0x32)) - 0xfcec0)
+													t41 := binary.LittleEndian.Uint64(t43[0:8])
+													t42 := binary.LittleEndian.Uint64(t43[8:16])
+													t44 := m.at(uint32(l7) - 0xfce88)
+													binary.LittleEndian.PutUint64(t44[0:8], t41)
+													binary.LittleEndian.PutUint64(t44[8:16], t42)
+													t47 := m.at(uint32((l1 + 0x22)) - 0xfcec0)
+													t45 := binary.LittleEndian.Uint64(t47[0:8])
+													t46 := binary.LittleEndian.Uint64(t47[8:16])
+													t48 := m.at(uint32(l7) - 0xfce98)
+													binary.LittleEndian.PutUint64(t48[0:8], t45)
+													binary.LittleEndian.PutUint64(t48[8:16], t46)
+													goto L7
+												}
+											L17:
+												t49 := uint32(m.get8(uint32(l1) - 0xfcec0))
+												if t49 != 1 {
+													goto L4
+												}
+												t52 := m.at(uint32((l1 + 0x11)) - 0xfcec0)
+												t50 := binary.LittleEndian.Uint64(t52[0:8])
+												t51 := binary.LittleEndian.Uint64(t52[8:16])
+												t53 := m.at(uint32(l7) - 0xfce88)
+												binary.LittleEndian.PutUint64(t53[0:8], t50)
+												binary.LittleEndian.PutUint64(t53[8:16], t51)
+												t56 := m.at(uint32((l1 + 1)) - 0xfcec0)
+												t54 := binary.LittleEndian.Uint64(t56[0:8])
+												t55 := binary.LittleEndian.Uint64(t56[8:16])
+												t57 := m.at(uint32(l7) - 0xfce98)
+												binary.LittleEndian.PutUint64(t57[0:8], t54)
+												binary.LittleEndian.PutUint64(t57[8:16], t55)
+											}
+										L16:
+											l10 = b2i((l9 & 0xfe) == 4)
+											goto L6
+										}
+									L13:
+										m.put16(uint32(l0)-0xfcea0, 0)
+										t58 := m.at(uint32(l0) - 0xfceb0)
+										binary.LittleEndian.PutUint64(t58[0:8], l8a)
+										binary.LittleEndian.PutUint64(t58[8:16], l8b)
+										t59 := m.at(uint32(l0) - 0xfcec0)
+										binary.LittleEndian.PutUint64(t59[0:8], l8a)
+										binary.LittleEndian.PutUint64(t59[8:16], l8b)
+										goto L2
+									}
+								L12:
+									t60 := m.get64(uint32((l2 + 8)) - 0xfcec0)
+									t61 := uint32(m.get8(uint32(t60) - 0xfcec0))
+									if t61 == 0 {
+										goto L4
+									}
+									goto L5
+								}
+							L11:
+								t62 := m.get64(uint32(l2) - 0xfcec0)
+								t63 := uint32(m.get8(uint32(t62) - 0xfcec0))
+								if t63 != 0 {
+									goto L5
+								}
+								goto L4
+							}
+						L8:
+							panic("unreachable")
+						}
+					L7:
+						l10 = (uint32(0x1000100) >> ((((l9 + 0xfffffffe) & 0xff) << 3) & 31))
+					}
+				L6:
+					m.put8(uint32(l7)-0xfce58, 0)
+					t64 := m.at(uint32(l7) - 0xfce68)
+					binary.LittleEndian.PutUint64(t64[0:8], l8a)
+					binary.LittleEndian.PutUint64(t64[8:16], l8b)
+					t65 := m.at(uint32(l7) - 0xfce78)
+					binary.LittleEndian.PutUint64(t65[0:8], l8a)
+					binary.LittleEndian.PutUint64(t65[8:16], l8b)
+					t66 := m.get64(uint32((l2 + 0x10)) - 0xfcec0)
+					t67 := m.get64(uint32((l2 + 0x18)) - 0xfcec0)
+					f41(m, (l7 + 0x48), t66, t67, l10, (l7 + 0x28))
+					t68 := uint32(m.get8(uint32(l7) - 0xfce78))
+					if t68 != 1 {
+						goto L4
+					}
+				}
+			L5:
+				l9 = b2i(l9 == 6)
+				t69 := -uint64(b2i(l9 != 0))
+				t70 := (0x20 & t69) | (0 &^ t69)
+				f55(m, l7, l1, l2, (l3 + t70), (l4 - uint64(l9)), (l5 + 4), (l6 + 0xffffffffffffffff))
+				t71 := uint32(m.get8(uint32(l7) - 0xfcec0))
+				l9 = t71
+				goto L3
+			}
+		L4:
+			{
+				{
+					{
+						{
+							{
+								t77 := uint32(m.get8(uint32((l2 + 0x20)) - 0xfcec0))
+								if t77 != 0 {
+									goto L76
+								}
+								if ((uint32(1) << (l9 & 31)) & 0x17) == 0 {
+									goto L75
+								}
+								t80 := m.at(uint32((l1 + 1)) - 0xfcec0)
+								t78 := binary.LittleEndian.Uint64(t80[0:8])
+								t79 := binary.LittleEndian.Uint64(t80[8:16])
+								t81 := m.at(uint32(l7) - 0xfce78)
+								binary.LittleEndian.PutUint64(t81[0:8], t78)
+								binary.LittleEndian.PutUint64(t81[8:16], t79)
+								t84 := m.at(uint32((l1 + 0x11)) - 0xfcec0)
+								t82 := binary.LittleEndian.Uint64(t84[0:8])
+								t83 := binary.LittleEndian.Uint64(t84[8:16])
+								t85 := m.at(uint32(l7) - 0xfce68)
+								binary.LittleEndian.PutUint64(t85[0:8], t82)
+								binary.LittleEndian.PutUint64(t85[8:16], t83)
+								t86 := uint32(m.get8(uint32(l1) - 0xfcec0))
+								if t86 != 1 {
+									goto L74
+								}
+								goto L73
+							}
+						L76:
+							{
+								{
+									if (l9 & 0xfe) == 4 {
+										goto L88
+									}
+									t91 := m.at(uint32((l1 + 1)) - 0xfcec0)
+									t89 := binary.LittleEndian.Uint64(t91[0:8])
+									t90 := binary.LittleEndian.Uint64(t91[8:16])
+									t92 := m.at(uint32(l7) - 0xfce78)
+									binary.LittleEndian.PutUint64(t92[0:8], t89)
+									binary.LittleEndian.PutUint64(t92[8:16], t90)
+									t95 := m.at(uint32((l1 + 0x11)) - 0xfcec0)
+									t93 := binary.LittleEndian.Uint64(t95[0:8])
+									t94 := binary.LittleEndian.Uint64(t95[8:16])
+									t96 := m.at(uint32(l7) - 0xfce68)
+									binary.LittleEndian.PutUint64(t96[0:8], t93)
+									binary.LittleEndian.PutUint64(t96[8:16], t94)
+									t97 := uint32(m.get8(uint32(l1) - 0xfcec0))
+									if t97 == 1 {
+										goto L87
+									}
+									goto L74
+								}
+							L88:
+								t100 := m.at(uint32((l1 + 0x22)) - 0xfcec0)
+								t98 := binary.LittleEndian.Uint64(t100[0:8])
+								t99 := binary.LittleEndian.Uint64(t100[8:16])
+								t101 := m.at(uint32(l7) - 0xfce78)
+								binary.LittleEndian.PutUint64(t101[0:8], t98)
+								binary.LittleEndian.PutUint64(t101[8:16], t99)
+								t104 := m.at(uint32((l1 + 0x32)) - 0xfcec0)
+								t102 := binary.LittleEndian.Uint64(t104[0:8])
+								t103 := binary.LittleEndian.Uint64(t104[8:16])
+								t105 := m.at(uint32(l7) - 0xfce68)
+								binary.LittleEndian.PutUint64(t105[0:8], t102)
+								binary.LittleEndian.PutUint64(t105[8:16], t103)
+								t106 := uint32(m.get8(uint32((l1 + 0x21)) - 0xfcec0))
+								if t106 != 1 {
+									goto L74
+								}
+							}
+						L87:
+							l9 = uint32((uint64(0x10001000000) >> ((uint64(l9) << 3) & 63)))
+							goto L72
+						}
+					L75:
+						t109 := m.at(uint32((l1 + 0x22)) - 0xfcec0)
+						t107 := binary.LittleEndian.Uint64(t109[0:8])
+						t108 := binary.LittleEndian.Uint64(t109[8:16])
+						t110 := m.at(uint32(l7) - 0xfce78)
+						binary.LittleEndian.PutUint64(t110[0:8], t107)
+						binary.LittleEndian.PutUint64(t110[8:16], t108)
+						t113 := m.at(uint32((l1 + 0x32)) - 0xfcec0)
+						t111 := binary.LittleEndian.Uint64(t113[0:8])
+						t112 := binary.LittleEndian.Uint64(t113[8:16])
+						t114 := m.at(uint32(l7) - 0xfce68)
+						binary.LittleEndian.PutUint64(t114[0:8], t111)
+						binary.LittleEndian.PutUint64(t114[8:16], t112)
+						t115 := uint32(m.get8(uint32((l1 + 0x21)) - 0xfcec0))
+						if t115 == 1 {
+							goto L73
+						}
+					}
+				L74:
+					l9 = 0
+					m.put16(uint32(l7)-0xfcea0, 0)
+					t116 := m.at(uint32(l7) - 0xfceb0)
+					binary.LittleEndian.PutUint64(t116[0:8], l8a)
+					binary.LittleEndian.PutUint64(t116[8:16], l8b)
+					t117 := m.at(uint32(l7) - 0xfcec0)
+					binary.LittleEndian.PutUint64(t117[0:8], l8a)
+					binary.LittleEndian.PutUint64(t117[8:16], l8b)
+					goto L3
+				}
+			L73:
+				l9 = b2i((l9 & 0xfe) == 4)
+			}
+		L72:
+			m.put8(uint32(l7)-0xfcebf, uint8(l9))
+			t120 := m.at(uint32(l7) - 0xfce78)
+			t118 := binary.LittleEndian.Uint64(t120[0:8])
+			t119 := binary.LittleEndian.Uint64(t120[8:16])
+			t121 := m.at(uint32(l7) - 0xfcebe)
+			binary.LittleEndian.PutUint64(t121[0:8], t118)
+			binary.LittleEndian.PutUint64(t121[8:16], t119)
+			t124 := m.at(uint32(l7) - 0xfce68)
+			t122 := binary.LittleEndian.Uint64(t124[0:8])
+			t123 := binary.LittleEndian.Uint64(t124[8:16])
+			t125 := m.at(uint32(l7) - 0xfceae)
+			binary.LittleEndian.PutUint64(t125[0:8], t122)
+			binary.LittleEndian.PutUint64(t125[8:16], t123)
+			l9 = 1
+		}
+	L3:
+		m.put8(uint32(l0)-0xfcec0, uint8(l9))
+		t128 := m.at(uint32(l7) - 0xfcebf)
+		t126 := binary.LittleEndian.Uint64(t128[0:8])
+		t127 := binary.LittleEndian.Uint64(t128[8:16])
+		t129 := m.at(uint32((l0 + 1)) - 0xfcec0)
+		binary.LittleEndian.PutUint64(t129[0:8], t126)
+		binary.LittleEndian.PutUint64(t129[8:16], t127)
+		t132 := m.at(uint32(l7) - 0xfceaf)
+		t130 := binary.LittleEndian.Uint64(t132[0:8])
+		t131 := binary.LittleEndian.Uint64(t132[8:16])
+		t133 := m.at(uint32((l0 + 0x11)) - 0xfcec0)
+		binary.LittleEndian.PutUint64(t133[0:8], t130)
+		binary.LittleEndian.PutUint64(t133[8:16], t131)
+		t134 := uint32(m.get8(uint32(l7) - 0xfce9f))
+		m.put8(uint32((l0+0x21))-0xfcec0, uint8(t134))
+	}
+L2:
+	m.g0 = (l7 + 0x70)
+}
+
+// f56 is noise_handshake::writer::write_tokens::<#3dfcfe118667ed30>.
+func f56(m *memory, l0 uint64, l1 uint64, l2 uint64, l3 uint64, l4 uint64, l5 uint64, l6 uint64, l7 uint64, l8 uint64, l9 uint64) {
+	var l12 uint32
+	var l10, l11 uint64
+	var l13a, l13b uint64
+	t1 := m.g0
+	l10 = (t1 - 0xf0)
+	m.g0 = l10
+	{
+		{
+			{
+				{
+					{
+						{
+							{
+								{
+									if int64(l10) < 16 {
+										goto L9
+									}
+									l11 = 0
+									{
+										if !(l7 == 0) {
+											goto L10
+										}
+										l12 = 0
+										goto L2
+									}
+								L10:
+									{
+										{
+											{
+												{
+													{
+														{
+															t17 := uint32(m.get8(uint32(l6) - 0xfcec0))
+															l12 = t17
+															switch l12 {
+															case 1:
+																goto L15
+															case 6:
+																goto L14
+															case 2, 3, 4, 5:
+																goto L13
+															}
+															goto L16
+														}
+													L16:
+														t18 := m.get64(uint32(l3) - 0xfcec0)
+														l11 = t18
+														t19 := uint32(m.get8(uint32(l11) - 0xfcec0))
+														if t19 == 0 {
+															goto L9
+														}
+														t22 := m.at(uint32((l11 + 0x11)) - 0xfcec0)
+														t20 := binary.LittleEndian.Uint64(t22[0:8])
+														t21 := binary.LittleEndian.Uint64(t22[8:16])
+														t23 := m.at(uint32(l10) - 0xfce40)
+														binary.LittleEndian.PutUint64(t23[0:8], t20)
+														binary.LittleEndian.PutUint64(t23[8:16], t21)
+														t26 := m.at(uint32((l11 + 1)) - 0xfcec0)
+														t24 := binary.LittleEndian.Uint64(t26[0:8])
+														t25 := binary.LittleEndian.Uint64(t26[8:16])
+														t27 := m.at(uint32(l10) - 0xfce50)
+														binary.LittleEndian.PutUint64(t27[0:8], t24)
+														binary.LittleEndian.PutUint64(t27[8:16], t25)
+														t28 := uint32(m.get8(uint32((l3 + 0x21)) - 0xfcec0))
+														f39(m, l1, t28, (l10 + 0x70))
+														if (l8 - (l10 + 0x70)) > 0x1f {
+															goto L12
+														}
+														t31 := m.at(uint32(l10) - 0xfce50)
+														t29 := binary.LittleEndian.Uint64(t31[0:8])
+														t30 := binary.LittleEndian.Uint64(t31[8:16])
+														t32 := m.at(uint32(l8) - 0xfcec0)
+														binary.LittleEndian.PutUint64(t32[0:8], t29)
+														binary.LittleEndian.PutUint64(t32[8:16], t30)
+														t35 := m.at(uint32(l10) - 0xfce40)
+														t33 := binary.LittleEndian.Uint64(t35[0:8])
+														t34 := binary.LittleEndian.Uint64(t35[8:16])
+														t36 := m.at(uint32(l8) - 0xfceb0)
+														binary.LittleEndian.PutUint64(t36[0:8], t33)
+														binary.LittleEndian.PutUint64(t36[8:16], t34)
+														goto L11
+													}
+												L15:
+													t37 := m.get64(uint32((l3 + 8)) - 0xfcec0)
+													l11 = t37
+													t38 := uint32(m.get8(uint32(l11) - 0xfcec0))
+													if t38 == 0 {
+														goto L9
+													}
+													t41 := m.at(uint32((l11 + 0x11)) - 0xfcec0)
+													t39 := binary.LittleEndian.Uint64(t41[0:8])
+													t40 := binary.LittleEndian.Uint64(t41[8:16])
+													t42 := m.at(uint32(l10) - 0xfce60)
+													binary.LittleEndian.PutUint64(t42[0:8], t39)
+													binary.LittleEndian.PutUint64(t42[8:16], t40)
+													t45 := m.at(uint32((l11 + 1)) - 0xfcec0)
+													t43 := binary.LittleEndian.Uint64(t45[0:8])
+													t44 := binary.LittleEndian.Uint64(t45[8:16])
+													t46 := m.at(uint32(l10) - 0xfce70)
+													binary.LittleEndian.PutUint64(t46[0:8], t43)
+													binary.LittleEndian.PutUint64(t46[8:16], t44)
+													t47 := f57(m, l1, (l10 + 0x50), 0x20, l8)
+													l11 = t47
+													goto L3
+												}
+											L14:
+												f40(m, l1, l4)
+												l11 = 0
+												goto L3
+											}
+										L13:
+											{
+												{
+													{
+														{
+															t52 := uint32(m.get8(uint32((l3 + 0x20)) - 0xfcec0))
+															if t52 != 0 {
+																goto L51
+															}
+															switch l12 + 0xfffffffe {
+															case 1, 3:
+																goto L50
+															}
+															goto L48
+														}
+													L51:
+														if (l12 & 0xfe) == 4 {
+															goto L49
+														}
+														t53 := uint32(m.get8(uint32(l2) - 0xfcec0))
+														if t53 != 1 {
+															goto L4
+														}
+														t56 := m.at(uint32((l2 + 0x11)) - 0xfcec0)
+														t54 := binary.LittleEndian.Uint64(t56[0:8])
+														t55 := binary.LittleEndian.Uint64(t56[8:16])
+														t57 := m.at(uint32(l10) - 0xfce20)
+														binary.LittleEndian.PutUint64(t57[0:8], t54)
+														binary.LittleEndian.PutUint64(t57[8:16], t55)
+														t60 := m.at(uint32((l2 + 1)) - 0xfcec0)
+														t58 := binary.LittleEndian.Uint64(t60[0:8])
+														t59 := binary.LittleEndian.Uint64(t60[8:16])
+														t61 := m.at(uint32(l10) - 0xfce30)
+														binary.LittleEndian.PutUint64(t61[0:8], t58)
+														binary.LittleEndian.PutUint64(t61[8:16], t59)
+														goto L6
+													}
+												L50:
+													t62 := uint32(m.get8(uint32((l2 + 0x21)) - 0xfcec0))
+													if t62 != 1 {
+														goto L4
+													}
+													t65 := m.at(uint32((l2 + 0x32)) - 0xfcec0)
+													t63 := binary.LittleEndian.Uint64(t65[0:8])
+													t64 := binary.LittleEndian.Uint64(t65[8:16])
+													t66 := m.at(uint32(l10) - 0xfce20)
+													binary.LittleEndian.PutUint64(t66[0:8], t63)
+													binary.LittleEndian.PutUint64(t66[8:16], t64)
+													t69 := m.at(uint32((l2 + 0x22)) - 0xfcec0)
+													t67 := binary.LittleEndian.Uint64(t69[0:8])
+													t68 := binary.LittleEndian.Uint64(t69[8:16])
+													t70 := m.at(uint32(l10) - 0xfce30)
+													binary.LittleEndian.PutUint64(t70[0:8], t67)
+													binary.LittleEndian.PutUint64(t70[8:16], t68)
+													goto L7
+												}
+											L49:
+												t71 := uint32(m.get8(uint32((l2 + 0x21)) - 0xfcec0))
+												if t71 != 1 {
+													goto L4
+												}
+												t74 := m.at(uint32((l2 + 0x32)) - 0xfcec0)
+												t72 := binary.LittleEndian.Uint64(t74[0:8])
+												t73 := binary.LittleEndian.Uint64(t74[8:16])
+												t75 := m.at(uint32(l10) - 0xfce20)
+												binary.LittleEndian.PutUint64(t75[0:8], t72)
+												binary.LittleEndian.PutUint64(t75[8:16], t73)
+												t78 := m.at(uint32((l2 + 0x22)) - 0xfcec0)
+												t76 := binary.LittleEndian.Uint64(t78[0:8])
+												t77 := binary.LittleEndian.Uint64(t78[8:16])
+												t79 := m.at(uint32(l10) - 0xfce30)
+												binary.LittleEndian.PutUint64(t79[0:8], t76)
+												binary.LittleEndian.PutUint64(t79[8:16], t77)
+												goto L6
+											}
+										L48:
+											t80 := uint32(m.get8(uint32(l2) - 0xfcec0))
+											if t80 == 1 {
+												goto L8
+											}
+											goto L4
+										}
+									L12:
+										t83 := m.at(uint32(l10) - 0xfce40)
+										t81 := binary.LittleEndian.Uint64(t83[0:8])
+										t82 := binary.LittleEndian.Uint64(t83[8:16])
+										t84 := m.at(uint32(l8) - 0xfceb0)
+										binary.LittleEndian.PutUint64(t84[0:8], t81)
+										binary.LittleEndian.PutUint64(t84[8:16], t82)
+										t87 := m.at(uint32(l10) - 0xfce50)
+										t85 := binary.LittleEndian.Uint64(t87[0:8])
+										t86 := binary.LittleEndian.Uint64(t87[8:16])
+										t88 := m.at(uint32(l8) - 0xfcec0)
+										binary.LittleEndian.PutUint64(t88[0:8], t85)
+										binary.LittleEndian.PutUint64(t88[8:16], t86)
+									}
+								L11:
+									l11 = 0x20
+									goto L3
+								}
+							L9:
+								panic("unreachable")
+							}
+						L8:
+							t91 := m.at(uint32((l2 + 0x11)) - 0xfcec0)
+							t89 := binary.LittleEndian.Uint64(t91[0:8])
+							t90 := binary.LittleEndian.Uint64(t91[8:16])
+							t92 := m.at(uint32(l10) - 0xfce20)
+							binary.LittleEndian.PutUint64(t92[0:8], t89)
+							binary.LittleEndian.PutUint64(t92[8:16], t90)
+							t95 := m.at(uint32((l2 + 1)) - 0xfcec0)
+							t93 := binary.LittleEndian.Uint64(t95[0:8])
+							t94 := binary.LittleEndian.Uint64(t95[8:16])
+							t96 := m.at(uint32(l10) - 0xfce30)
+							binary.LittleEndian.PutUint64(t96[0:8], t93)
+							binary.LittleEndian.PutUint64(t96[8:16], t94)
+						}
+					L7:
+						l12 = b2i((l12 & 0xfe) == 4)
+						goto L5
+					}
+				L6:
+					l12 = (uint32(0x1000100) >> ((((l12 + 0xfffffffe) & 0xff) << 3) & 31))
+				}
+			L5:
+				m.put8(uint32(l10)-0xfcdf0, 0)
+				l13a, l13b = 0, 0
+				t97 := m.at(uint32(l10) - 0xfce00)
+				binary.LittleEndian.PutUint64(t97[0:8], l13a)
+				binary.LittleEndian.PutUint64(t97[8:16], l13b)
+				t98 := m.at(uint32(l10) - 0xfce10)
+				binary.LittleEndian.PutUint64(t98[0:8], l13a)
+				binary.LittleEndian.PutUint64(t98[8:16], l13b)
+				t99 := m.get64(uint32((l3 + 0x10)) - 0xfcec0)
+				t100 := m.get64(uint32((l3 + 0x18)) - 0xfcec0)
+				f41(m, (l10 + 0xb0), t99, t100, l12, (l10 + 0x90))
+				t103 := m.at(uint32(l10) - 0xfce0f)
+				t101 := binary.LittleEndian.Uint64(t103[0:8])
+				t102 := binary.LittleEndian.Uint64(t103[8:16])
+				t104 := m.at(uint32(l10) - 0xfceb0)
+				binary.LittleEndian.PutUint64(t104[0:8], t101)
+				binary.LittleEndian.PutUint64(t104[8:16], t102)
+				t107 := m.at(uint32(l10) - 0xfcdff)
+				t105 := binary.LittleEndian.Uint64(t107[0:8])
+				t106 := binary.LittleEndian.Uint64(t107[8:16])
+				t108 := m.at(uint32(l10) - 0xfcea0)
+				binary.LittleEndian.PutUint64(t108[0:8], t105)
+				binary.LittleEndian.PutUint64(t108[8:16], t106)
+				t109 := uint32(m.get8(uint32(l10) - 0xfce10))
+				if t109 != 1 {
+					goto L4
+				}
+				t112 := m.at(uint32(l10) - 0xfcea0)
+				t110 := binary.LittleEndian.Uint64(t112[0:8])
+				t111 := binary.LittleEndian.Uint64(t112[8:16])
+				t113 := m.at(uint32(l10) - 0xfce80)
+				binary.LittleEndian.PutUint64(t113[0:8], t110)
+				binary.LittleEndian.PutUint64(t113[8:16], t111)
+				t116 := m.at(uint32(l10) - 0xfceb0)
+				t114 := binary.LittleEndian.Uint64(t116[0:8])
+				t115 := binary.LittleEndian.Uint64(t116[8:16])
+				t117 := m.at(uint32(l10) - 0xfce90)
+				binary.LittleEndian.PutUint64(t117[0:8], t114)
+				binary.LittleEndian.PutUint64(t117[8:16], t115)
+				t118 := m.at(uint32(l10) - 0xfcde0)
+				binary.LittleEndian.PutUint64(t118[0:8], l13a)
+				binary.LittleEndian.PutUint64(t118[8:16], l13b)
+				t119 := m.at(uint32(l10) - 0xfcdf0)
+				binary.LittleEndian.PutUint64(t119[0:8], l13a)
+				binary.LittleEndian.PutUint64(t119[8:16], l13b)
+				t120 := m.at(uint32(l10) - 0xfce00)
+				binary.LittleEndian.PutUint64(t120[0:8], l13a)
+				binary.LittleEndian.PutUint64(t120[8:16], l13b)
+				t121 := m.at(uint32(l10) - 0xfce10)
+				binary.LittleEndian.PutUint64(t121[0:8], l13a)
+				binary.LittleEndian.PutUint64(t121[8:16], l13b)
+				f42(m, (l10 + 0xb0), l1, (l10 + 0x30), 0x20)
+				m.put8(uint32((l1+0x40))-0xfcec0, 1)
+				l11 = 0
+				m.put64(uint32((l1+0x68))-0xfcec0, 0)
+				t124 := m.at(uint32(l10) - 0xfce00)
+				t122 := binary.LittleEndian.Uint64(t124[0:8])
+				t123 := binary.LittleEndian.Uint64(t124[8:16])
+				t125 := m.at(uint32(l1) - 0xfceb0)
+				binary.LittleEndian.PutUint64(t125[0:8], t122)
+				binary.LittleEndian.PutUint64(t125[8:16], t123)
+				t128 := m.at(uint32(l10) - 0xfce10)
+				t126 := binary.LittleEndian.Uint64(t128[0:8])
+				t127 := binary.LittleEndian.Uint64(t128[8:16])
+				t129 := m.at(uint32(l1) - 0xfcec0)
+				binary.LittleEndian.PutUint64(t129[0:8], t126)
+				binary.LittleEndian.PutUint64(t129[8:16], t127)
+				t132 := m.at(uint32(l10) - 0xfcdf0)
+				t130 := binary.LittleEndian.Uint64(t132[0:8])
+				t131 := binary.LittleEndian.Uint64(t132[8:16])
+				t133 := m.at(uint32((l1 + 0x41)) - 0xfcec0)
+				binary.LittleEndian.PutUint64(t133[0:8], t130)
+				binary.LittleEndian.PutUint64(t133[8:16], t131)
+				t136 := m.at(uint32(l10) - 0xfcde0)
+				t134 := binary.LittleEndian.Uint64(t136[0:8])
+				t135 := binary.LittleEndian.Uint64(t136[8:16])
+				t137 := m.at(uint32((l1 + 0x51)) - 0xfcec0)
+				binary.LittleEndian.PutUint64(t137[0:8], t134)
+				binary.LittleEndian.PutUint64(t137[8:16], t135)
+				goto L3
+			}
+		L4:
+			l12 = 1
+			goto L2
+		}
+	L3:
+		t138 := uint32(m.get8(uint32(l6) - 0xfcec0))
+		l12 = b2i(t138 == 6)
+		t139 := -uint64(b2i(l12 != 0))
+		t140 := (0x20 & t139) | (0 &^ t139)
+		f56(m, l10, l1, l2, l3, (l4 + t140), (l5 - uint64(l12)), (l6 + 4), (l7 + 0xffffffffffffffff), (l8 + l11), (l9 - l11))
+		t141 := uint32(m.get8(uint32(l10) - 0xfcec0))
+		l12 = t141
+		t142 := -uint64(b2i(l12 != 0))
+		t143 := (1 & t142) | (l11 &^ t142)
+		t144 := m.get64(uint32(l10) - 0xfceb8)
+		l11 = (t143 + t144)
+	}
+L2:
+	m.put64(uint32(l0)-0xfceb8, l11)
+	m.put8(uint32(l0)-0xfcec0, uint8(l12))
+	m.g0 = (l10 + 0xf0)
+}
+
+// f57 is noise_handshake::writer::write_part.
+func f57(m *memory, l0 uint64, l1 uint64, l2 uint64, l3 uint64) uint64 {
+	var l4, l5, l6, l7, l8, l9, l10 uint64
+	var l11a, l11b uint64
+	t1 := m.g0
+	l4 = (t1 - 0xa0)
+	m.g0 = l4
+	{
+		{
+			l5 = l4
+			if int64(l5) < 16 {
+				goto L3
+			}
+			{
+				{
+					l4 = (l3 - l1)
+					if l4 >= l2 {
+						goto L5
+					}
+					l6 = 0
+					{
+						if l2 < 0x10 {
+							goto L6
+						}
+						if l4 < 0x10 {
+							goto L6
+						}
+						l4 = l3
+						l7 = l1
+						l6 = (l2 & 0xfffffffffffffff0)
+						l8 = l6
+					L7:
+						{
+							t10 := m.at(uint32(l7) - 0xfcec0)
+							t8 := binary.LittleEndian.Uint64(t10[0:8])
+							t9 := binary.LittleEndian.Uint64(t10[8:16])
+							t11 := m.at(uint32(l4) - 0xfcec0)
+							binary.LittleEndian.PutUint64(t11[0:8], t8)
+							binary.LittleEndian.PutUint64(t11[8:16], t9)
+							l4 = (l4 + 0x10)
+							l7 = (l7 + 0x10)
+							l8 = (l8 + 0xfffffffffffffff0)
+							if l8 != 0 {
+								goto L7
+							}
+						}
+						if l2 == l6 {
+							goto L4
+						}
+					}
+				L6:
+					l4 = l6
+					{
+						l7 = (l2 & 3)
+						if l7 == 0 {
+							goto L12
+						}
+						l4 = l6
+					L13:
+						{
+							t14 := uint32(m.get8(uint32((l1 + l4)) - 0xfcec0))
+							m.put8(uint32((l3+l4))-0xfcec0, uint8(t14))
+							l4 = (l4 + 1)
+							l7 = (l7 + 0xffffffffffffffff)
+							if l7 != 0 {
+								goto L13
+							}
+						}
+					}
+				L12:
+					l9 = l3
+					l10 = l2
+					if (l6 - l2) > 0xfffffffffffffffc {
+						goto L4
+					}
+				L15:
+					{
+						l7 = (l9 + l4)
+						l8 = (l1 + l4)
+						t16 := uint32(m.get8(uint32(l8) - 0xfcec0))
+						m.put8(uint32(l7)-0xfcec0, uint8(t16))
+						t17 := uint32(m.get8(uint32((l8 + 1)) - 0xfcec0))
+						m.put8(uint32((l7+1))-0xfcec0, uint8(t17))
+						t18 := uint32(m.get8(uint32((l8 + 2)) - 0xfcec0))
+						m.put8(uint32((l7+2))-0xfcec0, uint8(t18))
+						t19 := uint32(m.get8(uint32((l8 + 3)) - 0xfcec0))
+						m.put8(uint32((l7+3))-0xfcec0, uint8(t19))
+						l9 = (l9 + 4)
+						l1 = (l1 + 4)
+						l10 = (l10 + 0xfffffffffffffffc)
+						if l4 != l10 {
+							goto L15
+						}
+						goto L4
+					}
+				}
+			L5:
+				if l2 == 0 {
+					goto L4
+				}
+				m.copy(uint32(l3), uint32(l1), uint32(l2))
+			}
+		L4:
+			l11a, l11b = 0, 0
+			t20 := m.at(uint32(l5) - 0xfcec0)
+			binary.LittleEndian.PutUint64(t20[0:8], l11a)
+			binary.LittleEndian.PutUint64(t20[8:16], l11b)
+			l4 = (l0 + 0x20)
+			f13(m, l5, (l0 + 0x40), l4, 0x20, l3, l2)
+			t21 := uint32(m.get8(uint32(l5) - 0xfcec0))
+			if t21 == 0 {
+				goto L2
+			}
+		}
+	L3:
+		panic("unreachable")
+	}
+L2:
+	t22 := m.at(uint32(l5) - 0xfce40)
+	binary.LittleEndian.PutUint64(t22[0:8], l11a)
+	binary.LittleEndian.PutUint64(t22[8:16], l11b)
+	t23 := m.at(uint32(l5) - 0xfce30)
+	binary.LittleEndian.PutUint64(t23[0:8], l11a)
+	binary.LittleEndian.PutUint64(t23[8:16], l11b)
+	t24 := m.get64(uint32(l5) - 0xfceb8)
+	l1 = t24
+	m.fill(uint32(((l5 + 0x10) + 0x20)), 0, 0x48)
+	t25 := m.at(uint32(l5) - 0xfcea0)
+	binary.LittleEndian.PutUint64(t25[0:8], 0x9b05688c510e527f)
+	binary.LittleEndian.PutUint64(t25[8:16], 0x5be0cd191f83d9ab)
+	t26 := m.at(uint32(l5) - 0xfceb0)
+	binary.LittleEndian.PutUint64(t26[0:8], 0xbb67ae856a09e667)
+	binary.LittleEndian.PutUint64(t26[8:16], 0xa54ff53a3c6ef372)
+	f43(m, (l5 + 0x10), l4, 0x20)
+	f43(m, (l5 + 0x10), l3, l1)
+	f44(m, (l5 + 0x80), (l5 + 0x10))
+	t29 := m.at(uint32(l5) - 0xfce30)
+	t27 := binary.LittleEndian.Uint64(t29[0:8])
+	t28 := binary.LittleEndian.Uint64(t29[8:16])
+	t30 := m.at(uint32(l4) - 0xfceb0)
+	binary.LittleEndian.PutUint64(t30[0:8], t27)
+	binary.LittleEndian.PutUint64(t30[8:16], t28)
+	t33 := m.at(uint32(l5) - 0xfce40)
+	t31 := binary.LittleEndian.Uint64(t33[0:8])
+	t32 := binary.LittleEndian.Uint64(t33[8:16])
+	t34 := m.at(uint32(l4) - 0xfcec0)
+	binary.LittleEndian.PutUint64(t34[0:8], t31)
+	binary.LittleEndian.PutUint64(t34[8:16], t32)
+	m.g0 = (l5 + 0xa0)
+	return l1
+}
+
+// f58 is noise_cipher_decrypt.
+func f58(m *memory, l0 uint64, l1 uint64, l2 uint64, l3 uint64, l4 uint64, l5 uint64) uint32 {
+	var l6 uint32
 	{
 		t2 := f0(m)
 		if t2 == 0 {
@@ -19,14 +1236,783 @@ func f89(m *memory, l0 uint64, l1 uint32, l2 uint64, l3 uint64) uint32 {
 		panic("unreachable")
 	}
 L1:
-	t3 := f90(m, l0, l1, l2, l3)
+	t3 := f59(m, l0, l1, l2, l3, l4, l5)
+	l6 = t3
+	f1(m)
+	return l6
+}
+
+// f59 is rattle::export noise_cipher_decrypt.
+func f59(m *memory, l0 uint64, l1 uint64, l2 uint64, l3 uint64, l4 uint64, l5 uint64) uint32 {
+	var l7 uint32
+	var l6 uint64
+	t1 := m.g0
+	l6 = (t1 - 0x40)
+	m.g0 = l6
+	{
+		{
+			{
+				if int64(l6) < 16 {
+					goto L4
+				}
+				m.put64(uint32(l6)-0xfce90, 0)
+				t5 := m.at(uint32(l6) - 0xfcec0)
+				binary.LittleEndian.PutUint64(t5[0:8], 0)
+				binary.LittleEndian.PutUint64(t5[8:16], 0)
+				{
+					t7 := m.get32(uint32(l0) - 0xfcec0)
+					if t7 == 0x4e6f0901 {
+						goto L6
+					}
+					l7 = 0x17
+					goto L2
+				}
+			L6:
+				{
+					t9 := uint32(m.get8(uint32((l0 + 4)) - 0xfcec0))
+					if t9 == 0 {
+						goto L8
+					}
+					l7 = 0x16
+					goto L2
+				}
+			L8:
+				m.put8(uint32(l6)-0xfceb0, 1)
+				t12 := m.at(uint32((l0 + 5)) - 0xfcec0)
+				t10 := binary.LittleEndian.Uint64(t12[0:8])
+				t11 := binary.LittleEndian.Uint64(t12[8:16])
+				t13 := m.at(uint32(l6) - 0xfceaf)
+				binary.LittleEndian.PutUint64(t13[0:8], t10)
+				binary.LittleEndian.PutUint64(t13[8:16], t11)
+				t16 := m.at(uint32((l0 + 0x15)) - 0xfcec0)
+				t14 := binary.LittleEndian.Uint64(t16[0:8])
+				t15 := binary.LittleEndian.Uint64(t16[8:16])
+				t17 := m.at(uint32(l6) - 0xfce9f)
+				binary.LittleEndian.PutUint64(t17[0:8], t14)
+				binary.LittleEndian.PutUint64(t17[8:16], t15)
+				t18 := m.get64(uint32((l0 + 0x28)) - 0xfcec0)
+				m.put64(uint32(l6)-0xfce88, t18)
+				{
+					if l2 <= 0xffff {
+						goto L19
+					}
+					l7 = 0x18
+					goto L2
+				}
+			L19:
+				t20 := -uint64(b2i(l1 == 0))
+				t21 := (0x1000 & t20) | (0 &^ t20)
+				t22 := -uint64(b2i(l3 == 0))
+				t23 := (0x1000 & t22) | (0 &^ t22)
+				f4(m, l6, (l6 + 0x10), (l1 + t21), l2, (l3 + t23), l4)
+				t24 := uint32(m.get8(uint32(l6) - 0xfcec0))
+				if t24 != 0 {
+					goto L3
+				}
+				m.put64(uint32(l5)-0xfcec0, 0)
+				t25 := m.get64(uint32(l6) - 0xfceb8)
+				m.put64(uint32((l5+8))-0xfcec0, t25)
+				t26 := m.get64(uint32(l6) - 0xfce88)
+				m.put64(uint32((l0+0x28))-0xfcec0, t26)
+				l7 = 0
+				goto L2
+			}
+		L4:
+			panic("unreachable")
+		}
+	L3:
+		t27 := uint64(m.get8(uint32(l6) - 0xfcebf))
+		t28 := m.get32(uint32((t27 << 2)) + 0x412c)
+		l7 = t28
+	}
+L2:
+	m.g0 = (l6 + 0x40)
+	return l7
+}
+
+// f60 is noise_cipher_encrypt.
+func f60(m *memory, l0 uint64, l1 uint64, l2 uint64, l3 uint64, l4 uint64, l5 uint64, l6 uint64) uint32 {
+	var l7 uint32
+	{
+		t2 := f0(m)
+		if t2 == 0 {
+			goto L1
+		}
+		f2(m)
+		panic("unreachable")
+	}
+L1:
+	t3 := f61(m, l0, l1, l2, l3, l4, l5, l6)
+	l7 = t3
+	f1(m)
+	return l7
+}
+
+// f61 is rattle::export noise_cipher_encrypt.
+func f61(m *memory, l0 uint64, l1 uint64, l2 uint64, l3 uint64, l4 uint64, l5 uint64, l6 uint64) uint32 {
+	var l8 uint32
+	var l7 uint64
+	t1 := m.g0
+	l7 = (t1 - 0x40)
+	m.g0 = l7
+	{
+		{
+			{
+				if int64(l7) < 16 {
+					goto L4
+				}
+				m.put64(uint32(l7)-0xfce90, 0)
+				t5 := m.at(uint32(l7) - 0xfcec0)
+				binary.LittleEndian.PutUint64(t5[0:8], 0)
+				binary.LittleEndian.PutUint64(t5[8:16], 0)
+				{
+					t7 := m.get32(uint32(l0) - 0xfcec0)
+					if t7 == 0x4e6f0801 {
+						goto L6
+					}
+					l8 = 0x17
+					goto L2
+				}
+			L6:
+				{
+					t9 := uint32(m.get8(uint32((l0 + 4)) - 0xfcec0))
+					if t9 == 0 {
+						goto L8
+					}
+					l8 = 0x16
+					goto L2
+				}
+			L8:
+				m.put8(uint32(l7)-0xfceb0, 1)
+				t12 := m.at(uint32((l0 + 5)) - 0xfcec0)
+				t10 := binary.LittleEndian.Uint64(t12[0:8])
+				t11 := binary.LittleEndian.Uint64(t12[8:16])
+				t13 := m.at(uint32(l7) - 0xfceaf)
+				binary.LittleEndian.PutUint64(t13[0:8], t10)
+				binary.LittleEndian.PutUint64(t13[8:16], t11)
+				t16 := m.at(uint32((l0 + 0x15)) - 0xfcec0)
+				t14 := binary.LittleEndian.Uint64(t16[0:8])
+				t15 := binary.LittleEndian.Uint64(t16[8:16])
+				t17 := m.at(uint32(l7) - 0xfce9f)
+				binary.LittleEndian.PutUint64(t17[0:8], t14)
+				binary.LittleEndian.PutUint64(t17[8:16], t15)
+				t18 := m.get64(uint32((l0 + 0x28)) - 0xfcec0)
+				m.put64(uint32(l7)-0xfce88, t18)
+				{
+					if l2 <= 0xffff {
+						goto L19
+					}
+					l8 = 0x18
+					goto L2
+				}
+			L19:
+				l8 = 0x12
+				if l4 < 0x10 {
+					goto L2
+				}
+				if (l4 + 0xfffffffffffffff0) < l5 {
+					goto L2
+				}
+				t20 := -uint64(b2i(l1 == 0))
+				t21 := (0x1000 & t20) | (0 &^ t20)
+				t22 := -uint64(b2i(l3 == 0))
+				t23 := (0x1000 & t22) | (0 &^ t22)
+				f13(m, l7, (l7 + 0x10), (l1 + t21), l2, (l3 + t23), l5)
+				t24 := uint32(m.get8(uint32(l7) - 0xfcec0))
+				if t24 != 0 {
+					goto L3
+				}
+				m.put64(uint32(l6)-0xfcec0, 0)
+				t25 := m.get64(uint32(l7) - 0xfceb8)
+				m.put64(uint32((l6+8))-0xfcec0, t25)
+				t26 := m.get64(uint32(l7) - 0xfce88)
+				m.put64(uint32((l0+0x28))-0xfcec0, t26)
+				l8 = 0
+				goto L2
+			}
+		L4:
+			panic("unreachable")
+		}
+	L3:
+		t27 := uint64(m.get8(uint32(l7) - 0xfcebf))
+		t28 := m.get32(uint32((t27 << 2)) + 0x412c)
+		l8 = t28
+	}
+L2:
+	m.g0 = (l7 + 0x40)
+	return l8
+}
+
+// f62 is noise_cipher_nonce.
+func f62(m *memory, l0 uint64, l1 uint64) uint32 {
+	var l2 uint32
+	{
+		t2 := f0(m)
+		if t2 == 0 {
+			goto L1
+		}
+		f2(m)
+		panic("unreachable")
+	}
+L1:
+	t3 := f63(m, l0, l1)
+	l2 = t3
+	f1(m)
+	return l2
+}
+
+// f63 is rattle::export noise_cipher_nonce.
+func f63(m *memory, l0 uint64, l1 uint64) uint32 {
+	{
+		{
+			t3 := m.g0
+			if int64(t3) < 16 {
+				goto L2
+			}
+			{
+				t5 := m.get32(uint32(l0) - 0xfcec0)
+				if (t5 & 0xfffffeff) == 0x4e6f0801 {
+					goto L4
+				}
+				return 0x17
+			}
+		L4:
+			t6 := uint32(m.get8(uint32((l0 + 4)) - 0xfcec0))
+			if t6 == 0 {
+				goto L1
+			}
+			return 0x16
+		}
+	L2:
+		panic("unreachable")
+	}
+L1:
+	t7 := m.get64(uint32((l0 + 0x28)) - 0xfcec0)
+	m.put64(uint32(l1)-0xfcec0, t7)
+	return 0
+}
+
+// f64 is noise_cipher_rekey.
+func f64(m *memory, l0 uint64) uint32 {
+	var l1 uint32
+	{
+		t2 := f0(m)
+		if t2 == 0 {
+			goto L1
+		}
+		f2(m)
+		panic("unreachable")
+	}
+L1:
+	t3 := f65(m, l0)
 	l1 = t3
 	f1(m)
 	return l1
 }
 
-// f90 is rattle::export noise_answer.
+// f65 is rattle::export noise_cipher_rekey.
+func f65(m *memory, l0 uint64) uint32 {
+	var l2 uint32
+	var l1, l3 uint64
+	t1 := m.g0
+	l1 = (t1 - 0x30)
+	m.g0 = l1
+	{
+		if int64(l1) < 16 {
+			goto L2
+		}
+		m.put64(uint32(l1)-0xfcea0, 0)
+		{
+			{
+				t5 := m.get32(uint32(l0) - 0xfcec0)
+				if (t5 & 0xfffffeff) == 0x4e6f0801 {
+					goto L4
+				}
+				l2 = 0x17
+				goto L3
+			}
+		L4:
+			{
+				t7 := uint32(m.get8(uint32((l0 + 4)) - 0xfcec0))
+				if t7 == 0 {
+					goto L6
+				}
+				l2 = 0x16
+				goto L3
+			}
+		L6:
+			l3 = (l0 + 5)
+			t10 := m.at(uint32(l3) - 0xfcec0)
+			t8 := binary.LittleEndian.Uint64(t10[0:8])
+			t9 := binary.LittleEndian.Uint64(t10[8:16])
+			t11 := m.at(uint32(l1) - 0xfcebf)
+			binary.LittleEndian.PutUint64(t11[0:8], t8)
+			binary.LittleEndian.PutUint64(t11[8:16], t9)
+			t14 := m.at(uint32((l0 + 0x15)) - 0xfcec0)
+			t12 := binary.LittleEndian.Uint64(t14[0:8])
+			t13 := binary.LittleEndian.Uint64(t14[8:16])
+			t15 := m.at(uint32(l1) - 0xfceaf)
+			binary.LittleEndian.PutUint64(t15[0:8], t12)
+			binary.LittleEndian.PutUint64(t15[8:16], t13)
+			t16 := m.get64(uint32((l0 + 0x28)) - 0xfcec0)
+			m.put64(uint32(l1)-0xfce98, t16)
+			m.put8(uint32(l1)-0xfcec0, 1)
+			f14(m, l1)
+			l2 = 0
+			t17 := uint32(m.get8(uint32(l1) - 0xfcec0))
+			if t17 != 1 {
+				goto L3
+			}
+			l0 = (l1 | 1)
+			t20 := m.at(uint32(l0) - 0xfceb0)
+			t18 := binary.LittleEndian.Uint64(t20[0:8])
+			t19 := binary.LittleEndian.Uint64(t20[8:16])
+			t21 := m.at(uint32(l3) - 0xfceb0)
+			binary.LittleEndian.PutUint64(t21[0:8], t18)
+			binary.LittleEndian.PutUint64(t21[8:16], t19)
+			t24 := m.at(uint32(l0) - 0xfcec0)
+			t22 := binary.LittleEndian.Uint64(t24[0:8])
+			t23 := binary.LittleEndian.Uint64(t24[8:16])
+			t25 := m.at(uint32(l3) - 0xfcec0)
+			binary.LittleEndian.PutUint64(t25[0:8], t22)
+			binary.LittleEndian.PutUint64(t25[8:16], t23)
+		}
+	L3:
+		m.g0 = (l1 + 0x30)
+		return l2
+	}
+L2:
+	panic("unreachable")
+}
+
+// f66 is noise_cipher_set_nonce.
+func f66(m *memory, l0 uint64, l1 uint64) uint32 {
+	var l2 uint32
+	{
+		t2 := f0(m)
+		if t2 == 0 {
+			goto L1
+		}
+		f2(m)
+		panic("unreachable")
+	}
+L1:
+	t3 := f67(m, l0, l1)
+	l2 = t3
+	f1(m)
+	return l2
+}
+
+// f67 is rattle::export noise_cipher_set_nonce.
+func f67(m *memory, l0 uint64, l1 uint64) uint32 {
+	{
+		{
+			t3 := m.g0
+			if int64(t3) < 16 {
+				goto L2
+			}
+			{
+				t5 := m.get32(uint32(l0) - 0xfcec0)
+				if (t5 & 0xfffffeff) == 0x4e6f0801 {
+					goto L4
+				}
+				return 0x17
+			}
+		L4:
+			t6 := uint32(m.get8(uint32((l0 + 4)) - 0xfcec0))
+			if t6 == 0 {
+				goto L1
+			}
+			return 0x16
+		}
+	L2:
+		panic("unreachable")
+	}
+L1:
+	m.put64(uint32((l0+0x28))-0xfcec0, l1)
+	return 0
+}
+
+// f68 is noise_cipher_size.
+func f68(m *memory) uint64 {
+	{
+		t2 := f0(m)
+		if t2 == 0 {
+			goto L1
+		}
+		f2(m)
+		panic("unreachable")
+	}
+L1:
+	f69(m)
+	f1(m)
+	return 0x30
+}
+
+// f69 is rattle::export noise_cipher_size.
+func f69(m *memory) {
+	{
+		t2 := m.g0
+		if int64(t2) > 15 {
+			goto L1
+		}
+		panic("unreachable")
+	}
+L1:
+}
+
+// f70 is noise_datagram_receiver_size.
+func f70(m *memory) uint64 {
+	{
+		t2 := f0(m)
+		if t2 == 0 {
+			goto L1
+		}
+		f2(m)
+		panic("unreachable")
+	}
+L1:
+	f71(m)
+	f1(m)
+	return 0xc0
+}
+
+// f71 is rattle::export noise_datagram_receiver_size.
+func f71(m *memory) {
+	{
+		t2 := m.g0
+		if int64(t2) > 15 {
+			goto L1
+		}
+		panic("unreachable")
+	}
+L1:
+}
+
+// f72 is noise_datagram_sender_size.
+func f72(m *memory) uint64 {
+	{
+		t2 := f0(m)
+		if t2 == 0 {
+			goto L1
+		}
+		f2(m)
+		panic("unreachable")
+	}
+L1:
+	f73(m)
+	f1(m)
+	return 0x30
+}
+
+// f73 is rattle::export noise_datagram_sender_size.
+func f73(m *memory) {
+	{
+		t2 := m.g0
+		if int64(t2) > 15 {
+			goto L1
+		}
+		panic("unreachable")
+	}
+L1:
+}
+
+// f74 is noise_frame_find.
+func f74(m *memory, l0 uint64, l1 uint64, l2 uint64) uint32 {
+	var l3 uint32
+	{
+		t2 := f0(m)
+		if t2 == 0 {
+			goto L1
+		}
+		f2(m)
+		panic("unreachable")
+	}
+L1:
+	t3 := f75(m, l0, l1, l2)
+	l3 = t3
+	f1(m)
+	return l3
+}
+
+// f75 is rattle::export noise_frame_find.
+func f75(m *memory, l0 uint64, l1 uint64, l2 uint64) uint32 {
+	var l3 uint64
+	{
+		{
+			t3 := m.g0
+			if int64(t3) < 16 {
+				goto L2
+			}
+			l3 = 2
+			{
+				if l1 < 2 {
+					goto L4
+				}
+				t5 := -uint64(b2i(l0 == 0))
+				t6 := (0x1000 & t5) | (0 &^ t5)
+				l3 = (l0 + t6)
+				t7 := uint64(m.get8(uint32(l3) - 0xfcec0))
+				t8 := uint64(m.get8(uint32(l3) - 0xfcebf))
+				l0 = ((t7 << 8) | t8)
+				l3 = (l0 + 2)
+				if l1 >= l3 {
+					goto L1
+				}
+			}
+		L4:
+			m.put64(uint32((l2+0x18))-0xfcec0, (l3 - l1))
+			return 0x2a
+		}
+	L2:
+		panic("unreachable")
+	}
+L1:
+	m.put64(uint32(l2)-0xfcec0, 2)
+	m.put64(uint32((l2+0x10))-0xfcec0, l3)
+	m.put64(uint32((l2+8))-0xfcec0, l0)
+	return 0
+}
+
+// f76 is noise_frame_message.
+func f76(m *memory, l0 uint64, l1 uint64, l2 uint64, l3 uint64) uint32 {
+	var l4 uint32
+	{
+		t2 := f0(m)
+		if t2 == 0 {
+			goto L1
+		}
+		f2(m)
+		panic("unreachable")
+	}
+L1:
+	t3 := f77(m, l0, l1, l2, l3)
+	l4 = t3
+	f1(m)
+	return l4
+}
+
+// f77 is rattle::export noise_frame_message.
+func f77(m *memory, l0 uint64, l1 uint64, l2 uint64, l3 uint64) uint32 {
+	var l4 uint32
+	{
+		t2 := m.g0
+		if int64(t2) < 16 {
+			goto L1
+		}
+		l4 = 0x18
+		{
+			if l2 > 0xffff {
+				goto L3
+			}
+			l4 = 0x12
+			if l1 < 2 {
+				goto L3
+			}
+			if (l1 + 0xfffffffffffffffe) < l2 {
+				goto L3
+			}
+			t4 := -uint64(b2i(l0 == 0))
+			t5 := (0x1000 & t4) | (0 &^ t4)
+			l4 = uint32(l2)
+			m.put16(uint32((l0+t5))-0xfcec0, uint16(((l4 << 8) | ((l4 & 0xff00) >> 8))))
+			m.put64(uint32((l3+8))-0xfcec0, (l2 + 2))
+			l4 = 0
+		}
+	L3:
+		return l4
+	}
+L1:
+	panic("unreachable")
+}
+
+// f78 is noise_handshake_size.
+func f78(m *memory) uint64 {
+	{
+		t2 := f0(m)
+		if t2 == 0 {
+			goto L1
+		}
+		f2(m)
+		panic("unreachable")
+	}
+L1:
+	f79(m)
+	f1(m)
+	return 0x5c0
+}
+
+// f79 is rattle::export noise_handshake_size.
+func f79(m *memory) {
+	{
+		t2 := m.g0
+		if int64(t2) > 15 {
+			goto L1
+		}
+		panic("unreachable")
+	}
+L1:
+}
+
+// f80 is noise_receiver_size.
+func f80(m *memory) uint64 {
+	{
+		t2 := f0(m)
+		if t2 == 0 {
+			goto L1
+		}
+		f2(m)
+		panic("unreachable")
+	}
+L1:
+	f81(m)
+	f1(m)
+	return 0x38
+}
+
+// f81 is rattle::export noise_receiver_size.
+func f81(m *memory) {
+	{
+		t2 := m.g0
+		if int64(t2) > 15 {
+			goto L1
+		}
+		panic("unreachable")
+	}
+L1:
+}
+
+// f82 is noise_sender_size.
+func f82(m *memory) uint64 {
+	{
+		t2 := f0(m)
+		if t2 == 0 {
+			goto L1
+		}
+		f2(m)
+		panic("unreachable")
+	}
+L1:
+	f83(m)
+	f1(m)
+	return 0x38
+}
+
+// f83 is rattle::export noise_sender_size.
+func f83(m *memory) {
+	{
+		t2 := m.g0
+		if int64(t2) > 15 {
+			goto L1
+		}
+		panic("unreachable")
+	}
+L1:
+}
+
+// f84 is noise_stream_receiver_size.
+func f84(m *memory) uint64 {
+	{
+		t2 := f0(m)
+		if t2 == 0 {
+			goto L1
+		}
+		f2(m)
+		panic("unreachable")
+	}
+L1:
+	f85(m)
+	f1(m)
+	return 0x40
+}
+
+// f85 is rattle::export noise_stream_receiver_size.
+func f85(m *memory) {
+	{
+		t2 := m.g0
+		if int64(t2) > 15 {
+			goto L1
+		}
+		panic("unreachable")
+	}
+L1:
+}
+
+// f86 is noise_stream_sender_size.
+func f86(m *memory) uint64 {
+	{
+		t2 := f0(m)
+		if t2 == 0 {
+			goto L1
+		}
+		f2(m)
+		panic("unreachable")
+	}
+L1:
+	f87(m)
+	f1(m)
+	return 0x40
+}
+
+// f87 is rattle::export noise_stream_sender_size.
+func f87(m *memory) {
+	{
+		t2 := m.g0
+		if int64(t2) > 15 {
+			goto L1
+		}
+		panic("unreachable")
+	}
+L1:
+}
+
+// f88 is noise_version.
+func f88(m *memory) uint32 {
+	{
+		t2 := f0(m)
+		if t2 == 0 {
+			goto L1
+		}
+		f2(m)
+		panic("unreachable")
+	}
+L1:
+	f89(m)
+	f1(m)
+	return 0x10000
+}
+
+// f89 is rattle::export noise_version.
+func f89(m *memory) {
+	{
+		t2 := m.g0
+		if int64(t2) > 15 {
+			goto L1
+		}
+		panic("unreachable")
+	}
+L1:
+}
+
+// f90 is noise_answer.
 func f90(m *memory, l0 uint64, l1 uint32, l2 uint64, l3 uint64) uint32 {
+	{
+		t2 := f0(m)
+		if t2 == 0 {
+			goto L1
+		}
+		f2(m)
+		panic("unreachable")
+	}
+L1:
+	t3 := f91(m, l0, l1, l2, l3)
+	l1 = t3
+	f1(m)
+	return l1
+}
+
+// f91 is rattle::export noise_answer.
+func f91(m *memory, l0 uint64, l1 uint32, l2 uint64, l3 uint64) uint32 {
 	var l5, l6 uint32
 	var l4 uint64
 	{
@@ -179,8 +2165,8 @@ L1:
 	return l5
 }
 
-// f91 is noise_datagram_sender_nonce.
-func f91(m *memory, l0 uint64, l1 uint64) uint32 {
+// f92 is noise_datagram_sender_nonce.
+func f92(m *memory, l0 uint64, l1 uint64) uint32 {
 	var l2 uint32
 	{
 		t2 := f0(m)
@@ -191,14 +2177,14 @@ func f91(m *memory, l0 uint64, l1 uint64) uint32 {
 		panic("unreachable")
 	}
 L1:
-	t3 := f92(m, l0, l1)
+	t3 := f93(m, l0, l1)
 	l2 = t3
 	f1(m)
 	return l2
 }
 
-// f92 is rattle::export noise_datagram_sender_nonce.
-func f92(m *memory, l0 uint64, l1 uint64) uint32 {
+// f93 is rattle::export noise_datagram_sender_nonce.
+func f93(m *memory, l0 uint64, l1 uint64) uint32 {
 	var l2 uint32
 	{
 		t2 := m.g0
@@ -226,8 +2212,8 @@ L1:
 	panic("unreachable")
 }
 
-// f93 is noise_receiver_nonce.
-func f93(m *memory, l0 uint64, l1 uint64) uint32 {
+// f94 is noise_receiver_nonce.
+func f94(m *memory, l0 uint64, l1 uint64) uint32 {
 	var l2 uint32
 	{
 		t2 := f0(m)
@@ -238,14 +2224,14 @@ func f93(m *memory, l0 uint64, l1 uint64) uint32 {
 		panic("unreachable")
 	}
 L1:
-	t3 := f94(m, l0, l1)
+	t3 := f95(m, l0, l1)
 	l2 = t3
 	f1(m)
 	return l2
 }
 
-// f94 is rattle::export noise_receiver_nonce.
-func f94(m *memory, l0 uint64, l1 uint64) uint32 {
+// f95 is rattle::export noise_receiver_nonce.
+func f95(m *memory, l0 uint64, l1 uint64) uint32 {
 	var l2 uint32
 	{
 		t2 := m.g0
@@ -273,8 +2259,8 @@ L1:
 	panic("unreachable")
 }
 
-// f95 is noise_sender_nonce.
-func f95(m *memory, l0 uint64, l1 uint64) uint32 {
+// f96 is noise_sender_nonce.
+func f96(m *memory, l0 uint64, l1 uint64) uint32 {
 	var l2 uint32
 	{
 		t2 := f0(m)
@@ -285,14 +2271,14 @@ func f95(m *memory, l0 uint64, l1 uint64) uint32 {
 		panic("unreachable")
 	}
 L1:
-	t3 := f96(m, l0, l1)
+	t3 := f97(m, l0, l1)
 	l2 = t3
 	f1(m)
 	return l2
 }
 
-// f96 is rattle::export noise_sender_nonce.
-func f96(m *memory, l0 uint64, l1 uint64) uint32 {
+// f97 is rattle::export noise_sender_nonce.
+func f97(m *memory, l0 uint64, l1 uint64) uint32 {
 	var l2 uint32
 	{
 		t2 := m.g0
@@ -320,8 +2306,8 @@ L1:
 	panic("unreachable")
 }
 
-// f97 is noise_open.
-func f97(m *memory, l0 uint64, l1 uint64, l2 uint64, l3 uint64) uint32 {
+// f98 is noise_open.
+func f98(m *memory, l0 uint64, l1 uint64, l2 uint64, l3 uint64) uint32 {
 	var l4 uint32
 	{
 		t2 := f0(m)
@@ -332,14 +2318,14 @@ func f97(m *memory, l0 uint64, l1 uint64, l2 uint64, l3 uint64) uint32 {
 		panic("unreachable")
 	}
 L1:
-	t3 := f98(m, l0, l1, l2, l3)
+	t3 := f99(m, l0, l1, l2, l3)
 	l4 = t3
 	f1(m)
 	return l4
 }
 
-// f98 is rattle::export noise_open.
-func f98(m *memory, l0 uint64, l1 uint64, l2 uint64, l3 uint64) uint32 {
+// f99 is rattle::export noise_open.
+func f99(m *memory, l0 uint64, l1 uint64, l2 uint64, l3 uint64) uint32 {
 	var l5, l6, l7 uint32
 	var l4, l8, l9, l10 uint64
 	t1 := m.g0
@@ -439,7 +2425,7 @@ func f98(m *memory, l0 uint64, l1 uint64, l2 uint64, l3 uint64) uint32 {
 								if (l1 % l2) != 0 {
 									goto L29
 								}
-								f13(m, l9)
+								f14(m, l9)
 								t32 := m.get64(uint32(l4) - 0xfce88)
 								l1 = t32
 								t33 := m.get64(uint32(l4) - 0xfceb8)
@@ -514,8 +2500,8 @@ L2:
 	return l5
 }
 
-// f99 is noise_datagram_seal.
-func f99(m *memory, l0 uint64, l1 uint64, l2 uint64, l3 uint64, l4 uint64, l5 uint64) uint32 {
+// f100 is noise_datagram_seal.
+func f100(m *memory, l0 uint64, l1 uint64, l2 uint64, l3 uint64, l4 uint64, l5 uint64) uint32 {
 	var l6 uint32
 	{
 		t2 := f0(m)
@@ -526,14 +2512,14 @@ func f99(m *memory, l0 uint64, l1 uint64, l2 uint64, l3 uint64, l4 uint64, l5 ui
 		panic("unreachable")
 	}
 L1:
-	t3 := f100(m, l0, l1, l2, l3, l4, l5)
+	t3 := f101(m, l0, l1, l2, l3, l4, l5)
 	l6 = t3
 	f1(m)
 	return l6
 }
 
-// f100 is rattle::export noise_datagram_seal.
-func f100(m *memory, l0 uint64, l1 uint64, l2 uint64, l3 uint64, l4 uint64, l5 uint64) uint32 {
+// f101 is rattle::export noise_datagram_seal.
+func f101(m *memory, l0 uint64, l1 uint64, l2 uint64, l3 uint64, l4 uint64, l5 uint64) uint32 {
 	var l7, l8, l9 uint32
 	var l6, l10, l11, l12, l13, l14, l15, l16, l17, l18 uint64
 	t1 := m.g0
@@ -725,7 +2711,7 @@ func f100(m *memory, l0 uint64, l1 uint64, l2 uint64, l3 uint64, l4 uint64, l5 u
 			t41 := m.at(uint32(l6) - 0xfce80)
 			binary.LittleEndian.PutUint64(t41[0:8], 0)
 			binary.LittleEndian.PutUint64(t41[8:16], 0)
-			f12(m, (l6 + 0x40), l12, 0x10000f, 0, l14, l2)
+			f13(m, (l6 + 0x40), l12, 0x10000f, 0, l14, l2)
 			t42 := uint32(m.get8(uint32(l6) - 0xfce80))
 			if t42 != 0 {
 				goto L2
@@ -743,7 +2729,7 @@ func f100(m *memory, l0 uint64, l1 uint64, l2 uint64, l3 uint64, l4 uint64, l5 u
 				if (l4 % l3) != 0 {
 					goto L45
 				}
-				f13(m, l12)
+				f14(m, l12)
 				t47 := m.get64(uint32(l6) - 0xfce88)
 				l4 = t47
 			}
@@ -788,8 +2774,8 @@ L2:
 	panic("unreachable")
 }
 
-// f101 is noise_datagram_seal_in_place.
-func f101(m *memory, l0 uint64, l1 uint64, l2 uint64, l3 uint64, l4 uint64) uint32 {
+// f102 is noise_datagram_seal_in_place.
+func f102(m *memory, l0 uint64, l1 uint64, l2 uint64, l3 uint64, l4 uint64) uint32 {
 	var l5 uint32
 	{
 		t2 := f0(m)
@@ -800,14 +2786,14 @@ func f101(m *memory, l0 uint64, l1 uint64, l2 uint64, l3 uint64, l4 uint64) uint
 		panic("unreachable")
 	}
 L1:
-	t3 := f102(m, l0, l1, l2, l3, l4)
+	t3 := f103(m, l0, l1, l2, l3, l4)
 	l5 = t3
 	f1(m)
 	return l5
 }
 
-// f102 is rattle::export noise_datagram_seal_in_place.
-func f102(m *memory, l0 uint64, l1 uint64, l2 uint64, l3 uint64, l4 uint64) uint32 {
+// f103 is rattle::export noise_datagram_seal_in_place.
+func f103(m *memory, l0 uint64, l1 uint64, l2 uint64, l3 uint64, l4 uint64) uint32 {
 	var l6, l7, l8 uint32
 	var l5, l9, l10, l11, l12 uint64
 	t1 := m.g0
@@ -904,7 +2890,7 @@ func f102(m *memory, l0 uint64, l1 uint64, l2 uint64, l3 uint64, l4 uint64) uint
 			t22 := -uint64(b2i(l1 == 0))
 			t23 := (0x1000 & t22) | (0 &^ t22)
 			l1 = (l1 + t23)
-			f12(m, (l5 + 0x40), l11, 0x10000f, 0, (l1 + 8), l3)
+			f13(m, (l5 + 0x40), l11, 0x10000f, 0, (l1 + 8), l3)
 			t24 := uint32(m.get8(uint32(l5) - 0xfce80))
 			if t24 != 0 {
 				goto L2
@@ -922,7 +2908,7 @@ func f102(m *memory, l0 uint64, l1 uint64, l2 uint64, l3 uint64, l4 uint64) uint
 				if (l2 % l12) != 0 {
 					goto L27
 				}
-				f13(m, l11)
+				f14(m, l11)
 				t29 := m.get64(uint32(l5) - 0xfce88)
 				l2 = t29
 			}
@@ -967,8 +2953,8 @@ L2:
 	panic("unreachable")
 }
 
-// f103 is noise_seal.
-func f103(m *memory, l0 uint64, l1 uint64, l2 uint64, l3 uint64, l4 uint64, l5 uint64) uint32 {
+// f104 is noise_seal.
+func f104(m *memory, l0 uint64, l1 uint64, l2 uint64, l3 uint64, l4 uint64, l5 uint64) uint32 {
 	var l6 uint32
 	{
 		t2 := f0(m)
@@ -979,14 +2965,14 @@ func f103(m *memory, l0 uint64, l1 uint64, l2 uint64, l3 uint64, l4 uint64, l5 u
 		panic("unreachable")
 	}
 L1:
-	t3 := f104(m, l0, l1, l2, l3, l4, l5)
+	t3 := f105(m, l0, l1, l2, l3, l4, l5)
 	l6 = t3
 	f1(m)
 	return l6
 }
 
-// f104 is rattle::export noise_seal.
-func f104(m *memory, l0 uint64, l1 uint64, l2 uint64, l3 uint64, l4 uint64, l5 uint64) uint32 {
+// f105 is rattle::export noise_seal.
+func f105(m *memory, l0 uint64, l1 uint64, l2 uint64, l3 uint64, l4 uint64, l5 uint64) uint32 {
 	var l7, l8 uint32
 	var l6, l9, l10, l11, l12, l13, l14, l15, l16, l17 uint64
 	t1 := m.g0
@@ -1176,7 +3162,7 @@ func f104(m *memory, l0 uint64, l1 uint64, l2 uint64, l3 uint64, l4 uint64, l5 u
 			t42 := m.at(uint32(l6) - 0xfce80)
 			binary.LittleEndian.PutUint64(t42[0:8], 0)
 			binary.LittleEndian.PutUint64(t42[8:16], 0)
-			f12(m, (l6 + 0x40), l10, 0x10000f, 0, l12, l2)
+			f13(m, (l6 + 0x40), l10, 0x10000f, 0, l12, l2)
 			t43 := uint32(m.get8(uint32(l6) - 0xfce80))
 			if t43 != 0 {
 				goto L2
@@ -1199,7 +3185,7 @@ func f104(m *memory, l0 uint64, l1 uint64, l2 uint64, l3 uint64, l4 uint64, l5 u
 				if (l2 % l4) != 0 {
 					goto L46
 				}
-				f13(m, l10)
+				f14(m, l10)
 				t49 := m.get64(uint32(l6) - 0xfce88)
 				l2 = t49
 				t50 := m.get64(uint32(l6) - 0xfceb8)
@@ -1245,8 +3231,8 @@ L2:
 	panic("unreachable")
 }
 
-// f105 is noise_seal_in_place.
-func f105(m *memory, l0 uint64, l1 uint64, l2 uint64, l3 uint64, l4 uint64) uint32 {
+// f106 is noise_seal_in_place.
+func f106(m *memory, l0 uint64, l1 uint64, l2 uint64, l3 uint64, l4 uint64) uint32 {
 	var l5 uint32
 	{
 		t2 := f0(m)
@@ -1257,14 +3243,14 @@ func f105(m *memory, l0 uint64, l1 uint64, l2 uint64, l3 uint64, l4 uint64) uint
 		panic("unreachable")
 	}
 L1:
-	t3 := f106(m, l0, l1, l2, l3, l4)
+	t3 := f107(m, l0, l1, l2, l3, l4)
 	l5 = t3
 	f1(m)
 	return l5
 }
 
-// f106 is rattle::export noise_seal_in_place.
-func f106(m *memory, l0 uint64, l1 uint64, l2 uint64, l3 uint64, l4 uint64) uint32 {
+// f107 is rattle::export noise_seal_in_place.
+func f107(m *memory, l0 uint64, l1 uint64, l2 uint64, l3 uint64, l4 uint64) uint32 {
 	var l6, l7 uint32
 	var l5, l8, l9 uint64
 	t1 := m.g0
@@ -1360,7 +3346,7 @@ func f106(m *memory, l0 uint64, l1 uint64, l2 uint64, l3 uint64, l4 uint64) uint
 			l9 = (l5 + 0x10)
 			t23 := -uint64(b2i(l1 == 0))
 			t24 := (0x1000 & t23) | (0 &^ t23)
-			f12(m, (l5 + 0x40), l9, 0x10000f, 0, (l1 + t24), l3)
+			f13(m, (l5 + 0x40), l9, 0x10000f, 0, (l1 + t24), l3)
 			t25 := uint32(m.get8(uint32(l5) - 0xfce80))
 			if t25 != 0 {
 				goto L2
@@ -1383,7 +3369,7 @@ func f106(m *memory, l0 uint64, l1 uint64, l2 uint64, l3 uint64, l4 uint64) uint
 				if (l1 % l3) != 0 {
 					goto L28
 				}
-				f13(m, l9)
+				f14(m, l9)
 				t31 := m.get64(uint32(l5) - 0xfce88)
 				l1 = t31
 				t32 := m.get64(uint32(l5) - 0xfceb8)
@@ -1429,8 +3415,8 @@ L2:
 	panic("unreachable")
 }
 
-// f109 is noise_hash.
-func f109(m *memory, l0 uint64, l1 uint64) uint32 {
+// f110 is noise_hash.
+func f110(m *memory, l0 uint64, l1 uint64) uint32 {
 	var l2 uint32
 	{
 		t2 := f0(m)
@@ -1441,14 +3427,14 @@ func f109(m *memory, l0 uint64, l1 uint64) uint32 {
 		panic("unreachable")
 	}
 L1:
-	t3 := f110(m, l0, l1)
+	t3 := f111(m, l0, l1)
 	l2 = t3
 	f1(m)
 	return l2
 }
 
-// f110 is rattle::export noise_hash.
-func f110(m *memory, l0 uint64, l1 uint64) uint32 {
+// f111 is rattle::export noise_hash.
+func f111(m *memory, l0 uint64, l1 uint64) uint32 {
 	var l4 uint32
 	var l2, l3 uint64
 	var l5a, l5b uint64
@@ -1481,7 +3467,7 @@ func f110(m *memory, l0 uint64, l1 uint64) uint32 {
 					if t9 > 9 {
 						goto L5
 					}
-					f15(m, l2, (l0 + 4), l3)
+					f16(m, l2, (l0 + 4), l3)
 					t10 := uint32(m.get8(uint32(l2) - 0xfcec0))
 					if t10 == 0 {
 						goto L4
@@ -1492,7 +3478,7 @@ func f110(m *memory, l0 uint64, l1 uint64) uint32 {
 				goto L3
 			}
 		L4:
-			f31(m, (l2 + 0x118), l0, (l2 + 8))
+			f32(m, (l2 + 0x118), l0, (l2 + 8))
 			l4 = 0x17
 			t11 := uint32(m.get8(uint32(l2) - 0xfcda8))
 			if t11 != 1 {
@@ -1521,8 +3507,8 @@ L2:
 	panic("unreachable")
 }
 
-// f111 is noise_message_len.
-func f111(m *memory, l0 uint64, l1 uint64, l2 uint64) uint32 {
+// f112 is noise_message_len.
+func f112(m *memory, l0 uint64, l1 uint64, l2 uint64) uint32 {
 	var l3 uint32
 	{
 		t2 := f0(m)
@@ -1533,14 +3519,14 @@ func f111(m *memory, l0 uint64, l1 uint64, l2 uint64) uint32 {
 		panic("unreachable")
 	}
 L1:
-	t3 := f112(m, l0, l1, l2)
+	t3 := f113(m, l0, l1, l2)
 	l3 = t3
 	f1(m)
 	return l3
 }
 
-// f112 is rattle::export noise_message_len.
-func f112(m *memory, l0 uint64, l1 uint64, l2 uint64) uint32 {
+// f113 is rattle::export noise_message_len.
+func f113(m *memory, l0 uint64, l1 uint64, l2 uint64) uint32 {
 	var l5, l6 uint32
 	var l3, l4 uint64
 	t1 := m.g0
@@ -1572,7 +3558,7 @@ func f112(m *memory, l0 uint64, l1 uint64, l2 uint64) uint32 {
 					if t9 > 9 {
 						goto L5
 					}
-					f15(m, l3, (l0 + 4), l4)
+					f16(m, l3, (l0 + 4), l4)
 					t10 := uint32(m.get8(uint32(l3) - 0xfcec0))
 					if t10 == 0 {
 						goto L4
@@ -1583,7 +3569,7 @@ func f112(m *memory, l0 uint64, l1 uint64, l2 uint64) uint32 {
 				goto L3
 			}
 		L4:
-			f31(m, (l3 + 0x118), l0, (l3 + 8))
+			f32(m, (l3 + 0x118), l0, (l3 + 8))
 			l5 = 0x17
 			t11 := uint32(m.get8(uint32(l3) - 0xfcda8))
 			if t11 != 1 {
@@ -1620,8 +3606,8 @@ L2:
 	panic("unreachable")
 }
 
-// f113 is noise_remote_static.
-func f113(m *memory, l0 uint64, l1 uint64) uint32 {
+// f114 is noise_remote_static.
+func f114(m *memory, l0 uint64, l1 uint64) uint32 {
 	var l2 uint32
 	{
 		t2 := f0(m)
@@ -1632,14 +3618,14 @@ func f113(m *memory, l0 uint64, l1 uint64) uint32 {
 		panic("unreachable")
 	}
 L1:
-	t3 := f114(m, l0, l1)
+	t3 := f115(m, l0, l1)
 	l2 = t3
 	f1(m)
 	return l2
 }
 
-// f114 is rattle::export noise_remote_static.
-func f114(m *memory, l0 uint64, l1 uint64) uint32 {
+// f115 is rattle::export noise_remote_static.
+func f115(m *memory, l0 uint64, l1 uint64) uint32 {
 	var l4 uint32
 	var l2, l3, l6, l7 uint64
 	var l5a, l5b uint64
@@ -1672,7 +3658,7 @@ func f114(m *memory, l0 uint64, l1 uint64) uint32 {
 					if t9 > 9 {
 						goto L5
 					}
-					f15(m, (l2 + 0x20), (l0 + 4), l3)
+					f16(m, (l2 + 0x20), (l0 + 4), l3)
 					t10 := uint32(m.get8(uint32(l2) - 0xfcea0))
 					if t10 == 0 {
 						goto L4
@@ -1683,7 +3669,7 @@ func f114(m *memory, l0 uint64, l1 uint64) uint32 {
 				goto L3
 			}
 		L4:
-			f31(m, (l2 + 0x138), l0, (l2 + 0x28))
+			f32(m, (l2 + 0x138), l0, (l2 + 0x28))
 			t13 := m.at(uint32(l2) - 0xfcc26)
 			t11 := binary.LittleEndian.Uint64(t13[0:8])
 			t12 := binary.LittleEndian.Uint64(t13[8:16])
@@ -1759,8 +3745,8 @@ L2:
 	panic("unreachable")
 }
 
-// f115 is noise_stage.
-func f115(m *memory, l0 uint64, l1 uint64) uint32 {
+// f116 is noise_stage.
+func f116(m *memory, l0 uint64, l1 uint64) uint32 {
 	var l2 uint32
 	{
 		t2 := f0(m)
@@ -1771,14 +3757,14 @@ func f115(m *memory, l0 uint64, l1 uint64) uint32 {
 		panic("unreachable")
 	}
 L1:
-	t3 := f116(m, l0, l1)
+	t3 := f117(m, l0, l1)
 	l2 = t3
 	f1(m)
 	return l2
 }
 
-// f116 is rattle::export noise_stage.
-func f116(m *memory, l0 uint64, l1 uint64) uint32 {
+// f117 is rattle::export noise_stage.
+func f117(m *memory, l0 uint64, l1 uint64) uint32 {
 	var l4, l5, l6 uint32
 	var l2, l3 uint64
 	t1 := m.g0
@@ -1810,7 +3796,7 @@ func f116(m *memory, l0 uint64, l1 uint64) uint32 {
 					if t9 > 9 {
 						goto L5
 					}
-					f15(m, l2, (l0 + 4), l3)
+					f16(m, l2, (l0 + 4), l3)
 					t10 := uint32(m.get8(uint32(l2) - 0xfcec0))
 					if t10 == 0 {
 						goto L4
@@ -1821,7 +3807,7 @@ func f116(m *memory, l0 uint64, l1 uint64) uint32 {
 				goto L3
 			}
 		L4:
-			f31(m, (l2 + 0x118), l0, (l2 + 8))
+			f32(m, (l2 + 0x118), l0, (l2 + 8))
 			l4 = 0x17
 			t11 := uint32(m.get8(uint32(l2) - 0xfcda8))
 			if t11 != 1 {
@@ -1848,8 +3834,8 @@ L2:
 	panic("unreachable")
 }
 
-// f117 is noise_read.
-func f117(m *memory, l0 uint64, l1 uint64, l2 uint64, l3 uint64) uint32 {
+// f118 is noise_read.
+func f118(m *memory, l0 uint64, l1 uint64, l2 uint64, l3 uint64) uint32 {
 	var l4 uint32
 	{
 		t2 := f0(m)
@@ -1860,14 +3846,14 @@ func f117(m *memory, l0 uint64, l1 uint64, l2 uint64, l3 uint64) uint32 {
 		panic("unreachable")
 	}
 L1:
-	t3 := f118(m, l0, l1, l2, l3)
+	t3 := f119(m, l0, l1, l2, l3)
 	l4 = t3
 	f1(m)
 	return l4
 }
 
-// f118 is rattle::export noise_read.
-func f118(m *memory, l0 uint64, l1 uint64, l2 uint64, l3 uint64) uint32 {
+// f119 is rattle::export noise_read.
+func f119(m *memory, l0 uint64, l1 uint64, l2 uint64, l3 uint64) uint32 {
 	var l5 uint32
 	var l4 uint64
 	{
@@ -1879,7 +3865,7 @@ func f118(m *memory, l0 uint64, l1 uint64, l2 uint64, l3 uint64) uint32 {
 		{
 			t4 := -uint64(b2i(l1 == 0))
 			t5 := (0x1000 & t4) | (0 &^ t4)
-			t6 := f34(m, l0, (l1 + t5), l2, l3)
+			t6 := f35(m, l0, (l1 + t5), l2, l3)
 			l5 = t6
 			if (l5 + 0xfffffff1) > 1 {
 				goto L3
@@ -1894,8 +3880,8 @@ L1:
 	panic("unreachable")
 }
 
-// f119 is noise_try_read.
-func f119(m *memory, l0 uint64, l1 uint64, l2 uint64, l3 uint64) uint32 {
+// f120 is noise_try_read.
+func f120(m *memory, l0 uint64, l1 uint64, l2 uint64, l3 uint64) uint32 {
 	var l4 uint32
 	{
 		t2 := f0(m)
@@ -1906,14 +3892,14 @@ func f119(m *memory, l0 uint64, l1 uint64, l2 uint64, l3 uint64) uint32 {
 		panic("unreachable")
 	}
 L1:
-	t3 := f120(m, l0, l1, l2, l3)
+	t3 := f121(m, l0, l1, l2, l3)
 	l4 = t3
 	f1(m)
 	return l4
 }
 
-// f120 is rattle::export noise_try_read.
-func f120(m *memory, l0 uint64, l1 uint64, l2 uint64, l3 uint64) uint32 {
+// f121 is rattle::export noise_try_read.
+func f121(m *memory, l0 uint64, l1 uint64, l2 uint64, l3 uint64) uint32 {
 	var l5 uint32
 	var l4 uint64
 	{
@@ -1927,14 +3913,14 @@ func f120(m *memory, l0 uint64, l1 uint64, l2 uint64, l3 uint64) uint32 {
 L1:
 	t3 := -uint64(b2i(l1 == 0))
 	t4 := (0x1000 & t3) | (0 &^ t3)
-	t5 := f34(m, l0, (l1 + t4), l2, l3)
+	t5 := f35(m, l0, (l1 + t4), l2, l3)
 	l5 = t5
 	m.g0 = l4
 	return l5
 }
 
-// f121 is noise_set_psk.
-func f121(m *memory, l0 uint64, l1 uint64) uint32 {
+// f122 is noise_set_psk.
+func f122(m *memory, l0 uint64, l1 uint64) uint32 {
 	var l2 uint32
 	{
 		t2 := f0(m)
@@ -1945,14 +3931,14 @@ func f121(m *memory, l0 uint64, l1 uint64) uint32 {
 		panic("unreachable")
 	}
 L1:
-	t3 := f122(m, l0, l1)
+	t3 := f123(m, l0, l1)
 	l2 = t3
 	f1(m)
 	return l2
 }
 
-// f122 is rattle::export noise_set_psk.
-func f122(m *memory, l0 uint64, l1 uint64) uint32 {
+// f123 is rattle::export noise_set_psk.
+func f123(m *memory, l0 uint64, l1 uint64) uint32 {
 	var l4 uint32
 	var l2, l3, l5, l6, l7, l8, l9, l10, l11, l12, l13 uint64
 	var l14a, l14b uint64
@@ -1987,7 +3973,7 @@ func f122(m *memory, l0 uint64, l1 uint64) uint32 {
 						if t10 > 9 {
 							goto L6
 						}
-						f15(m, (l3 + 0x360), (l0 + 4), l2)
+						f16(m, (l3 + 0x360), (l0 + 4), l2)
 						t11 := uint32(m.get8(uint32(l3) - 0xfcb60))
 						if t11 == 0 {
 							goto L5
@@ -1998,7 +3984,7 @@ func f122(m *memory, l0 uint64, l1 uint64) uint32 {
 					goto L2
 				}
 			L5:
-				f31(m, (l3 + 0x478), l0, ((l3 + 0x360) + 8))
+				f32(m, (l3 + 0x478), l0, ((l3 + 0x360) + 8))
 				t12 := uint32(m.get8(uint32(l3) - 0xfca48))
 				l4 = t12
 				m.copy(uint32(l3), uint32(((l3 + 0x478) + 8)), 0x360)
@@ -2279,8 +4265,8 @@ L2:
 	return l4
 }
 
-// f123 is noise_start.
-func f123(m *memory, l0 uint64, l1 uint64, l2 uint64, l3 uint64, l4 uint64, l5 uint64) uint32 {
+// f124 is noise_start.
+func f124(m *memory, l0 uint64, l1 uint64, l2 uint64, l3 uint64, l4 uint64, l5 uint64) uint32 {
 	var l6 uint32
 	{
 		t2 := f0(m)
@@ -2291,14 +4277,14 @@ func f123(m *memory, l0 uint64, l1 uint64, l2 uint64, l3 uint64, l4 uint64, l5 u
 		panic("unreachable")
 	}
 L1:
-	t3 := f124(m, l0, l1, l2, l3, l4, l5)
+	t3 := f125(m, l0, l1, l2, l3, l4, l5)
 	l6 = t3
 	f1(m)
 	return l6
 }
 
-// f124 is rattle::export noise_start.
-func f124(m *memory, l0 uint64, l1 uint64, l2 uint64, l3 uint64, l4 uint64, l5 uint64) uint32 {
+// f125 is rattle::export noise_start.
+func f125(m *memory, l0 uint64, l1 uint64, l2 uint64, l3 uint64, l4 uint64, l5 uint64) uint32 {
 	var l11, l13, l14, l15, l17, l19, l23, l25 uint32
 	var l6, l7, l9, l10, l12, l16, l18, l20, l21, l22, l24, l26, l27, l28, l29, l30, l31, l32, l33, l34, l35 uint64
 	var l8a, l8b, l36a, l36b, l37a, l37b uint64
@@ -2327,7 +4313,7 @@ func f124(m *memory, l0 uint64, l1 uint64, l2 uint64, l3 uint64, l4 uint64, l5 u
 		t4 := (0x1000 & t3) | (0 &^ t3)
 		l9 = t4
 		l10 = (l1 + l9)
-		f15(m, (l7 + 0xa8), l10, l2)
+		f16(m, (l7 + 0xa8), l10, l2)
 		{
 			{
 				{
@@ -3374,8 +5360,8 @@ func f124(m *memory, l0 uint64, l1 uint64, l2 uint64, l3 uint64, l4 uint64, l5 u
 						m.fill(uint32((l7 + 0xb40)), 0, 0x48)
 						m.put128q(uint32(l7)-0xfc390, 0x9b05688c510e527f, 0x5be0cd191f83d9ab)
 						m.put128q(uint32(l7)-0xfc3a0, 0xbb67ae856a09e667, 0xa54ff53a3c6ef372)
-						f42(m, (l7 + 0xb20), (l7 + 0x8c8), l6)
-						f43(m, (l7 + 0xc30), (l7 + 0xb20))
+						f43(m, (l7 + 0xb20), (l7 + 0x8c8), l6)
+						f44(m, (l7 + 0xc30), (l7 + 0xb20))
 						goto L254
 					}
 				L255:
@@ -3420,15 +5406,15 @@ func f124(m *memory, l0 uint64, l1 uint64, l2 uint64, l3 uint64, l4 uint64, l5 u
 				m.fill(uint32(((l7 + 0xb20) + 0x20)), 0, 0x48)
 				m.put128q(uint32(l7)-0xfc390, 0x9b05688c510e527f, 0x5be0cd191f83d9ab)
 				m.put128q(uint32(l7)-0xfc3a0, 0xbb67ae856a09e667, 0xa54ff53a3c6ef372)
-				f42(m, (l7 + 0xb20), ((l7 + 0x858) + 0x20), 0x20)
-				f42(m, (l7 + 0xb20), l34, l4)
-				f43(m, (l7 + 0xc50), (l7 + 0xb20))
+				f43(m, (l7 + 0xb20), ((l7 + 0x858) + 0x20), 0x20)
+				f43(m, (l7 + 0xb20), l34, l4)
+				f44(m, (l7 + 0xc50), (l7 + 0xb20))
 				t261, t262 := m.get128q(uint32(l7) - 0xfc270)
 				m.put128q(uint32(l7)-0xfc648, t261, t262)
 				t263, t264 := m.get128q(uint32(l7) - 0xfc260)
 				m.put128q(uint32(l7)-0xfc638, t263, t264)
-				f47(m, (l7 + 0x858), l11, (l7 + 0xa16), (l7 + 0x568), l28)
-				f47(m, (l7 + 0x858), l11, (l7 + 0x9d4), (l7 + 0x578), l27)
+				f48(m, (l7 + 0x858), l11, (l7 + 0xa16), (l7 + 0x568), l28)
+				f48(m, (l7 + 0x858), l11, (l7 + 0x9d4), (l7 + 0x578), l27)
 				t265, t266 := m.get128q(uint32(l7) - 0xfc638)
 				m.put128q(uint32(l7)-0xfca08, t265, t266)
 				t267, t268 := m.get128q(uint32(l7) - 0xfc648)
@@ -3448,7 +5434,7 @@ func f124(m *memory, l0 uint64, l1 uint64, l2 uint64, l3 uint64, l4 uint64, l5 u
 				l4 = t278
 				t279 := uint32(m.get8(uint32(l7) - 0xfc628))
 				l25 = t279
-				f32(m, (l7 + 0x4c8), (l7 + 0x540), l15, b2i(l25 == 1), 0)
+				f33(m, (l7 + 0x4c8), (l7 + 0x540), l15, b2i(l25 == 1), 0)
 				t280, t281 := m.get128q(uint32(l7) - 0xfc990)
 				m.put128q(uint32(l7)-0xfcb80, t280, t281)
 				t282, t283 := m.get128q(uint32(l7) - 0xfc9a0)
@@ -3823,8 +5809,8 @@ L2:
 	panic("unreachable")
 }
 
-// f125 is noise_stream_is_cut.
-func f125(m *memory, l0 uint64, l1 uint64) uint32 {
+// f126 is noise_stream_is_cut.
+func f126(m *memory, l0 uint64, l1 uint64) uint32 {
 	var l2 uint32
 	{
 		t2 := f0(m)
@@ -3835,14 +5821,14 @@ func f125(m *memory, l0 uint64, l1 uint64) uint32 {
 		panic("unreachable")
 	}
 L1:
-	t3 := f126(m, l0, l1)
+	t3 := f127(m, l0, l1)
 	l2 = t3
 	f1(m)
 	return l2
 }
 
-// f126 is rattle::export noise_stream_is_cut.
-func f126(m *memory, l0 uint64, l1 uint64) uint32 {
+// f127 is rattle::export noise_stream_is_cut.
+func f127(m *memory, l0 uint64, l1 uint64) uint32 {
 	var l2, l3, l4 uint32
 	{
 		t2 := m.g0
@@ -3904,307 +5890,8 @@ L1:
 	panic("unreachable")
 }
 
-// f127 is noise_stream_read.
-func f127(m *memory, l0 uint64, l1 uint64, l2 uint64, l3 uint64) uint32 {
-	var l4 uint32
-	{
-		t2 := f0(m)
-		if t2 == 0 {
-			goto L1
-		}
-		f2(m)
-		panic("unreachable")
-	}
-L1:
-	t3 := f128(m, l0, l1, l2, l3)
-	l4 = t3
-	f1(m)
-	return l4
-}
-
-// f128 is rattle::export noise_stream_read.
+// f128 is noise_stream_read.
 func f128(m *memory, l0 uint64, l1 uint64, l2 uint64, l3 uint64) uint32 {
-	var l5, l6, l7, l8, l9 uint32
-	var l4, l10, l11, l12, l13, l14 uint64
-	t1 := m.g0
-	l4 = (t1 - 0x60)
-	m.g0 = l4
-	{
-		{
-			{
-				if int64(l4) < 16 {
-					goto L4
-				}
-				l5 = 0x17
-				t5 := m.get32(uint32(l0) - 0xfcec0)
-				if t5 != 0x4e6f0b01 {
-					goto L2
-				}
-				l6 = 1
-				l7 = 0
-				{
-					{
-						t8 := uint32(m.get8(uint32((l0 + 4)) - 0xfcec0))
-						switch t8 + 0xffffffff {
-						case 1:
-							goto L7
-						case 0:
-							goto L6
-						}
-						goto L2
-					}
-				L7:
-					l7 = 1
-					l6 = 0
-				}
-			L6:
-				t9 := uint32(m.get8(uint32((l0 + 0x38)) - 0xfcec0))
-				l8 = t9
-				if l8 > 2 {
-					goto L2
-				}
-				t10 := uint32(m.get8(uint32((l0 + 5)) - 0xfcec0))
-				l9 = t10
-				t11 := m.get64(uint32((l0 + 0x30)) - 0xfcec0)
-				l10 = t11
-				t12 := m.get64(uint32((l0 + 0x28)) - 0xfcec0)
-				l11 = t12
-				{
-					if l8 != 1 {
-						goto L13
-					}
-					if (l6 & b2i(l9 != 0)) != 0 {
-						goto L2
-					}
-					if l10 == 0 {
-						goto L2
-					}
-				}
-			L13:
-				m.put32(uint32(l4)-0xfceb6, 0)
-				m.put8(uint32(l4)-0xfceb7, uint8(b2i(l9 != 0)))
-				m.put8(uint32(l4)-0xfceb8, uint8(l7))
-				m.put16(uint32(l4)-0xfceb2, 0)
-				m.put8(uint32(l4)-0xfcea8, 1)
-				m.put64(uint32(l4)-0xfceb0, l11)
-				m.put32(uint32(l4)-0xfce87, 0)
-				m.put32(uint32(l4)-0xfce84, 0)
-				m.put8(uint32(l4)-0xfce78, uint8(l8))
-				m.put64(uint32(l4)-0xfce80, l10)
-				m.put32(uint32(l4)-0xfce77, 0)
-				m.put32(uint32(l4)-0xfce74, 0)
-				l10 = (l0 + 6)
-				t16 := m.at(uint32(l10) - 0xfcec0)
-				t14 := binary.LittleEndian.Uint64(t16[0:8])
-				t15 := binary.LittleEndian.Uint64(t16[8:16])
-				t17 := m.at(uint32(l4) - 0xfcea7)
-				binary.LittleEndian.PutUint64(t17[0:8], t14)
-				binary.LittleEndian.PutUint64(t17[8:16], t15)
-				t20 := m.at(uint32(l10) - 0xfceb0)
-				t18 := binary.LittleEndian.Uint64(t20[0:8])
-				t19 := binary.LittleEndian.Uint64(t20[8:16])
-				t21 := m.at(uint32(l4) - 0xfce97)
-				binary.LittleEndian.PutUint64(t21[0:8], t18)
-				binary.LittleEndian.PutUint64(t21[8:16], t19)
-				l5 = 0x2b
-				if l8 != 0 {
-					goto L2
-				}
-				l11 = 2
-				if l2 < 2 {
-					goto L3
-				}
-				t22 := -uint64(b2i(l1 == 0))
-				t23 := (0x1000 & t22) | (0 &^ t22)
-				l1 = (l1 + t23)
-				t24 := uint64(m.get8(uint32(l1) - 0xfcec0))
-				t25 := uint64(m.get8(uint32(l1) - 0xfcebf))
-				l12 = ((t24 << 8) | t25)
-				l11 = (l12 + 2)
-				if l2 < l11 {
-					goto L3
-				}
-				l2 = (l4 + 0x19)
-				t26 := m.at(uint32(l4) - 0xfce70)
-				binary.LittleEndian.PutUint64(t26[0:8], 0)
-				binary.LittleEndian.PutUint64(t26[8:16], 0)
-				l13 = 3
-				{
-					if (l6 & b2i(l9 != 0)) != 0 {
-						goto L27
-					}
-					l13 = 2
-					l14 = (l4 + 0x18)
-					f4(m, (l4 + 0x50), l14, 0x10000f, 0, (l1 + 2), l12)
-					{
-						{
-							{
-								t31 := uint32(m.get8(uint32(l4) - 0xfce70))
-								if t31 != 0 {
-									goto L30
-								}
-								t32 := m.get64(uint32(l4) - 0xfce68)
-								l1 = t32
-								{
-									t34 := m.get64(uint32(l4) - 0xfceb0)
-									l13 = t34
-									if l13 == 0 {
-										goto L33
-									}
-									t35 := m.get64(uint32(l4) - 0xfce80)
-									if (t35 % l13) != 0 {
-										goto L33
-									}
-									f13(m, l14)
-								}
-							L33:
-								if l1 == 0 {
-									goto L29
-								}
-								m.put64(uint32(l3)-0xfcec0, 2)
-								m.put64(uint32((l3+0x10))-0xfcec0, l11)
-								m.put64(uint32((l3+8))-0xfcec0, l1)
-								t36 := uint32(m.get8(uint32(l4) - 0xfcea8))
-								if t36 != 1 {
-									goto L4
-								}
-								m.put32(uint32(l0)-0xfcec0, 0x4e6f0b01)
-								l5 = 0
-								m.put16(uint32(l0)-0xfce9a, 0)
-								m.put32(uint32(l0)-0xfce87, 0)
-								m.put32(uint32(l0)-0xfce84, 0)
-								t37 := uint32(m.get8(uint32(l4) - 0xfceb7))
-								m.put8(uint32((l0+5))-0xfcec0, uint8((t37 & 1)))
-								t38 := uint32(m.get8(uint32(l4) - 0xfceb8))
-								t39 := -uint32(b2i(t38 != 0))
-								t40 := (2 & t39) | (1 &^ t39)
-								m.put8(uint32((l0+4))-0xfcec0, uint8(t40))
-								t43 := m.at(uint32(l2) - 0xfcec0)
-								t41 := binary.LittleEndian.Uint64(t43[0:8])
-								t42 := binary.LittleEndian.Uint64(t43[8:16])
-								t44 := m.at(uint32(l10) - 0xfcec0)
-								binary.LittleEndian.PutUint64(t44[0:8], t41)
-								binary.LittleEndian.PutUint64(t44[8:16], t42)
-								t47 := m.at(uint32(l2) - 0xfceb0)
-								t45 := binary.LittleEndian.Uint64(t47[0:8])
-								t46 := binary.LittleEndian.Uint64(t47[8:16])
-								t48 := m.at(uint32(l10) - 0xfceb0)
-								binary.LittleEndian.PutUint64(t48[0:8], t45)
-								binary.LittleEndian.PutUint64(t48[8:16], t46)
-								t49 := uint32(m.get8(uint32(l4) - 0xfce78))
-								m.put8(uint32((l0+0x38))-0xfcec0, uint8(t49))
-								t50 := m.get64(uint32(l4) - 0xfce80)
-								m.put64(uint32((l0+0x30))-0xfcec0, t50)
-								t51 := m.get64(uint32(l4) - 0xfceb0)
-								m.put64(uint32((l0+0x28))-0xfcec0, t51)
-								goto L2
-							}
-						L30:
-							{
-								t53 := uint64(m.get8(uint32(l4) - 0xfce6f))
-								switch uint32(t53) {
-								case 1:
-									goto L52
-								case 2:
-									goto L28
-								case 3:
-									goto L4
-								}
-								goto L27
-							}
-						L52:
-							l13 = 1
-							goto L27
-						}
-					L29:
-						m.put64(uint32((l3+0x10))-0xfcec0, l11)
-						t54 := uint32(m.get8(uint32(l4) - 0xfcea8))
-						if t54 != 1 {
-							goto L4
-						}
-						m.put32(uint32(l0)-0xfcec0, 0x4e6f0b01)
-						m.put16(uint32(l0)-0xfce9a, 0)
-						m.put32(uint32(l0)-0xfce87, 0)
-						m.put32(uint32(l0)-0xfce84, 0)
-						t55 := uint32(m.get8(uint32(l4) - 0xfceb7))
-						m.put8(uint32((l0+5))-0xfcec0, uint8((t55 & 1)))
-						t56 := uint32(m.get8(uint32(l4) - 0xfceb8))
-						t57 := -uint32(b2i(t56 != 0))
-						t58 := (2 & t57) | (1 &^ t57)
-						m.put8(uint32((l0+4))-0xfcec0, uint8(t58))
-						t61 := m.at(uint32(l2) - 0xfcec0)
-						t59 := binary.LittleEndian.Uint64(t61[0:8])
-						t60 := binary.LittleEndian.Uint64(t61[8:16])
-						t62 := m.at(uint32(l10) - 0xfcec0)
-						binary.LittleEndian.PutUint64(t62[0:8], t59)
-						binary.LittleEndian.PutUint64(t62[8:16], t60)
-						t65 := m.at(uint32(l2) - 0xfceb0)
-						t63 := binary.LittleEndian.Uint64(t65[0:8])
-						t64 := binary.LittleEndian.Uint64(t65[8:16])
-						t66 := m.at(uint32(l10) - 0xfceb0)
-						binary.LittleEndian.PutUint64(t66[0:8], t63)
-						binary.LittleEndian.PutUint64(t66[8:16], t64)
-						m.put8(uint32((l0+0x38))-0xfcec0, 1)
-						t67 := m.get64(uint32(l4) - 0xfce80)
-						m.put64(uint32((l0+0x30))-0xfcec0, t67)
-						t68 := m.get64(uint32(l4) - 0xfceb0)
-						m.put64(uint32((l0+0x28))-0xfcec0, t68)
-						l5 = 0x29
-						goto L2
-					}
-				L28:
-					l13 = 0
-				}
-			L27:
-				t69 := uint32(m.get8(uint32(l4) - 0xfcea8))
-				if t69 != 1 {
-					goto L4
-				}
-				m.put32(uint32(l0)-0xfcec0, 0x4e6f0b01)
-				m.put16(uint32(l0)-0xfce9a, 0)
-				m.put32(uint32(l0)-0xfce87, 0)
-				m.put32(uint32(l0)-0xfce84, 0)
-				t70 := uint32(m.get8(uint32(l4) - 0xfceb7))
-				m.put8(uint32((l0+5))-0xfcec0, uint8((t70 & 1)))
-				t71 := uint32(m.get8(uint32(l4) - 0xfceb8))
-				t72 := -uint32(b2i(t71 != 0))
-				t73 := (2 & t72) | (1 &^ t72)
-				m.put8(uint32((l0+4))-0xfcec0, uint8(t73))
-				t76 := m.at(uint32(l2) - 0xfcec0)
-				t74 := binary.LittleEndian.Uint64(t76[0:8])
-				t75 := binary.LittleEndian.Uint64(t76[8:16])
-				t77 := m.at(uint32(l10) - 0xfcec0)
-				binary.LittleEndian.PutUint64(t77[0:8], t74)
-				binary.LittleEndian.PutUint64(t77[8:16], t75)
-				t80 := m.at(uint32(l2) - 0xfceb0)
-				t78 := binary.LittleEndian.Uint64(t80[0:8])
-				t79 := binary.LittleEndian.Uint64(t80[8:16])
-				t81 := m.at(uint32(l10) - 0xfceb0)
-				binary.LittleEndian.PutUint64(t81[0:8], t78)
-				binary.LittleEndian.PutUint64(t81[8:16], t79)
-				m.put8(uint32((l0+0x38))-0xfcec0, 2)
-				t82 := m.get64(uint32(l4) - 0xfce80)
-				m.put64(uint32((l0+0x30))-0xfcec0, t82)
-				t83 := m.get64(uint32(l4) - 0xfceb0)
-				m.put64(uint32((l0+0x28))-0xfcec0, t83)
-				t84 := m.get32(uint32((l13 << 2)) + 0x4420)
-				l5 = t84
-				goto L2
-			}
-		L4:
-			panic("unreachable")
-		}
-	L3:
-		m.put64(uint32((l3+0x18))-0xfcec0, (l11 - l2))
-		l5 = 0x2a
-	}
-L2:
-	m.g0 = (l4 + 0x60)
-	return l5
-}
-
-// f129 is noise_stream_end.
-func f129(m *memory, l0 uint64, l1 uint64, l2 uint64, l3 uint64) uint32 {
 	var l4 uint32
 	{
 		t2 := f0(m)
@@ -4215,685 +5902,7 @@ func f129(m *memory, l0 uint64, l1 uint64, l2 uint64, l3 uint64) uint32 {
 		panic("unreachable")
 	}
 L1:
-	t3 := f130(m, l0, l1, l2, l3)
-	l4 = t3
-	f1(m)
-	return l4
-}
-
-// f130 is rattle::export noise_stream_end.
-func f130(m *memory, l0 uint64, l1 uint64, l2 uint64, l3 uint64) uint32 {
-	var l5, l6, l7, l8, l11 uint32
-	var l4, l9, l10 uint64
-	t1 := m.g0
-	l4 = (t1 - 0x60)
-	m.g0 = l4
-	{
-		if int64(l4) < 16 {
-			goto L2
-		}
-		l5 = 0x17
-		{
-			t4 := m.get32(uint32(l0) - 0xfcec0)
-			if t4 != 0x4e6f0a01 {
-				goto L3
-			}
-			l6 = 0
-			l7 = 0
-			{
-				{
-					t7 := uint32(m.get8(uint32((l0 + 4)) - 0xfcec0))
-					switch t7 + 0xffffffff {
-					case 1:
-						goto L6
-					case 0:
-						goto L5
-					}
-					goto L3
-				}
-			L6:
-				l7 = 1
-				l6 = 1
-			}
-		L5:
-			t8 := uint32(m.get8(uint32((l0 + 5)) - 0xfcec0))
-			l8 = t8
-			t9 := m.get64(uint32((l0 + 0x30)) - 0xfcec0)
-			l9 = t9
-			t10 := m.get64(uint32((l0 + 0x28)) - 0xfcec0)
-			l10 = t10
-			{
-				{
-					t13 := uint32(m.get8(uint32((l0 + 0x38)) - 0xfcec0))
-					l11 = t13
-					if l11 == 0 {
-						goto L12
-					}
-					if (l6 & b2i(l8 != 0)) != 0 {
-						goto L3
-					}
-					if !(l9 == 0) {
-						goto L11
-					}
-					goto L3
-				}
-			L12:
-				if l9 == 0xffffffffffffffff {
-					goto L3
-				}
-			}
-		L11:
-			m.put32(uint32(l4)-0xfcebe, 0)
-			m.put8(uint32(l4)-0xfcebf, uint8(b2i(l8 != 0)))
-			m.put8(uint32(l4)-0xfcec0, uint8(l7))
-			m.put16(uint32(l4)-0xfceba, 0)
-			m.put8(uint32(l4)-0xfceb0, 1)
-			m.put64(uint32(l4)-0xfceb8, l10)
-			m.put32(uint32(l4)-0xfce8f, 0)
-			m.put32(uint32(l4)-0xfce8c, 0)
-			m.put64(uint32(l4)-0xfce88, l9)
-			m.put32(uint32(l4)-0xfce7f, 0)
-			m.put32(uint32(l4)-0xfce7c, 0)
-			l9 = (l0 + 6)
-			t16 := m.at(uint32(l9) - 0xfcec0)
-			t14 := binary.LittleEndian.Uint64(t16[0:8])
-			t15 := binary.LittleEndian.Uint64(t16[8:16])
-			t17 := m.at(uint32(l4) - 0xfceaf)
-			binary.LittleEndian.PutUint64(t17[0:8], t14)
-			binary.LittleEndian.PutUint64(t17[8:16], t15)
-			t20 := m.at(uint32(l9) - 0xfceb0)
-			t18 := binary.LittleEndian.Uint64(t20[0:8])
-			t19 := binary.LittleEndian.Uint64(t20[8:16])
-			t21 := m.at(uint32(l4) - 0xfce9f)
-			binary.LittleEndian.PutUint64(t21[0:8], t18)
-			binary.LittleEndian.PutUint64(t21[8:16], t19)
-			m.put8(uint32(l4)-0xfce80, uint8(b2i(l11 != 0)))
-			l5 = 0x12
-			if l2 < 0x12 {
-				goto L3
-			}
-			m.put64(uint32(l4)-0xfce68, 0)
-			t22 := m.at(uint32(l4) - 0xfce78)
-			binary.LittleEndian.PutUint64(t22[0:8], 0)
-			binary.LittleEndian.PutUint64(t22[8:16], 0)
-			{
-				if l11 == 0 {
-					goto L23
-				}
-				l5 = 0x2b
-				goto L3
-			}
-		L23:
-			{
-				if (l6 & b2i(l8 != 0)) != 0 {
-					goto L24
-				}
-				t25 := -uint64(b2i(l1 == 0))
-				t26 := (0x1000 & t25) | (0 &^ t25)
-				f48(m, (l4 + 0x48), l4, 0x10000f, 0, (l1 + t26), l2)
-				t27 := uint32(m.get8(uint32(l4) - 0xfce78))
-				if t27 != 0 {
-					goto L2
-				}
-				t28 := m.get64(uint32(l4) - 0xfce70)
-				m.put64(uint32((l3+8))-0xfcec0, t28)
-				t29 := uint32(m.get8(uint32(l4) - 0xfceb0))
-				if t29 != 1 {
-					goto L2
-				}
-				m.put32(uint32(l0)-0xfcec0, 0x4e6f0a01)
-				l5 = 0
-				m.put16(uint32(l0)-0xfce9a, 0)
-				m.put32(uint32(l0)-0xfce87, 0)
-				m.put32(uint32(l0)-0xfce84, 0)
-				t30 := uint32(m.get8(uint32(l4) - 0xfcebf))
-				m.put8(uint32((l0+5))-0xfcec0, uint8((t30 & 1)))
-				t31 := uint32(m.get8(uint32(l4) - 0xfcec0))
-				t32 := -uint32(b2i(t31 != 0))
-				t33 := (2 & t32) | (1 &^ t32)
-				m.put8(uint32((l0+4))-0xfcec0, uint8(t33))
-				l2 = (l4 + 0x11)
-				t36 := m.at(uint32(l2) - 0xfcec0)
-				t34 := binary.LittleEndian.Uint64(t36[0:8])
-				t35 := binary.LittleEndian.Uint64(t36[8:16])
-				t37 := m.at(uint32(l9) - 0xfcec0)
-				binary.LittleEndian.PutUint64(t37[0:8], t34)
-				binary.LittleEndian.PutUint64(t37[8:16], t35)
-				t40 := m.at(uint32(l2) - 0xfceb0)
-				t38 := binary.LittleEndian.Uint64(t40[0:8])
-				t39 := binary.LittleEndian.Uint64(t40[8:16])
-				t41 := m.at(uint32(l9) - 0xfceb0)
-				binary.LittleEndian.PutUint64(t41[0:8], t38)
-				binary.LittleEndian.PutUint64(t41[8:16], t39)
-				m.put8(uint32((l0+0x38))-0xfcec0, 1)
-				t42 := m.get64(uint32(l4) - 0xfce88)
-				m.put64(uint32((l0+0x30))-0xfcec0, t42)
-				t43 := m.get64(uint32(l4) - 0xfceb8)
-				m.put64(uint32((l0+0x28))-0xfcec0, t43)
-				goto L3
-			}
-		L24:
-			l5 = 0x16
-		}
-	L3:
-		m.g0 = (l4 + 0x60)
-		return l5
-	}
-L2:
-	panic("unreachable")
-}
-
-// f131 is noise_stream_write.
-func f131(m *memory, l0 uint64, l1 uint64, l2 uint64, l3 uint64, l4 uint64, l5 uint64) uint32 {
-	var l6 uint32
-	{
-		t2 := f0(m)
-		if t2 == 0 {
-			goto L1
-		}
-		f2(m)
-		panic("unreachable")
-	}
-L1:
-	t3 := f132(m, l0, l1, l2, l3, l4, l5)
-	l6 = t3
-	f1(m)
-	return l6
-}
-
-// f132 is rattle::export noise_stream_write.
-func f132(m *memory, l0 uint64, l1 uint64, l2 uint64, l3 uint64, l4 uint64, l5 uint64) uint32 {
-	var l7, l8, l9, l10, l13, l14, l17 uint32
-	var l6, l11, l12, l15, l16 uint64
-	var l18a, l18b uint64
-	t1 := m.g0
-	l6 = (t1 - 0x60)
-	m.g0 = l6
-	{
-		if int64(l6) < 16 {
-			goto L2
-		}
-		l7 = 0x17
-		{
-			t4 := m.get32(uint32(l0) - 0xfcec0)
-			if t4 != 0x4e6f0a01 {
-				goto L3
-			}
-			l8 = 0
-			l9 = 0
-			{
-				{
-					t7 := uint32(m.get8(uint32((l0 + 4)) - 0xfcec0))
-					switch t7 + 0xffffffff {
-					case 1:
-						goto L6
-					case 0:
-						goto L5
-					}
-					goto L3
-				}
-			L6:
-				l9 = 1
-				l8 = 1
-			}
-		L5:
-			t8 := uint32(m.get8(uint32((l0 + 5)) - 0xfcec0))
-			l10 = t8
-			t9 := m.get64(uint32((l0 + 0x30)) - 0xfcec0)
-			l11 = t9
-			t10 := m.get64(uint32((l0 + 0x28)) - 0xfcec0)
-			l12 = t10
-			{
-				{
-					t13 := uint32(m.get8(uint32((l0 + 0x38)) - 0xfcec0))
-					l13 = t13
-					if l13 == 0 {
-						goto L12
-					}
-					if (l8 & b2i(l10 != 0)) != 0 {
-						goto L3
-					}
-					if !(l11 == 0) {
-						goto L11
-					}
-					goto L3
-				}
-			L12:
-				if l11 == 0xffffffffffffffff {
-					goto L3
-				}
-			}
-		L11:
-			m.put32(uint32(l6)-0xfcebe, 0)
-			l14 = b2i(l10 != 0)
-			m.put8(uint32(l6)-0xfcebf, uint8(l14))
-			m.put8(uint32(l6)-0xfcec0, uint8(l9))
-			m.put16(uint32(l6)-0xfceba, 0)
-			m.put8(uint32(l6)-0xfceb0, 1)
-			m.put64(uint32(l6)-0xfceb8, l12)
-			m.put32(uint32(l6)-0xfce8f, 0)
-			m.put32(uint32(l6)-0xfce8c, 0)
-			m.put64(uint32(l6)-0xfce88, l11)
-			m.put32(uint32(l6)-0xfce7f, 0)
-			m.put32(uint32(l6)-0xfce7c, 0)
-			l15 = (l0 + 6)
-			t16 := m.at(uint32(l15) - 0xfcec0)
-			t14 := binary.LittleEndian.Uint64(t16[0:8])
-			t15 := binary.LittleEndian.Uint64(t16[8:16])
-			t17 := m.at(uint32(l6) - 0xfceaf)
-			binary.LittleEndian.PutUint64(t17[0:8], t14)
-			binary.LittleEndian.PutUint64(t17[8:16], t15)
-			t20 := m.at(uint32(l15) - 0xfceb0)
-			t18 := binary.LittleEndian.Uint64(t20[0:8])
-			t19 := binary.LittleEndian.Uint64(t20[8:16])
-			t21 := m.at(uint32(l6) - 0xfce9f)
-			binary.LittleEndian.PutUint64(t21[0:8], t18)
-			binary.LittleEndian.PutUint64(t21[8:16], t19)
-			m.put8(uint32(l6)-0xfce80, uint8(b2i(l13 != 0)))
-			t22 := -uint64(b2i(l2 < 0xffef))
-			t23 := (l2 & t22) | (0xffef &^ t22)
-			l16 = t23
-			l17 = (b2i(l2 != 0) & b2i((l16+0x12) > l4))
-			t24 := -uint32(b2i(l17 != 0))
-			t25 := (0x12 & t24) | (0x2b &^ t24)
-			l7 = t25
-			if l17 != 0 {
-				goto L3
-			}
-			if l13 != 0 {
-				goto L3
-			}
-			l18a, l18b = 0, 0
-			t26 := m.at(uint32(l6) - 0xfce78)
-			binary.LittleEndian.PutUint64(t26[0:8], l18a)
-			binary.LittleEndian.PutUint64(t26[8:16], l18b)
-			m.put64(uint32(l6)-0xfce68, 0)
-			{
-				{
-					{
-						{
-							if l2 != 0 {
-								goto L30
-							}
-							t31 := m.at(uint32((l5 + 8)) - 0xfcec0)
-							binary.LittleEndian.PutUint64(t31[0:8], l18a)
-							binary.LittleEndian.PutUint64(t31[8:16], l18b)
-							l8 = 0
-							goto L29
-						}
-					L30:
-						if (l8 & b2i(l10 != 0)) != 0 {
-							goto L27
-						}
-						if l11 == 0xfffffffffffffffe {
-							goto L28
-						}
-						t32 := -uint64(b2i(l1 == 0))
-						t33 := (0x1000 & t32) | (0 &^ t32)
-						t34 := -uint64(b2i(l3 == 0))
-						t35 := (0x1000 & t34) | (0 &^ t34)
-						f48(m, (l6 + 0x48), l6, (l1 + t33), l16, (l3 + t35), l4)
-						t36 := uint32(m.get8(uint32(l6) - 0xfce78))
-						if t36 != 0 {
-							goto L2
-						}
-						t37 := m.get64(uint32(l6) - 0xfce88)
-						l11 = t37
-						t38 := m.get64(uint32(l6) - 0xfceb8)
-						l12 = t38
-						t39 := uint32(m.get8(uint32(l6) - 0xfcebf))
-						l14 = t39
-						t40 := uint32(m.get8(uint32(l6) - 0xfcec0))
-						l9 = t40
-						t41 := uint32(m.get8(uint32(l6) - 0xfceb0))
-						l7 = t41
-						t42 := uint32(m.get8(uint32(l6) - 0xfce80))
-						l8 = t42
-						t43 := m.get64(uint32(l6) - 0xfce70)
-						l2 = t43
-						m.put64(uint32((l5+0x10))-0xfcec0, l16)
-						m.put64(uint32((l5+8))-0xfcec0, l2)
-						if l7 != 1 {
-							goto L2
-						}
-						l8 = (l8 & 1)
-					}
-				L29:
-					m.put32(uint32(l0)-0xfcec0, 0x4e6f0a01)
-					l7 = 0
-					m.put32(uint32(l0)-0xfce87, 0)
-					m.put16(uint32(l0)-0xfce9a, 0)
-					m.put32(uint32(l0)-0xfce84, 0)
-					m.put8(uint32((l0+5))-0xfcec0, uint8((l14 & 1)))
-					l2 = (l6 + 0x11)
-					t46 := m.at(uint32(l2) - 0xfcec0)
-					t44 := binary.LittleEndian.Uint64(t46[0:8])
-					t45 := binary.LittleEndian.Uint64(t46[8:16])
-					t47 := m.at(uint32(l15) - 0xfcec0)
-					binary.LittleEndian.PutUint64(t47[0:8], t44)
-					binary.LittleEndian.PutUint64(t47[8:16], t45)
-					t50 := m.at(uint32(l2) - 0xfceb0)
-					t48 := binary.LittleEndian.Uint64(t50[0:8])
-					t49 := binary.LittleEndian.Uint64(t50[8:16])
-					t51 := m.at(uint32(l15) - 0xfceb0)
-					binary.LittleEndian.PutUint64(t51[0:8], t48)
-					binary.LittleEndian.PutUint64(t51[8:16], t49)
-					m.put8(uint32((l0+0x38))-0xfcec0, uint8(l8))
-					m.put64(uint32((l0+0x30))-0xfcec0, l11)
-					m.put64(uint32((l0+0x28))-0xfcec0, l12)
-					t52 := -uint32(b2i((l9 & 0xff) != 0))
-					t53 := (2 & t52) | (1 &^ t52)
-					m.put8(uint32((l0+4))-0xfcec0, uint8(t53))
-					goto L3
-				}
-			L28:
-				l7 = 0x11
-				goto L3
-			}
-		L27:
-			l7 = 0x16
-		}
-	L3:
-		m.g0 = (l6 + 0x60)
-		return l7
-	}
-L2:
-	panic("unreachable")
-}
-
-// f133 is noise_unset_psk.
-func f133(m *memory, l0 uint64) uint32 {
-	var l1 uint32
-	{
-		t2 := f0(m)
-		if t2 == 0 {
-			goto L1
-		}
-		f2(m)
-		panic("unreachable")
-	}
-L1:
-	t3 := f134(m, l0)
-	l1 = t3
-	f1(m)
-	return l1
-}
-
-// f134 is rattle::export noise_unset_psk.
-func f134(m *memory, l0 uint64) uint32 {
-	var l3, l4 uint32
-	var l1, l2, l5, l6, l7, l9 uint64
-	var l8a, l8b uint64
-	t1 := m.g0
-	l1 = (t1 - 0x480)
-	m.g0 = l1
-	{
-		if int64(l1) < 16 {
-			goto L2
-		}
-		m.fill(uint32((l1 + 0x118)), 0, 0x368)
-		m.fill(uint32(l1), 0, 0x118)
-		{
-			{
-				{
-					t6 := m.get32(uint32(l0) - 0xfcec0)
-					if t6 != 0x4e6f0101 {
-						goto L5
-					}
-					t7 := uint64(m.get16(uint32((l0 + 0x1a4)) - 0xfcec0))
-					l2 = t7
-					if l2 > 0x1a0 {
-						goto L5
-					}
-					t8 := uint32(m.get8(uint32((l0 + 0x34e)) - 0xfcec0))
-					if t8 > 8 {
-						goto L5
-					}
-					t9 := uint32(m.get8(uint32((l0 + 0x22d)) - 0xfcec0))
-					if t9 > 9 {
-						goto L5
-					}
-					f15(m, l1, (l0 + 4), l2)
-					t10 := uint32(m.get8(uint32(l1) - 0xfcec0))
-					if t10 == 0 {
-						goto L4
-					}
-				}
-			L5:
-				l3 = 0x17
-				goto L3
-			}
-		L4:
-			f31(m, (l1 + 0x118), l0, (l1 + 8))
-			l3 = 0x17
-			t11 := uint32(m.get8(uint32(l1) - 0xfcda8))
-			if t11 != 1 {
-				goto L3
-			}
-			l3 = 0
-			l2 = (l0 + 0x22d)
-			t12 := uint32(m.get8(uint32(l2) - 0xfcec0))
-			l4 = t12
-			if l4 == 0 {
-				goto L3
-			}
-			l5 = (l0 + 0x31e)
-			t15 := m.at(uint32(l5) - 0xfcec0)
-			t13 := binary.LittleEndian.Uint64(t15[0:8])
-			t14 := binary.LittleEndian.Uint64(t15[8:16])
-			t16 := m.at(uint32((l0 + 0x33e)) - 0xfcec0)
-			binary.LittleEndian.PutUint64(t16[0:8], t13)
-			binary.LittleEndian.PutUint64(t16[8:16], t14)
-			l6 = (l0 + 0x30e)
-			t19 := m.at(uint32(l6) - 0xfcec0)
-			t17 := binary.LittleEndian.Uint64(t19[0:8])
-			t18 := binary.LittleEndian.Uint64(t19[8:16])
-			t20 := m.at(uint32((l0 + 0x32e)) - 0xfcec0)
-			binary.LittleEndian.PutUint64(t20[0:8], t17)
-			binary.LittleEndian.PutUint64(t20[8:16], t18)
-			l7 = (l0 + 0x2fe)
-			t23 := m.at(uint32(l7) - 0xfcec0)
-			t21 := binary.LittleEndian.Uint64(t23[0:8])
-			t22 := binary.LittleEndian.Uint64(t23[8:16])
-			t24 := m.at(uint32(l5) - 0xfcec0)
-			binary.LittleEndian.PutUint64(t24[0:8], t21)
-			binary.LittleEndian.PutUint64(t24[8:16], t22)
-			l5 = (l0 + 0x2ee)
-			t27 := m.at(uint32(l5) - 0xfcec0)
-			t25 := binary.LittleEndian.Uint64(t27[0:8])
-			t26 := binary.LittleEndian.Uint64(t27[8:16])
-			t28 := m.at(uint32(l6) - 0xfcec0)
-			binary.LittleEndian.PutUint64(t28[0:8], t25)
-			binary.LittleEndian.PutUint64(t28[8:16], t26)
-			l6 = (l0 + 0x2ce)
-			t31 := m.at(uint32(l6) - 0xfcec0)
-			t29 := binary.LittleEndian.Uint64(t31[0:8])
-			t30 := binary.LittleEndian.Uint64(t31[8:16])
-			t32 := m.at(uint32(l5) - 0xfcec0)
-			binary.LittleEndian.PutUint64(t32[0:8], t29)
-			binary.LittleEndian.PutUint64(t32[8:16], t30)
-			l5 = (l0 + 0x2de)
-			t35 := m.at(uint32(l5) - 0xfcec0)
-			t33 := binary.LittleEndian.Uint64(t35[0:8])
-			t34 := binary.LittleEndian.Uint64(t35[8:16])
-			t36 := m.at(uint32(l7) - 0xfcec0)
-			binary.LittleEndian.PutUint64(t36[0:8], t33)
-			binary.LittleEndian.PutUint64(t36[8:16], t34)
-			l7 = (l0 + 0x2be)
-			t39 := m.at(uint32(l7) - 0xfcec0)
-			t37 := binary.LittleEndian.Uint64(t39[0:8])
-			t38 := binary.LittleEndian.Uint64(t39[8:16])
-			l8a, l8b = t37, t38
-			l9 = (l0 + 0x29e)
-			t42 := m.at(uint32(l9) - 0xfcec0)
-			t40 := binary.LittleEndian.Uint64(t42[0:8])
-			t41 := binary.LittleEndian.Uint64(t42[8:16])
-			t43 := m.at(uint32(l7) - 0xfcec0)
-			binary.LittleEndian.PutUint64(t43[0:8], t40)
-			binary.LittleEndian.PutUint64(t43[8:16], t41)
-			t44 := m.at(uint32(l5) - 0xfcec0)
-			binary.LittleEndian.PutUint64(t44[0:8], l8a)
-			binary.LittleEndian.PutUint64(t44[8:16], l8b)
-			l5 = (l0 + 0x2ae)
-			t47 := m.at(uint32(l5) - 0xfcec0)
-			t45 := binary.LittleEndian.Uint64(t47[0:8])
-			t46 := binary.LittleEndian.Uint64(t47[8:16])
-			t48 := m.at(uint32(l6) - 0xfcec0)
-			binary.LittleEndian.PutUint64(t48[0:8], t45)
-			binary.LittleEndian.PutUint64(t48[8:16], t46)
-			l6 = (l0 + 0x28e)
-			t51 := m.at(uint32(l6) - 0xfcec0)
-			t49 := binary.LittleEndian.Uint64(t51[0:8])
-			t50 := binary.LittleEndian.Uint64(t51[8:16])
-			t52 := m.at(uint32(l5) - 0xfcec0)
-			binary.LittleEndian.PutUint64(t52[0:8], t49)
-			binary.LittleEndian.PutUint64(t52[8:16], t50)
-			l5 = (l0 + 0x27e)
-			t55 := m.at(uint32(l5) - 0xfcec0)
-			t53 := binary.LittleEndian.Uint64(t55[0:8])
-			t54 := binary.LittleEndian.Uint64(t55[8:16])
-			t56 := m.at(uint32(l9) - 0xfcec0)
-			binary.LittleEndian.PutUint64(t56[0:8], t53)
-			binary.LittleEndian.PutUint64(t56[8:16], t54)
-			l7 = (l0 + 0x26e)
-			t59 := m.at(uint32(l7) - 0xfcec0)
-			t57 := binary.LittleEndian.Uint64(t59[0:8])
-			t58 := binary.LittleEndian.Uint64(t59[8:16])
-			t60 := m.at(uint32(l6) - 0xfcec0)
-			binary.LittleEndian.PutUint64(t60[0:8], t57)
-			binary.LittleEndian.PutUint64(t60[8:16], t58)
-			l6 = (l0 + 0x25e)
-			t63 := m.at(uint32(l6) - 0xfcec0)
-			t61 := binary.LittleEndian.Uint64(t63[0:8])
-			t62 := binary.LittleEndian.Uint64(t63[8:16])
-			t64 := m.at(uint32(l5) - 0xfcec0)
-			binary.LittleEndian.PutUint64(t64[0:8], t61)
-			binary.LittleEndian.PutUint64(t64[8:16], t62)
-			l5 = (l0 + 0x24e)
-			t67 := m.at(uint32(l5) - 0xfcec0)
-			t65 := binary.LittleEndian.Uint64(t67[0:8])
-			t66 := binary.LittleEndian.Uint64(t67[8:16])
-			t68 := m.at(uint32(l7) - 0xfcec0)
-			binary.LittleEndian.PutUint64(t68[0:8], t65)
-			binary.LittleEndian.PutUint64(t68[8:16], t66)
-			l7 = (l0 + 0x23e)
-			t71 := m.at(uint32(l7) - 0xfcec0)
-			t69 := binary.LittleEndian.Uint64(t71[0:8])
-			t70 := binary.LittleEndian.Uint64(t71[8:16])
-			t72 := m.at(uint32(l6) - 0xfcec0)
-			binary.LittleEndian.PutUint64(t72[0:8], t69)
-			binary.LittleEndian.PutUint64(t72[8:16], t70)
-			l0 = (l0 + 0x22e)
-			t75 := m.at(uint32(l0) - 0xfcec0)
-			t73 := binary.LittleEndian.Uint64(t75[0:8])
-			t74 := binary.LittleEndian.Uint64(t75[8:16])
-			t76 := m.at(uint32(l5) - 0xfcec0)
-			binary.LittleEndian.PutUint64(t76[0:8], t73)
-			binary.LittleEndian.PutUint64(t76[8:16], t74)
-			l8a, l8b = 0, 0
-			t77 := m.at(uint32(l7) - 0xfcec0)
-			binary.LittleEndian.PutUint64(t77[0:8], l8a)
-			binary.LittleEndian.PutUint64(t77[8:16], l8b)
-			t78 := m.at(uint32(l0) - 0xfcec0)
-			binary.LittleEndian.PutUint64(t78[0:8], l8a)
-			binary.LittleEndian.PutUint64(t78[8:16], l8b)
-			m.put8(uint32(l2)-0xfcec0, uint8((l4 + 0xffffffff)))
-		}
-	L3:
-		m.g0 = (l1 + 0x480)
-		return l3
-	}
-L2:
-	panic("unreachable")
-}
-
-// f135 is noise_check_pattern.
-func f135(m *memory, l0 uint64, l1 uint64, l2 uint64) uint32 {
-	var l3 uint32
-	{
-		t2 := f0(m)
-		if t2 == 0 {
-			goto L1
-		}
-		f2(m)
-		panic("unreachable")
-	}
-L1:
-	t3 := f136(m, l0, l1, l2)
-	l3 = t3
-	f1(m)
-	return l3
-}
-
-// f136 is rattle::export noise_check_pattern.
-func f136(m *memory, l0 uint64, l1 uint64, l2 uint64) uint32 {
-	var l4 uint32
-	var l3 uint64
-	t1 := m.g0
-	l3 = (t1 - 0x230)
-	m.g0 = l3
-	{
-		{
-			{
-				if int64(l3) < 16 {
-					goto L4
-				}
-				m.fill(uint32((l3 + 0x118)), 0, 0x118)
-				t5 := -uint64(b2i(l0 == 0))
-				t6 := (0x1000 & t5) | (0 &^ t5)
-				f16(m, (l3 + 0x118), (l0 + t6), l1)
-				t7 := uint32(m.get8(uint32(l3) - 0xfcda8))
-				if t7 != 0 {
-					goto L3
-				}
-				m.copy(uint32((l3 + 8)), uint32((l3 + 0x120)), 0x110)
-				m.fill(uint32((l3 + 0x118)), 0, 0x118)
-				f17(m, (l3 + 0x118), (l3 + 8))
-				{
-					t9 := uint32(m.get8(uint32(l3) - 0xfcda8))
-					if t9 != 0 {
-						goto L8
-					}
-					t10 := m.get64(uint32(l3) - 0xfcc98)
-					m.put8(uint32((l2+0xb))-0xfcec0, uint8(t10))
-					l4 = 0
-					goto L2
-				}
-			L8:
-				t11 := uint32(m.get8(uint32(l3) - 0xfcda5))
-				m.put8(uint32((l2+0xa))-0xfcec0, uint8(t11))
-				t12 := uint32(m.get16(uint32(l3) - 0xfcda7))
-				m.put16(uint32((l2+8))-0xfcec0, uint16(t12))
-				l4 = 0x27
-				goto L2
-			}
-		L4:
-			panic("unreachable")
-		}
-	L3:
-		t13 := m.get64(uint32(l3) - 0xfcda0)
-		m.put64(uint32(l2)-0xfcec0, t13)
-		t14 := uint32(m.get8(uint32(l3) - 0xfcd98))
-		l4 = (t14 + 0x1e)
-	}
-L2:
-	m.g0 = (l3 + 0x230)
-	return l4
-}
-
-// f137 is noise_pattern.
-func f137(m *memory, l0 uint64, l1 uint64, l2 uint64, l3 uint64) uint32 {
-	var l4 uint32
-	{
-		t2 := f0(m)
-		if t2 == 0 {
-			goto L1
-		}
-		f2(m)
-		panic("unreachable")
-	}
-L1:
-	t3 := f138(m, l0, l1, l2, l3)
+	t3 := f129(m, l0, l1, l2, l3)
 	l4 = t3
 	f1(m)
 	return l4

@@ -8,8 +8,985 @@ import (
 	"encoding/binary"
 )
 
-// f138 is rattle::export noise_pattern.
+// f129 is rattle::export noise_stream_read.
+func f129(m *memory, l0 uint64, l1 uint64, l2 uint64, l3 uint64) uint32 {
+	var l5, l6, l7, l8, l9 uint32
+	var l4, l10, l11, l12, l13, l14 uint64
+	t1 := m.g0
+	l4 = (t1 - 0x60)
+	m.g0 = l4
+	{
+		{
+			{
+				if int64(l4) < 16 {
+					goto L4
+				}
+				l5 = 0x17
+				t5 := m.get32(uint32(l0) - 0xfcec0)
+				if t5 != 0x4e6f0b01 {
+					goto L2
+				}
+				l6 = 1
+				l7 = 0
+				{
+					{
+						t8 := uint32(m.get8(uint32((l0 + 4)) - 0xfcec0))
+						switch t8 + 0xffffffff {
+						case 1:
+							goto L7
+						case 0:
+							goto L6
+						}
+						goto L2
+					}
+				L7:
+					l7 = 1
+					l6 = 0
+				}
+			L6:
+				t9 := uint32(m.get8(uint32((l0 + 0x38)) - 0xfcec0))
+				l8 = t9
+				if l8 > 2 {
+					goto L2
+				}
+				t10 := uint32(m.get8(uint32((l0 + 5)) - 0xfcec0))
+				l9 = t10
+				t11 := m.get64(uint32((l0 + 0x30)) - 0xfcec0)
+				l10 = t11
+				t12 := m.get64(uint32((l0 + 0x28)) - 0xfcec0)
+				l11 = t12
+				{
+					if l8 != 1 {
+						goto L13
+					}
+					if (l6 & b2i(l9 != 0)) != 0 {
+						goto L2
+					}
+					if l10 == 0 {
+						goto L2
+					}
+				}
+			L13:
+				m.put32(uint32(l4)-0xfceb6, 0)
+				m.put8(uint32(l4)-0xfceb7, uint8(b2i(l9 != 0)))
+				m.put8(uint32(l4)-0xfceb8, uint8(l7))
+				m.put16(uint32(l4)-0xfceb2, 0)
+				m.put8(uint32(l4)-0xfcea8, 1)
+				m.put64(uint32(l4)-0xfceb0, l11)
+				m.put32(uint32(l4)-0xfce87, 0)
+				m.put32(uint32(l4)-0xfce84, 0)
+				m.put8(uint32(l4)-0xfce78, uint8(l8))
+				m.put64(uint32(l4)-0xfce80, l10)
+				m.put32(uint32(l4)-0xfce77, 0)
+				m.put32(uint32(l4)-0xfce74, 0)
+				l10 = (l0 + 6)
+				t16 := m.at(uint32(l10) - 0xfcec0)
+				t14 := binary.LittleEndian.Uint64(t16[0:8])
+				t15 := binary.LittleEndian.Uint64(t16[8:16])
+				t17 := m.at(uint32(l4) - 0xfcea7)
+				binary.LittleEndian.PutUint64(t17[0:8], t14)
+				binary.LittleEndian.PutUint64(t17[8:16], t15)
+				t20 := m.at(uint32(l10) - 0xfceb0)
+				t18 := binary.LittleEndian.Uint64(t20[0:8])
+				t19 := binary.LittleEndian.Uint64(t20[8:16])
+				t21 := m.at(uint32(l4) - 0xfce97)
+				binary.LittleEndian.PutUint64(t21[0:8], t18)
+				binary.LittleEndian.PutUint64(t21[8:16], t19)
+				l5 = 0x2b
+				if l8 != 0 {
+					goto L2
+				}
+				l11 = 2
+				if l2 < 2 {
+					goto L3
+				}
+				t22 := -uint64(b2i(l1 == 0))
+				t23 := (0x1000 & t22) | (0 &^ t22)
+				l1 = (l1 + t23)
+				t24 := uint64(m.get8(uint32(l1) - 0xfcec0))
+				t25 := uint64(m.get8(uint32(l1) - 0xfcebf))
+				l12 = ((t24 << 8) | t25)
+				l11 = (l12 + 2)
+				if l2 < l11 {
+					goto L3
+				}
+				l2 = (l4 + 0x19)
+				t26 := m.at(uint32(l4) - 0xfce70)
+				binary.LittleEndian.PutUint64(t26[0:8], 0)
+				binary.LittleEndian.PutUint64(t26[8:16], 0)
+				l13 = 3
+				{
+					if (l6 & b2i(l9 != 0)) != 0 {
+						goto L27
+					}
+					l13 = 2
+					l14 = (l4 + 0x18)
+					f4(m, (l4 + 0x50), l14, 0x10000f, 0, (l1 + 2), l12)
+					{
+						{
+							{
+								t31 := uint32(m.get8(uint32(l4) - 0xfce70))
+								if t31 != 0 {
+									goto L30
+								}
+								t32 := m.get64(uint32(l4) - 0xfce68)
+								l1 = t32
+								{
+									t34 := m.get64(uint32(l4) - 0xfceb0)
+									l13 = t34
+									if l13 == 0 {
+										goto L33
+									}
+									t35 := m.get64(uint32(l4) - 0xfce80)
+									if (t35 % l13) != 0 {
+										goto L33
+									}
+									f14(m, l14)
+								}
+							L33:
+								if l1 == 0 {
+									goto L29
+								}
+								m.put64(uint32(l3)-0xfcec0, 2)
+								m.put64(uint32((l3+0x10))-0xfcec0, l11)
+								m.put64(uint32((l3+8))-0xfcec0, l1)
+								t36 := uint32(m.get8(uint32(l4) - 0xfcea8))
+								if t36 != 1 {
+									goto L4
+								}
+								m.put32(uint32(l0)-0xfcec0, 0x4e6f0b01)
+								l5 = 0
+								m.put16(uint32(l0)-0xfce9a, 0)
+								m.put32(uint32(l0)-0xfce87, 0)
+								m.put32(uint32(l0)-0xfce84, 0)
+								t37 := uint32(m.get8(uint32(l4) - 0xfceb7))
+								m.put8(uint32((l0+5))-0xfcec0, uint8((t37 & 1)))
+								t38 := uint32(m.get8(uint32(l4) - 0xfceb8))
+								t39 := -uint32(b2i(t38 != 0))
+								t40 := (2 & t39) | (1 &^ t39)
+								m.put8(uint32((l0+4))-0xfcec0, uint8(t40))
+								t43 := m.at(uint32(l2) - 0xfcec0)
+								t41 := binary.LittleEndian.Uint64(t43[0:8])
+								t42 := binary.LittleEndian.Uint64(t43[8:16])
+								t44 := m.at(uint32(l10) - 0xfcec0)
+								binary.LittleEndian.PutUint64(t44[0:8], t41)
+								binary.LittleEndian.PutUint64(t44[8:16], t42)
+								t47 := m.at(uint32(l2) - 0xfceb0)
+								t45 := binary.LittleEndian.Uint64(t47[0:8])
+								t46 := binary.LittleEndian.Uint64(t47[8:16])
+								t48 := m.at(uint32(l10) - 0xfceb0)
+								binary.LittleEndian.PutUint64(t48[0:8], t45)
+								binary.LittleEndian.PutUint64(t48[8:16], t46)
+								t49 := uint32(m.get8(uint32(l4) - 0xfce78))
+								m.put8(uint32((l0+0x38))-0xfcec0, uint8(t49))
+								t50 := m.get64(uint32(l4) - 0xfce80)
+								m.put64(uint32((l0+0x30))-0xfcec0, t50)
+								t51 := m.get64(uint32(l4) - 0xfceb0)
+								m.put64(uint32((l0+0x28))-0xfcec0, t51)
+								goto L2
+							}
+						L30:
+							{
+								t53 := uint64(m.get8(uint32(l4) - 0xfce6f))
+								switch uint32(t53) {
+								case 1:
+									goto L52
+								case 2:
+									goto L28
+								case 3:
+									goto L4
+								}
+								goto L27
+							}
+						L52:
+							l13 = 1
+							goto L27
+						}
+					L29:
+						m.put64(uint32((l3+0x10))-0xfcec0, l11)
+						t54 := uint32(m.get8(uint32(l4) - 0xfcea8))
+						if t54 != 1 {
+							goto L4
+						}
+						m.put32(uint32(l0)-0xfcec0, 0x4e6f0b01)
+						m.put16(uint32(l0)-0xfce9a, 0)
+						m.put32(uint32(l0)-0xfce87, 0)
+						m.put32(uint32(l0)-0xfce84, 0)
+						t55 := uint32(m.get8(uint32(l4) - 0xfceb7))
+						m.put8(uint32((l0+5))-0xfcec0, uint8((t55 & 1)))
+						t56 := uint32(m.get8(uint32(l4) - 0xfceb8))
+						t57 := -uint32(b2i(t56 != 0))
+						t58 := (2 & t57) | (1 &^ t57)
+						m.put8(uint32((l0+4))-0xfcec0, uint8(t58))
+						t61 := m.at(uint32(l2) - 0xfcec0)
+						t59 := binary.LittleEndian.Uint64(t61[0:8])
+						t60 := binary.LittleEndian.Uint64(t61[8:16])
+						t62 := m.at(uint32(l10) - 0xfcec0)
+						binary.LittleEndian.PutUint64(t62[0:8], t59)
+						binary.LittleEndian.PutUint64(t62[8:16], t60)
+						t65 := m.at(uint32(l2) - 0xfceb0)
+						t63 := binary.LittleEndian.Uint64(t65[0:8])
+						t64 := binary.LittleEndian.Uint64(t65[8:16])
+						t66 := m.at(uint32(l10) - 0xfceb0)
+						binary.LittleEndian.PutUint64(t66[0:8], t63)
+						binary.LittleEndian.PutUint64(t66[8:16], t64)
+						m.put8(uint32((l0+0x38))-0xfcec0, 1)
+						t67 := m.get64(uint32(l4) - 0xfce80)
+						m.put64(uint32((l0+0x30))-0xfcec0, t67)
+						t68 := m.get64(uint32(l4) - 0xfceb0)
+						m.put64(uint32((l0+0x28))-0xfcec0, t68)
+						l5 = 0x29
+						goto L2
+					}
+				L28:
+					l13 = 0
+				}
+			L27:
+				t69 := uint32(m.get8(uint32(l4) - 0xfcea8))
+				if t69 != 1 {
+					goto L4
+				}
+				m.put32(uint32(l0)-0xfcec0, 0x4e6f0b01)
+				m.put16(uint32(l0)-0xfce9a, 0)
+				m.put32(uint32(l0)-0xfce87, 0)
+				m.put32(uint32(l0)-0xfce84, 0)
+				t70 := uint32(m.get8(uint32(l4) - 0xfceb7))
+				m.put8(uint32((l0+5))-0xfcec0, uint8((t70 & 1)))
+				t71 := uint32(m.get8(uint32(l4) - 0xfceb8))
+				t72 := -uint32(b2i(t71 != 0))
+				t73 := (2 & t72) | (1 &^ t72)
+				m.put8(uint32((l0+4))-0xfcec0, uint8(t73))
+				t76 := m.at(uint32(l2) - 0xfcec0)
+				t74 := binary.LittleEndian.Uint64(t76[0:8])
+				t75 := binary.LittleEndian.Uint64(t76[8:16])
+				t77 := m.at(uint32(l10) - 0xfcec0)
+				binary.LittleEndian.PutUint64(t77[0:8], t74)
+				binary.LittleEndian.PutUint64(t77[8:16], t75)
+				t80 := m.at(uint32(l2) - 0xfceb0)
+				t78 := binary.LittleEndian.Uint64(t80[0:8])
+				t79 := binary.LittleEndian.Uint64(t80[8:16])
+				t81 := m.at(uint32(l10) - 0xfceb0)
+				binary.LittleEndian.PutUint64(t81[0:8], t78)
+				binary.LittleEndian.PutUint64(t81[8:16], t79)
+				m.put8(uint32((l0+0x38))-0xfcec0, 2)
+				t82 := m.get64(uint32(l4) - 0xfce80)
+				m.put64(uint32((l0+0x30))-0xfcec0, t82)
+				t83 := m.get64(uint32(l4) - 0xfceb0)
+				m.put64(uint32((l0+0x28))-0xfcec0, t83)
+				t84 := m.get32(uint32((l13 << 2)) + 0x4420)
+				l5 = t84
+				goto L2
+			}
+		L4:
+			panic("unreachable")
+		}
+	L3:
+		m.put64(uint32((l3+0x18))-0xfcec0, (l11 - l2))
+		l5 = 0x2a
+	}
+L2:
+	m.g0 = (l4 + 0x60)
+	return l5
+}
+
+// f130 is noise_stream_end.
+func f130(m *memory, l0 uint64, l1 uint64, l2 uint64, l3 uint64) uint32 {
+	var l4 uint32
+	{
+		t2 := f0(m)
+		if t2 == 0 {
+			goto L1
+		}
+		f2(m)
+		panic("unreachable")
+	}
+L1:
+	t3 := f131(m, l0, l1, l2, l3)
+	l4 = t3
+	f1(m)
+	return l4
+}
+
+// f131 is rattle::export noise_stream_end.
+func f131(m *memory, l0 uint64, l1 uint64, l2 uint64, l3 uint64) uint32 {
+	var l5, l6, l7, l8, l11 uint32
+	var l4, l9, l10 uint64
+	t1 := m.g0
+	l4 = (t1 - 0x60)
+	m.g0 = l4
+	{
+		if int64(l4) < 16 {
+			goto L2
+		}
+		l5 = 0x17
+		{
+			t4 := m.get32(uint32(l0) - 0xfcec0)
+			if t4 != 0x4e6f0a01 {
+				goto L3
+			}
+			l6 = 0
+			l7 = 0
+			{
+				{
+					t7 := uint32(m.get8(uint32((l0 + 4)) - 0xfcec0))
+					switch t7 + 0xffffffff {
+					case 1:
+						goto L6
+					case 0:
+						goto L5
+					}
+					goto L3
+				}
+			L6:
+				l7 = 1
+				l6 = 1
+			}
+		L5:
+			t8 := uint32(m.get8(uint32((l0 + 5)) - 0xfcec0))
+			l8 = t8
+			t9 := m.get64(uint32((l0 + 0x30)) - 0xfcec0)
+			l9 = t9
+			t10 := m.get64(uint32((l0 + 0x28)) - 0xfcec0)
+			l10 = t10
+			{
+				{
+					t13 := uint32(m.get8(uint32((l0 + 0x38)) - 0xfcec0))
+					l11 = t13
+					if l11 == 0 {
+						goto L12
+					}
+					if (l6 & b2i(l8 != 0)) != 0 {
+						goto L3
+					}
+					if !(l9 == 0) {
+						goto L11
+					}
+					goto L3
+				}
+			L12:
+				if l9 == 0xffffffffffffffff {
+					goto L3
+				}
+			}
+		L11:
+			m.put32(uint32(l4)-0xfcebe, 0)
+			m.put8(uint32(l4)-0xfcebf, uint8(b2i(l8 != 0)))
+			m.put8(uint32(l4)-0xfcec0, uint8(l7))
+			m.put16(uint32(l4)-0xfceba, 0)
+			m.put8(uint32(l4)-0xfceb0, 1)
+			m.put64(uint32(l4)-0xfceb8, l10)
+			m.put32(uint32(l4)-0xfce8f, 0)
+			m.put32(uint32(l4)-0xfce8c, 0)
+			m.put64(uint32(l4)-0xfce88, l9)
+			m.put32(uint32(l4)-0xfce7f, 0)
+			m.put32(uint32(l4)-0xfce7c, 0)
+			l9 = (l0 + 6)
+			t16 := m.at(uint32(l9) - 0xfcec0)
+			t14 := binary.LittleEndian.Uint64(t16[0:8])
+			t15 := binary.LittleEndian.Uint64(t16[8:16])
+			t17 := m.at(uint32(l4) - 0xfceaf)
+			binary.LittleEndian.PutUint64(t17[0:8], t14)
+			binary.LittleEndian.PutUint64(t17[8:16], t15)
+			t20 := m.at(uint32(l9) - 0xfceb0)
+			t18 := binary.LittleEndian.Uint64(t20[0:8])
+			t19 := binary.LittleEndian.Uint64(t20[8:16])
+			t21 := m.at(uint32(l4) - 0xfce9f)
+			binary.LittleEndian.PutUint64(t21[0:8], t18)
+			binary.LittleEndian.PutUint64(t21[8:16], t19)
+			m.put8(uint32(l4)-0xfce80, uint8(b2i(l11 != 0)))
+			l5 = 0x12
+			if l2 < 0x12 {
+				goto L3
+			}
+			m.put64(uint32(l4)-0xfce68, 0)
+			t22 := m.at(uint32(l4) - 0xfce78)
+			binary.LittleEndian.PutUint64(t22[0:8], 0)
+			binary.LittleEndian.PutUint64(t22[8:16], 0)
+			{
+				if l11 == 0 {
+					goto L23
+				}
+				l5 = 0x2b
+				goto L3
+			}
+		L23:
+			{
+				if (l6 & b2i(l8 != 0)) != 0 {
+					goto L24
+				}
+				t25 := -uint64(b2i(l1 == 0))
+				t26 := (0x1000 & t25) | (0 &^ t25)
+				f49(m, (l4 + 0x48), l4, 0x10000f, 0, (l1 + t26), l2)
+				t27 := uint32(m.get8(uint32(l4) - 0xfce78))
+				if t27 != 0 {
+					goto L2
+				}
+				t28 := m.get64(uint32(l4) - 0xfce70)
+				m.put64(uint32((l3+8))-0xfcec0, t28)
+				t29 := uint32(m.get8(uint32(l4) - 0xfceb0))
+				if t29 != 1 {
+					goto L2
+				}
+				m.put32(uint32(l0)-0xfcec0, 0x4e6f0a01)
+				l5 = 0
+				m.put16(uint32(l0)-0xfce9a, 0)
+				m.put32(uint32(l0)-0xfce87, 0)
+				m.put32(uint32(l0)-0xfce84, 0)
+				t30 := uint32(m.get8(uint32(l4) - 0xfcebf))
+				m.put8(uint32((l0+5))-0xfcec0, uint8((t30 & 1)))
+				t31 := uint32(m.get8(uint32(l4) - 0xfcec0))
+				t32 := -uint32(b2i(t31 != 0))
+				t33 := (2 & t32) | (1 &^ t32)
+				m.put8(uint32((l0+4))-0xfcec0, uint8(t33))
+				l2 = (l4 + 0x11)
+				t36 := m.at(uint32(l2) - 0xfcec0)
+				t34 := binary.LittleEndian.Uint64(t36[0:8])
+				t35 := binary.LittleEndian.Uint64(t36[8:16])
+				t37 := m.at(uint32(l9) - 0xfcec0)
+				binary.LittleEndian.PutUint64(t37[0:8], t34)
+				binary.LittleEndian.PutUint64(t37[8:16], t35)
+				t40 := m.at(uint32(l2) - 0xfceb0)
+				t38 := binary.LittleEndian.Uint64(t40[0:8])
+				t39 := binary.LittleEndian.Uint64(t40[8:16])
+				t41 := m.at(uint32(l9) - 0xfceb0)
+				binary.LittleEndian.PutUint64(t41[0:8], t38)
+				binary.LittleEndian.PutUint64(t41[8:16], t39)
+				m.put8(uint32((l0+0x38))-0xfcec0, 1)
+				t42 := m.get64(uint32(l4) - 0xfce88)
+				m.put64(uint32((l0+0x30))-0xfcec0, t42)
+				t43 := m.get64(uint32(l4) - 0xfceb8)
+				m.put64(uint32((l0+0x28))-0xfcec0, t43)
+				goto L3
+			}
+		L24:
+			l5 = 0x16
+		}
+	L3:
+		m.g0 = (l4 + 0x60)
+		return l5
+	}
+L2:
+	panic("unreachable")
+}
+
+// f132 is noise_stream_write.
+func f132(m *memory, l0 uint64, l1 uint64, l2 uint64, l3 uint64, l4 uint64, l5 uint64) uint32 {
+	var l6 uint32
+	{
+		t2 := f0(m)
+		if t2 == 0 {
+			goto L1
+		}
+		f2(m)
+		panic("unreachable")
+	}
+L1:
+	t3 := f133(m, l0, l1, l2, l3, l4, l5)
+	l6 = t3
+	f1(m)
+	return l6
+}
+
+// f133 is rattle::export noise_stream_write.
+func f133(m *memory, l0 uint64, l1 uint64, l2 uint64, l3 uint64, l4 uint64, l5 uint64) uint32 {
+	var l7, l8, l9, l10, l13, l14, l17 uint32
+	var l6, l11, l12, l15, l16 uint64
+	var l18a, l18b uint64
+	t1 := m.g0
+	l6 = (t1 - 0x60)
+	m.g0 = l6
+	{
+		if int64(l6) < 16 {
+			goto L2
+		}
+		l7 = 0x17
+		{
+			t4 := m.get32(uint32(l0) - 0xfcec0)
+			if t4 != 0x4e6f0a01 {
+				goto L3
+			}
+			l8 = 0
+			l9 = 0
+			{
+				{
+					t7 := uint32(m.get8(uint32((l0 + 4)) - 0xfcec0))
+					switch t7 + 0xffffffff {
+					case 1:
+						goto L6
+					case 0:
+						goto L5
+					}
+					goto L3
+				}
+			L6:
+				l9 = 1
+				l8 = 1
+			}
+		L5:
+			t8 := uint32(m.get8(uint32((l0 + 5)) - 0xfcec0))
+			l10 = t8
+			t9 := m.get64(uint32((l0 + 0x30)) - 0xfcec0)
+			l11 = t9
+			t10 := m.get64(uint32((l0 + 0x28)) - 0xfcec0)
+			l12 = t10
+			{
+				{
+					t13 := uint32(m.get8(uint32((l0 + 0x38)) - 0xfcec0))
+					l13 = t13
+					if l13 == 0 {
+						goto L12
+					}
+					if (l8 & b2i(l10 != 0)) != 0 {
+						goto L3
+					}
+					if !(l11 == 0) {
+						goto L11
+					}
+					goto L3
+				}
+			L12:
+				if l11 == 0xffffffffffffffff {
+					goto L3
+				}
+			}
+		L11:
+			m.put32(uint32(l6)-0xfcebe, 0)
+			l14 = b2i(l10 != 0)
+			m.put8(uint32(l6)-0xfcebf, uint8(l14))
+			m.put8(uint32(l6)-0xfcec0, uint8(l9))
+			m.put16(uint32(l6)-0xfceba, 0)
+			m.put8(uint32(l6)-0xfceb0, 1)
+			m.put64(uint32(l6)-0xfceb8, l12)
+			m.put32(uint32(l6)-0xfce8f, 0)
+			m.put32(uint32(l6)-0xfce8c, 0)
+			m.put64(uint32(l6)-0xfce88, l11)
+			m.put32(uint32(l6)-0xfce7f, 0)
+			m.put32(uint32(l6)-0xfce7c, 0)
+			l15 = (l0 + 6)
+			t16 := m.at(uint32(l15) - 0xfcec0)
+			t14 := binary.LittleEndian.Uint64(t16[0:8])
+			t15 := binary.LittleEndian.Uint64(t16[8:16])
+			t17 := m.at(uint32(l6) - 0xfceaf)
+			binary.LittleEndian.PutUint64(t17[0:8], t14)
+			binary.LittleEndian.PutUint64(t17[8:16], t15)
+			t20 := m.at(uint32(l15) - 0xfceb0)
+			t18 := binary.LittleEndian.Uint64(t20[0:8])
+			t19 := binary.LittleEndian.Uint64(t20[8:16])
+			t21 := m.at(uint32(l6) - 0xfce9f)
+			binary.LittleEndian.PutUint64(t21[0:8], t18)
+			binary.LittleEndian.PutUint64(t21[8:16], t19)
+			m.put8(uint32(l6)-0xfce80, uint8(b2i(l13 != 0)))
+			t22 := -uint64(b2i(l2 < 0xffef))
+			t23 := (l2 & t22) | (0xffef &^ t22)
+			l16 = t23
+			l17 = (b2i(l2 != 0) & b2i((l16+0x12) > l4))
+			t24 := -uint32(b2i(l17 != 0))
+			t25 := (0x12 & t24) | (0x2b &^ t24)
+			l7 = t25
+			if l17 != 0 {
+				goto L3
+			}
+			if l13 != 0 {
+				goto L3
+			}
+			l18a, l18b = 0, 0
+			t26 := m.at(uint32(l6) - 0xfce78)
+			binary.LittleEndian.PutUint64(t26[0:8], l18a)
+			binary.LittleEndian.PutUint64(t26[8:16], l18b)
+			m.put64(uint32(l6)-0xfce68, 0)
+			{
+				{
+					{
+						{
+							if l2 != 0 {
+								goto L30
+							}
+							t31 := m.at(uint32((l5 + 8)) - 0xfcec0)
+							binary.LittleEndian.PutUint64(t31[0:8], l18a)
+							binary.LittleEndian.PutUint64(t31[8:16], l18b)
+							l8 = 0
+							goto L29
+						}
+					L30:
+						if (l8 & b2i(l10 != 0)) != 0 {
+							goto L27
+						}
+						if l11 == 0xfffffffffffffffe {
+							goto L28
+						}
+						t32 := -uint64(b2i(l1 == 0))
+						t33 := (0x1000 & t32) | (0 &^ t32)
+						t34 := -uint64(b2i(l3 == 0))
+						t35 := (0x1000 & t34) | (0 &^ t34)
+						f49(m, (l6 + 0x48), l6, (l1 + t33), l16, (l3 + t35), l4)
+						t36 := uint32(m.get8(uint32(l6) - 0xfce78))
+						if t36 != 0 {
+							goto L2
+						}
+						t37 := m.get64(uint32(l6) - 0xfce88)
+						l11 = t37
+						t38 := m.get64(uint32(l6) - 0xfceb8)
+						l12 = t38
+						t39 := uint32(m.get8(uint32(l6) - 0xfcebf))
+						l14 = t39
+						t40 := uint32(m.get8(uint32(l6) - 0xfcec0))
+						l9 = t40
+						t41 := uint32(m.get8(uint32(l6) - 0xfceb0))
+						l7 = t41
+						t42 := uint32(m.get8(uint32(l6) - 0xfce80))
+						l8 = t42
+						t43 := m.get64(uint32(l6) - 0xfce70)
+						l2 = t43
+						m.put64(uint32((l5+0x10))-0xfcec0, l16)
+						m.put64(uint32((l5+8))-0xfcec0, l2)
+						if l7 != 1 {
+							goto L2
+						}
+						l8 = (l8 & 1)
+					}
+				L29:
+					m.put32(uint32(l0)-0xfcec0, 0x4e6f0a01)
+					l7 = 0
+					m.put32(uint32(l0)-0xfce87, 0)
+					m.put16(uint32(l0)-0xfce9a, 0)
+					m.put32(uint32(l0)-0xfce84, 0)
+					m.put8(uint32((l0+5))-0xfcec0, uint8((l14 & 1)))
+					l2 = (l6 + 0x11)
+					t46 := m.at(uint32(l2) - 0xfcec0)
+					t44 := binary.LittleEndian.Uint64(t46[0:8])
+					t45 := binary.LittleEndian.Uint64(t46[8:16])
+					t47 := m.at(uint32(l15) - 0xfcec0)
+					binary.LittleEndian.PutUint64(t47[0:8], t44)
+					binary.LittleEndian.PutUint64(t47[8:16], t45)
+					t50 := m.at(uint32(l2) - 0xfceb0)
+					t48 := binary.LittleEndian.Uint64(t50[0:8])
+					t49 := binary.LittleEndian.Uint64(t50[8:16])
+					t51 := m.at(uint32(l15) - 0xfceb0)
+					binary.LittleEndian.PutUint64(t51[0:8], t48)
+					binary.LittleEndian.PutUint64(t51[8:16], t49)
+					m.put8(uint32((l0+0x38))-0xfcec0, uint8(l8))
+					m.put64(uint32((l0+0x30))-0xfcec0, l11)
+					m.put64(uint32((l0+0x28))-0xfcec0, l12)
+					t52 := -uint32(b2i((l9 & 0xff) != 0))
+					t53 := (2 & t52) | (1 &^ t52)
+					m.put8(uint32((l0+4))-0xfcec0, uint8(t53))
+					goto L3
+				}
+			L28:
+				l7 = 0x11
+				goto L3
+			}
+		L27:
+			l7 = 0x16
+		}
+	L3:
+		m.g0 = (l6 + 0x60)
+		return l7
+	}
+L2:
+	panic("unreachable")
+}
+
+// f134 is noise_unset_psk.
+func f134(m *memory, l0 uint64) uint32 {
+	var l1 uint32
+	{
+		t2 := f0(m)
+		if t2 == 0 {
+			goto L1
+		}
+		f2(m)
+		panic("unreachable")
+	}
+L1:
+	t3 := f135(m, l0)
+	l1 = t3
+	f1(m)
+	return l1
+}
+
+// f135 is rattle::export noise_unset_psk.
+func f135(m *memory, l0 uint64) uint32 {
+	var l3, l4 uint32
+	var l1, l2, l5, l6, l7, l9 uint64
+	var l8a, l8b uint64
+	t1 := m.g0
+	l1 = (t1 - 0x480)
+	m.g0 = l1
+	{
+		if int64(l1) < 16 {
+			goto L2
+		}
+		m.fill(uint32((l1 + 0x118)), 0, 0x368)
+		m.fill(uint32(l1), 0, 0x118)
+		{
+			{
+				{
+					t6 := m.get32(uint32(l0) - 0xfcec0)
+					if t6 != 0x4e6f0101 {
+						goto L5
+					}
+					t7 := uint64(m.get16(uint32((l0 + 0x1a4)) - 0xfcec0))
+					l2 = t7
+					if l2 > 0x1a0 {
+						goto L5
+					}
+					t8 := uint32(m.get8(uint32((l0 + 0x34e)) - 0xfcec0))
+					if t8 > 8 {
+						goto L5
+					}
+					t9 := uint32(m.get8(uint32((l0 + 0x22d)) - 0xfcec0))
+					if t9 > 9 {
+						goto L5
+					}
+					f16(m, l1, (l0 + 4), l2)
+					t10 := uint32(m.get8(uint32(l1) - 0xfcec0))
+					if t10 == 0 {
+						goto L4
+					}
+				}
+			L5:
+				l3 = 0x17
+				goto L3
+			}
+		L4:
+			f32(m, (l1 + 0x118), l0, (l1 + 8))
+			l3 = 0x17
+			t11 := uint32(m.get8(uint32(l1) - 0xfcda8))
+			if t11 != 1 {
+				goto L3
+			}
+			l3 = 0
+			l2 = (l0 + 0x22d)
+			t12 := uint32(m.get8(uint32(l2) - 0xfcec0))
+			l4 = t12
+			if l4 == 0 {
+				goto L3
+			}
+			l5 = (l0 + 0x31e)
+			t15 := m.at(uint32(l5) - 0xfcec0)
+			t13 := binary.LittleEndian.Uint64(t15[0:8])
+			t14 := binary.LittleEndian.Uint64(t15[8:16])
+			t16 := m.at(uint32((l0 + 0x33e)) - 0xfcec0)
+			binary.LittleEndian.PutUint64(t16[0:8], t13)
+			binary.LittleEndian.PutUint64(t16[8:16], t14)
+			l6 = (l0 + 0x30e)
+			t19 := m.at(uint32(l6) - 0xfcec0)
+			t17 := binary.LittleEndian.Uint64(t19[0:8])
+			t18 := binary.LittleEndian.Uint64(t19[8:16])
+			t20 := m.at(uint32((l0 + 0x32e)) - 0xfcec0)
+			binary.LittleEndian.PutUint64(t20[0:8], t17)
+			binary.LittleEndian.PutUint64(t20[8:16], t18)
+			l7 = (l0 + 0x2fe)
+			t23 := m.at(uint32(l7) - 0xfcec0)
+			t21 := binary.LittleEndian.Uint64(t23[0:8])
+			t22 := binary.LittleEndian.Uint64(t23[8:16])
+			t24 := m.at(uint32(l5) - 0xfcec0)
+			binary.LittleEndian.PutUint64(t24[0:8], t21)
+			binary.LittleEndian.PutUint64(t24[8:16], t22)
+			l5 = (l0 + 0x2ee)
+			t27 := m.at(uint32(l5) - 0xfcec0)
+			t25 := binary.LittleEndian.Uint64(t27[0:8])
+			t26 := binary.LittleEndian.Uint64(t27[8:16])
+			t28 := m.at(uint32(l6) - 0xfcec0)
+			binary.LittleEndian.PutUint64(t28[0:8], t25)
+			binary.LittleEndian.PutUint64(t28[8:16], t26)
+			l6 = (l0 + 0x2ce)
+			t31 := m.at(uint32(l6) - 0xfcec0)
+			t29 := binary.LittleEndian.Uint64(t31[0:8])
+			t30 := binary.LittleEndian.Uint64(t31[8:16])
+			t32 := m.at(uint32(l5) - 0xfcec0)
+			binary.LittleEndian.PutUint64(t32[0:8], t29)
+			binary.LittleEndian.PutUint64(t32[8:16], t30)
+			l5 = (l0 + 0x2de)
+			t35 := m.at(uint32(l5) - 0xfcec0)
+			t33 := binary.LittleEndian.Uint64(t35[0:8])
+			t34 := binary.LittleEndian.Uint64(t35[8:16])
+			t36 := m.at(uint32(l7) - 0xfcec0)
+			binary.LittleEndian.PutUint64(t36[0:8], t33)
+			binary.LittleEndian.PutUint64(t36[8:16], t34)
+			l7 = (l0 + 0x2be)
+			t39 := m.at(uint32(l7) - 0xfcec0)
+			t37 := binary.LittleEndian.Uint64(t39[0:8])
+			t38 := binary.LittleEndian.Uint64(t39[8:16])
+			l8a, l8b = t37, t38
+			l9 = (l0 + 0x29e)
+			t42 := m.at(uint32(l9) - 0xfcec0)
+			t40 := binary.LittleEndian.Uint64(t42[0:8])
+			t41 := binary.LittleEndian.Uint64(t42[8:16])
+			t43 := m.at(uint32(l7) - 0xfcec0)
+			binary.LittleEndian.PutUint64(t43[0:8], t40)
+			binary.LittleEndian.PutUint64(t43[8:16], t41)
+			t44 := m.at(uint32(l5) - 0xfcec0)
+			binary.LittleEndian.PutUint64(t44[0:8], l8a)
+			binary.LittleEndian.PutUint64(t44[8:16], l8b)
+			l5 = (l0 + 0x2ae)
+			t47 := m.at(uint32(l5) - 0xfcec0)
+			t45 := binary.LittleEndian.Uint64(t47[0:8])
+			t46 := binary.LittleEndian.Uint64(t47[8:16])
+			t48 := m.at(uint32(l6) - 0xfcec0)
+			binary.LittleEndian.PutUint64(t48[0:8], t45)
+			binary.LittleEndian.PutUint64(t48[8:16], t46)
+			l6 = (l0 + 0x28e)
+			t51 := m.at(uint32(l6) - 0xfcec0)
+			t49 := binary.LittleEndian.Uint64(t51[0:8])
+			t50 := binary.LittleEndian.Uint64(t51[8:16])
+			t52 := m.at(uint32(l5) - 0xfcec0)
+			binary.LittleEndian.PutUint64(t52[0:8], t49)
+			binary.LittleEndian.PutUint64(t52[8:16], t50)
+			l5 = (l0 + 0x27e)
+			t55 := m.at(uint32(l5) - 0xfcec0)
+			t53 := binary.LittleEndian.Uint64(t55[0:8])
+			t54 := binary.LittleEndian.Uint64(t55[8:16])
+			t56 := m.at(uint32(l9) - 0xfcec0)
+			binary.LittleEndian.PutUint64(t56[0:8], t53)
+			binary.LittleEndian.PutUint64(t56[8:16], t54)
+			l7 = (l0 + 0x26e)
+			t59 := m.at(uint32(l7) - 0xfcec0)
+			t57 := binary.LittleEndian.Uint64(t59[0:8])
+			t58 := binary.LittleEndian.Uint64(t59[8:16])
+			t60 := m.at(uint32(l6) - 0xfcec0)
+			binary.LittleEndian.PutUint64(t60[0:8], t57)
+			binary.LittleEndian.PutUint64(t60[8:16], t58)
+			l6 = (l0 + 0x25e)
+			t63 := m.at(uint32(l6) - 0xfcec0)
+			t61 := binary.LittleEndian.Uint64(t63[0:8])
+			t62 := binary.LittleEndian.Uint64(t63[8:16])
+			t64 := m.at(uint32(l5) - 0xfcec0)
+			binary.LittleEndian.PutUint64(t64[0:8], t61)
+			binary.LittleEndian.PutUint64(t64[8:16], t62)
+			l5 = (l0 + 0x24e)
+			t67 := m.at(uint32(l5) - 0xfcec0)
+			t65 := binary.LittleEndian.Uint64(t67[0:8])
+			t66 := binary.LittleEndian.Uint64(t67[8:16])
+			t68 := m.at(uint32(l7) - 0xfcec0)
+			binary.LittleEndian.PutUint64(t68[0:8], t65)
+			binary.LittleEndian.PutUint64(t68[8:16], t66)
+			l7 = (l0 + 0x23e)
+			t71 := m.at(uint32(l7) - 0xfcec0)
+			t69 := binary.LittleEndian.Uint64(t71[0:8])
+			t70 := binary.LittleEndian.Uint64(t71[8:16])
+			t72 := m.at(uint32(l6) - 0xfcec0)
+			binary.LittleEndian.PutUint64(t72[0:8], t69)
+			binary.LittleEndian.PutUint64(t72[8:16], t70)
+			l0 = (l0 + 0x22e)
+			t75 := m.at(uint32(l0) - 0xfcec0)
+			t73 := binary.LittleEndian.Uint64(t75[0:8])
+			t74 := binary.LittleEndian.Uint64(t75[8:16])
+			t76 := m.at(uint32(l5) - 0xfcec0)
+			binary.LittleEndian.PutUint64(t76[0:8], t73)
+			binary.LittleEndian.PutUint64(t76[8:16], t74)
+			l8a, l8b = 0, 0
+			t77 := m.at(uint32(l7) - 0xfcec0)
+			binary.LittleEndian.PutUint64(t77[0:8], l8a)
+			binary.LittleEndian.PutUint64(t77[8:16], l8b)
+			t78 := m.at(uint32(l0) - 0xfcec0)
+			binary.LittleEndian.PutUint64(t78[0:8], l8a)
+			binary.LittleEndian.PutUint64(t78[8:16], l8b)
+			m.put8(uint32(l2)-0xfcec0, uint8((l4 + 0xffffffff)))
+		}
+	L3:
+		m.g0 = (l1 + 0x480)
+		return l3
+	}
+L2:
+	panic("unreachable")
+}
+
+// f136 is noise_check_pattern.
+func f136(m *memory, l0 uint64, l1 uint64, l2 uint64) uint32 {
+	var l3 uint32
+	{
+		t2 := f0(m)
+		if t2 == 0 {
+			goto L1
+		}
+		f2(m)
+		panic("unreachable")
+	}
+L1:
+	t3 := f137(m, l0, l1, l2)
+	l3 = t3
+	f1(m)
+	return l3
+}
+
+// f137 is rattle::export noise_check_pattern.
+func f137(m *memory, l0 uint64, l1 uint64, l2 uint64) uint32 {
+	var l4 uint32
+	var l3 uint64
+	t1 := m.g0
+	l3 = (t1 - 0x230)
+	m.g0 = l3
+	{
+		{
+			{
+				if int64(l3) < 16 {
+					goto L4
+				}
+				m.fill(uint32((l3 + 0x118)), 0, 0x118)
+				t5 := -uint64(b2i(l0 == 0))
+				t6 := (0x1000 & t5) | (0 &^ t5)
+				f17(m, (l3 + 0x118), (l0 + t6), l1)
+				t7 := uint32(m.get8(uint32(l3) - 0xfcda8))
+				if t7 != 0 {
+					goto L3
+				}
+				m.copy(uint32((l3 + 8)), uint32((l3 + 0x120)), 0x110)
+				m.fill(uint32((l3 + 0x118)), 0, 0x118)
+				f18(m, (l3 + 0x118), (l3 + 8))
+				{
+					t9 := uint32(m.get8(uint32(l3) - 0xfcda8))
+					if t9 != 0 {
+						goto L8
+					}
+					t10 := m.get64(uint32(l3) - 0xfcc98)
+					m.put8(uint32((l2+0xb))-0xfcec0, uint8(t10))
+					l4 = 0
+					goto L2
+				}
+			L8:
+				t11 := uint32(m.get8(uint32(l3) - 0xfcda5))
+				m.put8(uint32((l2+0xa))-0xfcec0, uint8(t11))
+				t12 := uint32(m.get16(uint32(l3) - 0xfcda7))
+				m.put16(uint32((l2+8))-0xfcec0, uint16(t12))
+				l4 = 0x27
+				goto L2
+			}
+		L4:
+			panic("unreachable")
+		}
+	L3:
+		t13 := m.get64(uint32(l3) - 0xfcda0)
+		m.put64(uint32(l2)-0xfcec0, t13)
+		t14 := uint32(m.get8(uint32(l3) - 0xfcd98))
+		l4 = (t14 + 0x1e)
+	}
+L2:
+	m.g0 = (l3 + 0x230)
+	return l4
+}
+
+// f138 is noise_pattern.
 func f138(m *memory, l0 uint64, l1 uint64, l2 uint64, l3 uint64) uint32 {
+	var l4 uint32
+	{
+		t2 := f0(m)
+		if t2 == 0 {
+			goto L1
+		}
+		f2(m)
+		panic("unreachable")
+	}
+L1:
+	t3 := f139(m, l0, l1, l2, l3)
+	l4 = t3
+	f1(m)
+	return l4
+}
+
+// f139 is rattle::export noise_pattern.
+func f139(m *memory, l0 uint64, l1 uint64, l2 uint64, l3 uint64) uint32 {
 	var l7, l8, l10, l18, l19, l20, l21, l22, l23, l24, l25, l26, l27, l28, l29, l30, l31, l32, l33, l34, l35, l36, l37, l38, l39, l40, l41, l42, l43, l44, l45, l46, l47, l48, l49, l50, l51, l52, l53, l54, l55, l56, l57, l58, l59, l60, l61, l62, l63, l64, l65, l66, l67, l68, l69, l70, l71, l72, l73, l74, l75, l76, l77, l78, l79, l80, l81, l82, l83, l84, l85, l86, l87, l88, l89, l90, l91, l92, l93, l94, l95, l96, l97, l98, l99, l100, l101 uint32
 	var l4, l5, l9, l11, l12, l13, l14, l15, l16, l17 uint64
 	var l6a, l6b uint64
@@ -41,7 +1018,7 @@ func f138(m *memory, l0 uint64, l1 uint64, l2 uint64, l3 uint64) uint32 {
 										goto L11
 									}
 									m.fill(uint32((l5 + 0x4a8)), 0, 0x118)
-									f16(m, (l5 + 0x4a8), l0, l1)
+									f17(m, (l5 + 0x4a8), l0, l1)
 									t13 := uint32(m.get8(uint32(l5) - 0xfca18))
 									if t13 != 0 {
 										goto L6
@@ -56,7 +1033,7 @@ func f138(m *memory, l0 uint64, l1 uint64, l2 uint64, l3 uint64) uint32 {
 								m.put128q(uint32(l5)-0xfcb70, l6a, l6b)
 								m.put128q(uint32(l5)-0xfcb60, l6a, l6b)
 								m.fill(uint32((l5 + 0x4a8)), 0, 0x118)
-								f18(m, (l5 + 0x340), l0, l1)
+								f19(m, (l5 + 0x340), l0, l1)
 								{
 									{
 										t16 := uint32(m.get8(uint32(l5) - 0xfcb80))
@@ -72,7 +1049,7 @@ func f138(m *memory, l0 uint64, l1 uint64, l2 uint64, l3 uint64) uint32 {
 										t21 := m.get64(uint32(l5) - 0xfcb70)
 										l1 = t21
 										m.put64(uint32(l5)-0xfcb48, l1)
-										f19(m, (l5 + 8), (l5 + 0x348), l1)
+										f20(m, (l5 + 8), (l5 + 0x348), l1)
 										t22 := uint32(m.get8(uint32(l5) - 0xfceb8))
 										if (t22 & 1) == 0 {
 											goto L15
@@ -80,8 +1057,8 @@ func f138(m *memory, l0 uint64, l1 uint64, l2 uint64, l3 uint64) uint32 {
 										t23 := uint32(m.get8(uint32(l5) - 0xfceb7))
 										l7 = t23
 										m.fill(uint32((l5 + 0x398)), 0, 0x110)
-										f20(m, (l5 + 0x398), l7)
-										f21(m, (l5 + 0x4a8), (l5 + 0x398), (l5 + 0x380))
+										f21(m, (l5 + 0x398), l7)
+										f22(m, (l5 + 0x4a8), (l5 + 0x398), (l5 + 0x380))
 										t24 := uint32(m.get8(uint32(l5) - 0xfca18))
 										if t24 == 0 {
 											goto L14
@@ -98,7 +1075,7 @@ func f138(m *memory, l0 uint64, l1 uint64, l2 uint64, l3 uint64) uint32 {
 						L10:
 							l8 = 0
 							m.fill(uint32((l5 + 0x4a8)), 0, 0x118)
-							f17(m, (l5 + 0x4a8), (l5 + 0x398))
+							f18(m, (l5 + 0x4a8), (l5 + 0x398))
 							{
 								t26 := uint32(m.get8(uint32(l5) - 0xfca18))
 								if t26 != 0 {
@@ -223,8 +1200,8 @@ func f138(m *memory, l0 uint64, l1 uint64, l2 uint64, l3 uint64) uint32 {
 								}
 							L27:
 								l18 = 0
-								f49(m, (l5 + 0x4a8), (l5 + 0x10), 0)
-								f49(m, (l5 + 0x230), (l5 + 0x10), 1)
+								f50(m, (l5 + 0x4a8), (l5 + 0x10), 0)
+								f50(m, (l5 + 0x230), (l5 + 0x10), 1)
 								{
 									{
 										t47 := m.get64(uint32(l5) - 0xfcd70)
@@ -1748,8 +2725,8 @@ L2:
 	return l7
 }
 
-// f139 is noise_layout.
-func f139(m *memory, l0 uint64, l1 uint64, l2 uint32, l3 uint64, l4 uint64) uint32 {
+// f140 is noise_layout.
+func f140(m *memory, l0 uint64, l1 uint64, l2 uint32, l3 uint64, l4 uint64) uint32 {
 	{
 		t2 := f0(m)
 		if t2 == 0 {
@@ -1759,14 +2736,14 @@ func f139(m *memory, l0 uint64, l1 uint64, l2 uint32, l3 uint64, l4 uint64) uint
 		panic("unreachable")
 	}
 L1:
-	t3 := f140(m, l0, l1, l2, l3, l4)
+	t3 := f141(m, l0, l1, l2, l3, l4)
 	l2 = t3
 	f1(m)
 	return l2
 }
 
-// f140 is rattle::export noise_layout.
-func f140(m *memory, l0 uint64, l1 uint64, l2 uint32, l3 uint64, l4 uint64) uint32 {
+// f141 is rattle::export noise_layout.
+func f141(m *memory, l0 uint64, l1 uint64, l2 uint32, l3 uint64, l4 uint64) uint32 {
 	var l6, l7, l9 uint32
 	var l5, l8 uint64
 	t1 := m.g0
@@ -1784,7 +2761,7 @@ func f140(m *memory, l0 uint64, l1 uint64, l2 uint32, l3 uint64, l4 uint64) uint
 				m.fill(uint32((l5 + 8)), 0, 0x84)
 				t5 := -uint64(b2i(l0 == 0))
 				t6 := (0x1000 & t5) | (0 &^ t5)
-				f15(m, (l5 + 0x90), (l0 + t6), l1)
+				f16(m, (l5 + 0x90), (l0 + t6), l1)
 				t7 := uint32(m.get8(uint32(l5) - 0xfce30))
 				if t7 != 0 {
 					goto L3
@@ -1800,7 +2777,7 @@ func f140(m *memory, l0 uint64, l1 uint64, l2 uint32, l3 uint64, l4 uint64) uint
 				if t8 < l1 {
 					goto L2
 				}
-				t9 := f50(m, l0, l2)
+				t9 := f51(m, l0, l2)
 				l7 = t9
 				if l3 > 0xffff {
 					goto L2
@@ -1832,7 +2809,7 @@ func f140(m *memory, l0 uint64, l1 uint64, l2 uint32, l3 uint64, l4 uint64) uint
 				l8 = ((l5 + 0x1a8) + (l1 * 0x18))
 				t10 := m.get64(uint32((l8 + 0x40)) - 0xfcec0)
 				l1 = t10
-				t11 := f50(m, l0, l2)
+				t11 := f51(m, l0, l2)
 				l7 = t11
 				m.put32(uint32(l5)-0xfca38, 0)
 				m.put64(uint32(l5)-0xfca40, 0)
@@ -1864,17 +2841,17 @@ func f140(m *memory, l0 uint64, l1 uint64, l2 uint32, l3 uint64, l4 uint64) uint
 																						l9 = t30
 																						t31 := -uint32(b2i(l9 < 2))
 																						t32 := (0x20 & t31) | (0 &^ t31)
-																						f52(m, (l5 + 0x3d0), l0, l2, 0, (l9 + 1), b2i(l9 == 1), t32)
+																						f53(m, (l5 + 0x3d0), l0, l2, 0, (l9 + 1), b2i(l9 == 1), t32)
 																						m.put32(uint32(l5)-0xfca38, 0)
 																						m.put64(uint32(l5)-0xfca40, 0)
 																						if l1 != 1 {
 																							goto L27
 																						}
-																						f52(m, (l5 + 0x480), l0, l2, 1, 8, 1, l6)
+																						f53(m, (l5 + 0x480), l0, l2, 1, 8, 1, l6)
 																						goto L28
 																					}
 																				L29:
-																					f52(m, (l5 + 0x480), l0, l2, 0, 8, 1, l6)
+																					f53(m, (l5 + 0x480), l0, l2, 0, 8, 1, l6)
 																					t33 := m.get32(uint32(l5) - 0xfca38)
 																					m.put32(uint32(l5)-0xfcae8, t33)
 																					t34 := m.get64(uint32(l5) - 0xfca40)
@@ -1898,7 +2875,7 @@ func f140(m *memory, l0 uint64, l1 uint64, l2 uint32, l3 uint64, l4 uint64) uint
 																			l9 = t37
 																			t38 := -uint32(b2i(l9 < 2))
 																			t39 := (0x20 & t38) | (0 &^ t38)
-																			f52(m, (l5 + 0x3e0), l0, l2, 1, (l9 + 1), b2i(l9 == 1), t39)
+																			f53(m, (l5 + 0x3e0), l0, l2, 1, (l9 + 1), b2i(l9 == 1), t39)
 																			t40 := m.get32(uint32(l5) - 0xfcad8)
 																			m.put32(uint32(l5)-0xfcaf8, t40)
 																			t41 := m.get64(uint32(l5) - 0xfcae0)
@@ -1908,7 +2885,7 @@ func f140(m *memory, l0 uint64, l1 uint64, l2 uint32, l3 uint64, l4 uint64) uint
 																			if l1 > 2 {
 																				goto L25
 																			}
-																			f52(m, (l5 + 0x480), l0, l2, 2, 8, 1, l6)
+																			f53(m, (l5 + 0x480), l0, l2, 2, 8, 1, l6)
 																		}
 																	L26:
 																		t42 := m.get32(uint32(l5) - 0xfca38)
@@ -1926,7 +2903,7 @@ func f140(m *memory, l0 uint64, l1 uint64, l2 uint32, l3 uint64, l4 uint64) uint
 																	l9 = t44
 																	t45 := -uint32(b2i(l9 < 2))
 																	t46 := (0x20 & t45) | (0 &^ t45)
-																	f52(m, (l5 + 0x3f0), l0, l2, 2, (l9 + 1), b2i(l9 == 1), t46)
+																	f53(m, (l5 + 0x3f0), l0, l2, 2, (l9 + 1), b2i(l9 == 1), t46)
 																	t47 := m.get32(uint32(l5) - 0xfcac8)
 																	m.put32(uint32(l5)-0xfcb08, t47)
 																	t48 := m.get64(uint32(l5) - 0xfcad0)
@@ -1943,7 +2920,7 @@ func f140(m *memory, l0 uint64, l1 uint64, l2 uint32, l3 uint64, l4 uint64) uint
 																		l9 = t50
 																		t51 := -uint32(b2i(l9 < 2))
 																		t52 := (0x20 & t51) | (0 &^ t51)
-																		f52(m, (l5 + 0x400), l0, l2, 3, (l9 + 1), b2i(l9 == 1), t52)
+																		f53(m, (l5 + 0x400), l0, l2, 3, (l9 + 1), b2i(l9 == 1), t52)
 																		t53 := m.get32(uint32(l5) - 0xfcab8)
 																		m.put32(uint32(l5)-0xfcb18, t53)
 																		t54 := m.get64(uint32(l5) - 0xfcac0)
@@ -1953,11 +2930,11 @@ func f140(m *memory, l0 uint64, l1 uint64, l2 uint32, l3 uint64, l4 uint64) uint
 																		if l1 > 4 {
 																			goto L22
 																		}
-																		f52(m, (l5 + 0x480), l0, l2, 4, 8, 1, l6)
+																		f53(m, (l5 + 0x480), l0, l2, 4, 8, 1, l6)
 																		goto L23
 																	}
 																L49:
-																	f52(m, (l5 + 0x480), l0, l2, 3, 8, 1, l6)
+																	f53(m, (l5 + 0x480), l0, l2, 3, 8, 1, l6)
 																}
 															L24:
 																t55 := m.get32(uint32(l5) - 0xfca38)
@@ -1983,7 +2960,7 @@ func f140(m *memory, l0 uint64, l1 uint64, l2 uint32, l3 uint64, l4 uint64) uint
 														l9 = t59
 														t60 := -uint32(b2i(l9 < 2))
 														t61 := (0x20 & t60) | (0 &^ t60)
-														f52(m, (l5 + 0x410), l0, l2, 4, (l9 + 1), b2i(l9 == 1), t61)
+														f53(m, (l5 + 0x410), l0, l2, 4, (l9 + 1), b2i(l9 == 1), t61)
 														t62 := m.get32(uint32(l5) - 0xfcaa8)
 														m.put32(uint32(l5)-0xfcb28, t62)
 														t63 := m.get64(uint32(l5) - 0xfcab0)
@@ -2000,7 +2977,7 @@ func f140(m *memory, l0 uint64, l1 uint64, l2 uint32, l3 uint64, l4 uint64) uint
 															l9 = t65
 															t66 := -uint32(b2i(l9 < 2))
 															t67 := (0x20 & t66) | (0 &^ t66)
-															f52(m, (l5 + 0x420), l0, l2, 5, (l9 + 1), b2i(l9 == 1), t67)
+															f53(m, (l5 + 0x420), l0, l2, 5, (l9 + 1), b2i(l9 == 1), t67)
 															t68 := m.get32(uint32(l5) - 0xfca98)
 															m.put32(uint32(l5)-0xfcb38, t68)
 															t69 := m.get64(uint32(l5) - 0xfcaa0)
@@ -2010,11 +2987,11 @@ func f140(m *memory, l0 uint64, l1 uint64, l2 uint32, l3 uint64, l4 uint64) uint
 															if l1 > 6 {
 																goto L19
 															}
-															f52(m, (l5 + 0x480), l0, l2, 6, 8, 1, l6)
+															f53(m, (l5 + 0x480), l0, l2, 6, 8, 1, l6)
 															goto L20
 														}
 													L64:
-														f52(m, (l5 + 0x480), l0, l2, 5, 8, 1, l6)
+														f53(m, (l5 + 0x480), l0, l2, 5, 8, 1, l6)
 													}
 												L21:
 													t70 := m.get32(uint32(l5) - 0xfca38)
@@ -2040,7 +3017,7 @@ func f140(m *memory, l0 uint64, l1 uint64, l2 uint32, l3 uint64, l4 uint64) uint
 											l9 = t74
 											t75 := -uint32(b2i(l9 < 2))
 											t76 := (0x20 & t75) | (0 &^ t75)
-											f52(m, (l5 + 0x430), l0, l2, 6, (l9 + 1), b2i(l9 == 1), t76)
+											f53(m, (l5 + 0x430), l0, l2, 6, (l9 + 1), b2i(l9 == 1), t76)
 											t77 := m.get32(uint32(l5) - 0xfca88)
 											m.put32(uint32(l5)-0xfcb48, t77)
 											t78 := m.get64(uint32(l5) - 0xfca90)
@@ -2057,7 +3034,7 @@ func f140(m *memory, l0 uint64, l1 uint64, l2 uint32, l3 uint64, l4 uint64) uint
 												l9 = t80
 												t81 := -uint32(b2i(l9 < 2))
 												t82 := (0x20 & t81) | (0 &^ t81)
-												f52(m, (l5 + 0x440), l0, l2, 7, (l9 + 1), b2i(l9 == 1), t82)
+												f53(m, (l5 + 0x440), l0, l2, 7, (l9 + 1), b2i(l9 == 1), t82)
 												t83 := m.get32(uint32(l5) - 0xfca78)
 												m.put32(uint32(l5)-0xfcb58, t83)
 												t84 := m.get64(uint32(l5) - 0xfca80)
@@ -2067,11 +3044,11 @@ func f140(m *memory, l0 uint64, l1 uint64, l2 uint32, l3 uint64, l4 uint64) uint
 												if l1 > 8 {
 													goto L16
 												}
-												f52(m, (l5 + 0x480), l0, l2, 8, 8, 1, l6)
+												f53(m, (l5 + 0x480), l0, l2, 8, 8, 1, l6)
 												goto L17
 											}
 										L79:
-											f52(m, (l5 + 0x480), l0, l2, 7, 8, 1, l6)
+											f53(m, (l5 + 0x480), l0, l2, 7, 8, 1, l6)
 										}
 									L18:
 										t85 := m.get32(uint32(l5) - 0xfca38)
@@ -2097,7 +3074,7 @@ func f140(m *memory, l0 uint64, l1 uint64, l2 uint32, l3 uint64, l4 uint64) uint
 								l9 = t89
 								t90 := -uint32(b2i(l9 < 2))
 								t91 := (0x20 & t90) | (0 &^ t90)
-								f52(m, (l5 + 0x450), l0, l2, 8, (l9 + 1), b2i(l9 == 1), t91)
+								f53(m, (l5 + 0x450), l0, l2, 8, (l9 + 1), b2i(l9 == 1), t91)
 								t92 := m.get32(uint32(l5) - 0xfca68)
 								m.put32(uint32(l5)-0xfcb68, t92)
 								t93 := m.get64(uint32(l5) - 0xfca70)
@@ -2114,7 +3091,7 @@ func f140(m *memory, l0 uint64, l1 uint64, l2 uint32, l3 uint64, l4 uint64) uint
 									l9 = t95
 									t96 := -uint32(b2i(l9 < 2))
 									t97 := (0x20 & t96) | (0 &^ t96)
-									f52(m, (l5 + 0x460), l0, l2, 9, (l9 + 1), b2i(l9 == 1), t97)
+									f53(m, (l5 + 0x460), l0, l2, 9, (l9 + 1), b2i(l9 == 1), t97)
 									t98 := m.get32(uint32(l5) - 0xfca58)
 									m.put32(uint32(l5)-0xfcb78, t98)
 									t99 := m.get64(uint32(l5) - 0xfca60)
@@ -2130,11 +3107,11 @@ func f140(m *memory, l0 uint64, l1 uint64, l2 uint32, l3 uint64, l4 uint64) uint
 									m.put32(uint32(l5)-0xfca38, 0)
 									t101 := -uint32(b2i(l9 < 2))
 									t102 := (0x20 & t101) | (0 &^ t101)
-									f52(m, (l5 + 0x480), l0, l2, 0xa, (l9 + 1), b2i(l9 == 1), t102)
+									f53(m, (l5 + 0x480), l0, l2, 0xa, (l9 + 1), b2i(l9 == 1), t102)
 									goto L12
 								}
 							L94:
-								f52(m, (l5 + 0x480), l0, l2, 9, 8, 1, l6)
+								f53(m, (l5 + 0x480), l0, l2, 9, 8, 1, l6)
 							}
 						L15:
 							t103 := m.get32(uint32(l5) - 0xfca38)
@@ -2146,7 +3123,7 @@ func f140(m *memory, l0 uint64, l1 uint64, l2 uint32, l3 uint64, l4 uint64) uint
 							goto L13
 						}
 					L14:
-						f52(m, (l5 + 0x470), l0, l2, 0xa, 8, 1, l6)
+						f53(m, (l5 + 0x470), l0, l2, 0xa, 8, 1, l6)
 					}
 				L13:
 					t105 := m.get32(uint32(l5) - 0xfca48)
@@ -2226,8 +3203,8 @@ L2:
 	return l6
 }
 
-// f141 is noise_finish.
-func f141(m *memory, l0 uint64, l1 uint64, l2 uint64, l3 uint64) uint32 {
+// f142 is noise_finish.
+func f142(m *memory, l0 uint64, l1 uint64, l2 uint64, l3 uint64) uint32 {
 	var l4 uint32
 	{
 		t2 := f0(m)
@@ -2238,14 +3215,14 @@ func f141(m *memory, l0 uint64, l1 uint64, l2 uint64, l3 uint64) uint32 {
 		panic("unreachable")
 	}
 L1:
-	t3 := f142(m, l0, l1, l2, l3)
+	t3 := f143(m, l0, l1, l2, l3)
 	l4 = t3
 	f1(m)
 	return l4
 }
 
-// f142 is rattle::export noise_finish.
-func f142(m *memory, l0 uint64, l1 uint64, l2 uint64, l3 uint64) uint32 {
+// f143 is rattle::export noise_finish.
+func f143(m *memory, l0 uint64, l1 uint64, l2 uint64, l3 uint64) uint32 {
 	var l7, l9, l10, l11 uint32
 	var l4, l5, l6, l8 uint64
 	t1 := m.g0
@@ -2256,7 +3233,7 @@ func f142(m *memory, l0 uint64, l1 uint64, l2 uint64, l3 uint64) uint32 {
 			goto L2
 		}
 		m.fill(uint32(l4), 0, 0xb0)
-		f53(m, l4, l0)
+		f54(m, l4, l0)
 		{
 			{
 				t5 := uint32(m.get8(uint32(l4) - 0xfcec0))
@@ -2401,8 +3378,8 @@ L2:
 	panic("unreachable")
 }
 
-// f143 is noise_finish_ciphers.
-func f143(m *memory, l0 uint64, l1 uint64, l2 uint64) uint32 {
+// f144 is noise_finish_ciphers.
+func f144(m *memory, l0 uint64, l1 uint64, l2 uint64) uint32 {
 	var l3 uint32
 	{
 		t2 := f0(m)
@@ -2413,14 +3390,14 @@ func f143(m *memory, l0 uint64, l1 uint64, l2 uint64) uint32 {
 		panic("unreachable")
 	}
 L1:
-	t3 := f144(m, l0, l1, l2)
+	t3 := f145(m, l0, l1, l2)
 	l3 = t3
 	f1(m)
 	return l3
 }
 
-// f144 is rattle::export noise_finish_ciphers.
-func f144(m *memory, l0 uint64, l1 uint64, l2 uint64) uint32 {
+// f145 is rattle::export noise_finish_ciphers.
+func f145(m *memory, l0 uint64, l1 uint64, l2 uint64) uint32 {
 	var l4, l6, l7, l10, l13 uint32
 	var l3, l5, l8, l9, l11 uint64
 	var l12a, l12b uint64
@@ -2434,7 +3411,7 @@ func f144(m *memory, l0 uint64, l1 uint64, l2 uint64) uint32 {
 					goto L4
 				}
 				m.fill(uint32((l3 + 8)), 0, 0xb0)
-				f53(m, (l3 + 8), l0)
+				f54(m, (l3 + 8), l0)
 				t5 := uint32(m.get8(uint32(l3) - 0xfceb8))
 				if t5 != 0 {
 					goto L3
@@ -2668,8 +3645,8 @@ L2:
 	return l10
 }
 
-// f145 is noise_finish_stream.
-func f145(m *memory, l0 uint64, l1 uint64, l2 uint64, l3 uint64) uint32 {
+// f146 is noise_finish_stream.
+func f146(m *memory, l0 uint64, l1 uint64, l2 uint64, l3 uint64) uint32 {
 	var l4 uint32
 	{
 		t2 := f0(m)
@@ -2680,14 +3657,14 @@ func f145(m *memory, l0 uint64, l1 uint64, l2 uint64, l3 uint64) uint32 {
 		panic("unreachable")
 	}
 L1:
-	t3 := f146(m, l0, l1, l2, l3)
+	t3 := f147(m, l0, l1, l2, l3)
 	l4 = t3
 	f1(m)
 	return l4
 }
 
-// f146 is rattle::export noise_finish_stream.
-func f146(m *memory, l0 uint64, l1 uint64, l2 uint64, l3 uint64) uint32 {
+// f147 is rattle::export noise_finish_stream.
+func f147(m *memory, l0 uint64, l1 uint64, l2 uint64, l3 uint64) uint32 {
 	var l5, l7, l10, l11 uint32
 	var l4, l6, l8, l9 uint64
 	t1 := m.g0
@@ -2698,7 +3675,7 @@ func f146(m *memory, l0 uint64, l1 uint64, l2 uint64, l3 uint64) uint32 {
 			goto L2
 		}
 		m.fill(uint32((l4 + 0x40)), 0, 0xb0)
-		f53(m, (l4 + 0x40), l0)
+		f54(m, (l4 + 0x40), l0)
 		{
 			{
 				t5 := uint32(m.get8(uint32(l4) - 0xfce80))
@@ -2870,8 +3847,8 @@ L2:
 	panic("unreachable")
 }
 
-// f147 is noise_datagram_open.
-func f147(m *memory, l0 uint64, l1 uint64, l2 uint64, l3 uint64) uint32 {
+// f148 is noise_datagram_open.
+func f148(m *memory, l0 uint64, l1 uint64, l2 uint64, l3 uint64) uint32 {
 	var l4 uint32
 	{
 		t2 := f0(m)
@@ -2882,14 +3859,14 @@ func f147(m *memory, l0 uint64, l1 uint64, l2 uint64, l3 uint64) uint32 {
 		panic("unreachable")
 	}
 L1:
-	t3 := f148(m, l0, l1, l2, l3)
+	t3 := f149(m, l0, l1, l2, l3)
 	l4 = t3
 	f1(m)
 	return l4
 }
 
-// f148 is rattle::export noise_datagram_open.
-func f148(m *memory, l0 uint64, l1 uint64, l2 uint64, l3 uint64) uint32 {
+// f149 is rattle::export noise_datagram_open.
+func f149(m *memory, l0 uint64, l1 uint64, l2 uint64, l3 uint64) uint32 {
 	var l5, l6, l7, l8, l9, l10 uint32
 	var l4, l11, l12, l13, l14, l15, l16, l17, l18, l19, l20, l21, l22, l23 uint64
 	var l24a, l24b, l25a, l25b, l26a, l26b uint64
@@ -3108,7 +4085,7 @@ func f148(m *memory, l0 uint64, l1 uint64, l2 uint64, l3 uint64) uint32 {
 											if (t54 % l2) != 0 {
 												goto L52
 											}
-											f13(m, l1)
+											f14(m, l1)
 										}
 									L52:
 										t55 := uint32(m.get8(uint32(l4) - 0xfce80))
@@ -3334,8 +4311,8 @@ L2:
 	panic("unreachable")
 }
 
-// f149 is noise_finish_datagrams.
-func f149(m *memory, l0 uint64, l1 uint32, l2 uint64, l3 uint64) uint32 {
+// f150 is noise_finish_datagrams.
+func f150(m *memory, l0 uint64, l1 uint32, l2 uint64, l3 uint64) uint32 {
 	{
 		t2 := f0(m)
 		if t2 == 0 {
@@ -3345,14 +4322,14 @@ func f149(m *memory, l0 uint64, l1 uint32, l2 uint64, l3 uint64) uint32 {
 		panic("unreachable")
 	}
 L1:
-	t3 := f150(m, l0, l1, l2, l3)
+	t3 := f151(m, l0, l1, l2, l3)
 	l1 = t3
 	f1(m)
 	return l1
 }
 
-// f150 is rattle::export noise_finish_datagrams.
-func f150(m *memory, l0 uint64, l1 uint32, l2 uint64, l3 uint64) uint32 {
+// f151 is rattle::export noise_finish_datagrams.
+func f151(m *memory, l0 uint64, l1 uint32, l2 uint64, l3 uint64) uint32 {
 	var l6, l8, l9 uint32
 	var l4, l5, l7 uint64
 	t1 := m.g0
@@ -3388,7 +4365,7 @@ func f150(m *memory, l0 uint64, l1 uint32, l2 uint64, l3 uint64) uint32 {
 				l5 = 2
 			}
 		L4:
-			f53(m, l4, l0)
+			f54(m, l4, l0)
 			{
 				t8 := uint32(m.get8(uint32(l4) - 0xfcec0))
 				if t8 != 0 {
@@ -3529,8 +4506,8 @@ L2:
 	panic("unreachable")
 }
 
-// f151 is noise_write.
-func f151(m *memory, l0 uint64, l1 uint64, l2 uint64, l3 uint64, l4 uint64, l5 uint64) uint32 {
+// f152 is noise_write.
+func f152(m *memory, l0 uint64, l1 uint64, l2 uint64, l3 uint64, l4 uint64, l5 uint64) uint32 {
 	var l6 uint32
 	{
 		t2 := f0(m)
@@ -3541,14 +4518,14 @@ func f151(m *memory, l0 uint64, l1 uint64, l2 uint64, l3 uint64, l4 uint64, l5 u
 		panic("unreachable")
 	}
 L1:
-	t3 := f152(m, l0, l1, l2, l3, l4, l5)
+	t3 := f153(m, l0, l1, l2, l3, l4, l5)
 	l6 = t3
 	f1(m)
 	return l6
 }
 
-// f152 is rattle::export noise_write.
-func f152(m *memory, l0 uint64, l1 uint64, l2 uint64, l3 uint64, l4 uint64, l5 uint64) uint32 {
+// f153 is rattle::export noise_write.
+func f153(m *memory, l0 uint64, l1 uint64, l2 uint64, l3 uint64, l4 uint64, l5 uint64) uint32 {
 	var l9, l15, l16, l21, l22, l23 uint32
 	var l6, l8, l10, l11, l12, l13, l14 uint64
 	var l7a, l7b, l17a, l17b, l18a, l18b, l19a, l19b, l20a, l20b uint64
@@ -3587,7 +4564,7 @@ func f152(m *memory, l0 uint64, l1 uint64, l2 uint64, l3 uint64, l4 uint64, l5 u
 						if t10 > 9 {
 							goto L6
 						}
-						f15(m, (l6 + 0x3b8), (l0 + 4), l8)
+						f16(m, (l6 + 0x3b8), (l0 + 4), l8)
 						t11 := uint32(m.get8(uint32(l6) - 0xfcb08))
 						if t11 == 0 {
 							goto L5
@@ -3598,7 +4575,7 @@ func f152(m *memory, l0 uint64, l1 uint64, l2 uint64, l3 uint64, l4 uint64, l5 u
 					goto L2
 				}
 			L5:
-				f31(m, (l6 + 0x4d0), l0, ((l6 + 0x3b8) + 8))
+				f32(m, (l6 + 0x4d0), l0, ((l6 + 0x3b8) + 8))
 				t12 := uint32(m.get8(uint32(l6) - 0xfc9f0))
 				l9 = t12
 				m.copy(uint32((l6 + 0x40)), uint32(((l6 + 0x4d0) + 8)), 0x360)
@@ -3667,7 +4644,7 @@ func f152(m *memory, l0 uint64, l1 uint64, l2 uint64, l3 uint64, l4 uint64, l5 u
 				t26 := m.get64(uint32(l6) - 0xfc748)
 				l11 = t26
 				l12 = (t25 - l11)
-				f35(m, (l6 + 0x18), l8, l10, l12)
+				f36(m, (l6 + 0x18), l8, l10, l12)
 				{
 					{
 						{
@@ -3682,7 +4659,7 @@ func f152(m *memory, l0 uint64, l1 uint64, l2 uint64, l3 uint64, l4 uint64, l5 u
 								m.put128q(uint32(l6)-0xfcb08, l7a, l7b)
 								l13 = (l6 + 0x5e0)
 								l14 = (l6 + 0x650)
-								f54(m, (l6 + 0x3b8), (l6 + 0x608), l13, (l14 + (l11 << 5)), l12, l8, l10)
+								f55(m, (l6 + 0x3b8), (l6 + 0x608), l13, (l14 + (l11 << 5)), l12, l8, l10)
 								t32, t33 := m.get128q(uint32(l6) - 0xfcafa)
 								m.put128q(uint32(l6)-0xfc670, t32, t33)
 								t34 := m.get32(uint32(l6) - 0xfcaea)
@@ -3719,7 +4696,7 @@ func f152(m *memory, l0 uint64, l1 uint64, l2 uint64, l3 uint64, l4 uint64, l5 u
 							m.put128q(uint32(l6)-0xfcb08, l7a, l7b)
 							t43 := -uint64(b2i(l9 == 1))
 							t44 := ((l0 & 0xff) & t43) | (0 &^ t43)
-							f54(m, (l6 + 0x3b8), (l6 + 0x608), (l6 + 0x5e0), (((l6 + 0x4d0) + (l11 << 5)) + 0x180), l12, l8, t44)
+							f55(m, (l6 + 0x3b8), (l6 + 0x608), (l6 + 0x5e0), (((l6 + 0x4d0) + (l11 << 5)) + 0x180), l12, l8, t44)
 							t45, t46 := m.get128q(uint32(l6) - 0xfcafa)
 							m.put128q(uint32(l6)-0xfc628, t45, t46)
 							t47 := m.get32(uint32(l6) - 0xfcaea)
@@ -3808,7 +4785,7 @@ func f152(m *memory, l0 uint64, l1 uint64, l2 uint64, l3 uint64, l4 uint64, l5 u
 					t85 := -uint64(b2i(l3 == 0))
 					t86 := (0x1000 & t85) | (0 &^ t85)
 					l3 = (l3 + t86)
-					f55(m, (l6 + 8), (l6 + 0x3b8), (l6 + 0x850), l13, (l14 + (l11 << 5)), (l12 - l11), l8, t84, l3, l4)
+					f56(m, (l6 + 8), (l6 + 0x3b8), (l6 + 0x850), l13, (l14 + (l11 << 5)), (l12 - l11), l8, t84, l3, l4)
 					t87 := uint32(m.get8(uint32(l6) - 0xfceb8))
 					if t87 != 0 {
 						goto L3
@@ -3817,7 +4794,7 @@ func f152(m *memory, l0 uint64, l1 uint64, l2 uint64, l3 uint64, l4 uint64, l5 u
 					t89 := (0x1000 & t88) | (0 &^ t88)
 					t90 := m.get64(uint32(l6) - 0xfceb0)
 					l8 = t90
-					t91 := f56(m, (l6 + 0x3b8), (l1 + t89), l2, (l3 + l8))
+					t91 := f57(m, (l6 + 0x3b8), (l1 + t89), l2, (l3 + l8))
 					l11 = t91
 					t92 := uint32(m.get8(uint32(l6) - 0xfc740))
 					l16 = (t92 + 1)
@@ -3829,7 +4806,7 @@ func f152(m *memory, l0 uint64, l1 uint64, l2 uint64, l3 uint64, l4 uint64, l5 u
 					t95 := uint32(m.get8(uint32(l6) - 0xfc8bf))
 					t96 := uint32(m.get8(uint32(l6) - 0xfcac8))
 					l21 = t96
-					f32(m, (l6 + 0x8d8), (l6 + 0x4d0), t95, b2i(l21 == 1), l16)
+					f33(m, (l6 + 0x8d8), (l6 + 0x4d0), t95, b2i(l21 == 1), l16)
 					l2 = (l6 + 0x7c0)
 					t97, t98 := m.get128q(uint32(l6) - 0xfcad8)
 					m.put128q(uint32(l2)-0xfce90, t97, t98)
