@@ -1,7 +1,8 @@
 """What the prover says of a function whose text an edit has changed: over the proved libraries of the crates below its
-own (crates/NAME/out/rlib), that function and those that it calls are checked, and none of the others. What was refused
-is kept on this machine by a checksum of all that was read: the toolchain's name, the edited crate, the sources of those
-below it, and this file."""
+own (crates/NAME/out/rlib), that function is checked, and none of the others. Those that it calls are taken to meet
+their contracts, as `rt ci` has proved: most have a hole for a proof, and the few others are proved again. What was
+refused is kept on this machine by a checksum of all that was read: the toolchain's name, the edited crate, the sources
+of those below it, and this file."""
 
 import hashlib
 import os
@@ -15,6 +16,11 @@ ROOT = pathlib.Path(__file__).resolve().parent.parent.parent
 PARTS = ("src", "specs", "proofs")
 FUNCTION = re.compile(r"^( *)(?:pub(?:\([^)]*\))? )?(?:const )?(?:unsafe )?(?:extern \"C\" )?fn (\w+)", re.MULTILINE)
 IMPL = re.compile(r"^impl(?:<[^{]*?>)? (?:(?:\w+::)*(\w+)(?:<[^{]*?>)? for )?(?:\w+::)*(\w+)", re.MULTILINE)
+HOLE = """use {module}.Statement.{{statement}}
+
+pub {name}_spec : {{M : Type 1}} → statement M
+{name}_spec = ?
+"""
 GOAL = re.compile(r"^note: (src/[\w/]+\.rt):(\d+):\d+: (.*(?:not proved|did not prove).*)$", re.MULTILINE)
 
 
@@ -112,22 +118,51 @@ def function_named(file, text, path):
     return next(lines for it, lines in (function_at(file, text, at) for at in places) if it == path)
 
 
+def parts_of(file, text, found):
+    """The module, the type and the name of a function, or None where its proof has another form: of a trait's impl, and
+    of functions that call themselves or each other."""
+    inside = list(IMPL.finditer(text, 0, found.start())) if found[1] else []
+    body = text[found.end():].split(f"\n{found[1]}}}", 1)[0]
+    before = text[:found.start()].rsplit("\n\n", 1)[-1]
+    if len(found[1]) > 4 or inside and inside[-1][1] or re.search(rf"\b{found[2]}\(", body) or "#[cycle" in before:
+        return None
+    module = [it for it in file.removeprefix("src/").removesuffix(".rt").split("/") if it not in ("lib", "mod")]
+    return [*module, *([inside[-1][2]] if inside else []), found[2]]
+
+
+def put_holes(name, room, functions):
+    """Puts a hole in the place of the proof of each function of the crate in a folder that isn't one of these."""
+    for path in sorted(pathlib.Path(room, "src").rglob("*.rt")):
+        file, text = str(path.relative_to(room)), path.read_text(encoding="utf-8")
+        for found in FUNCTION.finditer(text):
+            parts = parts_of(file, text, found)
+            if not parts or function_at(file, text, found.end())[0] in functions:
+                continue
+            folder = pathlib.Path(room, "proofs", *parts)
+            folder.mkdir(parents=True, exist_ok=True)
+            for it in ("Answers", "Invariants"):
+                (folder / f"{it}.antt").unlink(missing_ok=True)
+            module = ".".join(["Rattle", name, "proofs", *parts])
+            (folder / "Proof.antt").write_text(HOLE.format(module=module, name=parts[-1]), encoding="utf-8")
+
+
 def say(name, texts, functions, kept, call):
     """What the prover prints of these functions, where a crate has these texts in place of its own, with its status and
-    whether it came to its end; the functions below them that stay as they are are kept in a folder."""
+    whether it came to its end; what it has checked is kept in a folder."""
     with tempfile.TemporaryDirectory(prefix="mutant-") as room:
         for part in PARTS:
             if (ROOT / "crates" / name / part).is_dir():
                 shutil.copytree(ROOT / "crates" / name / part, f"{room}/{part}")
         for file, text in texts.items():
             pathlib.Path(room, file).write_text(text, encoding="utf-8")
+        put_holes(name, room, functions)
         only = [word for path in sorted(functions) for word in ("--only", path)]
         ran = subprocess.run(
-            [*call, "--incremental", kept, *only], cwd=room, stdin=subprocess.DEVNULL, stdout=subprocess.PIPE,
+            [*call, "--incremental", kept, "--allow-holes", *only], cwd=room, stdin=subprocess.DEVNULL, stdout=subprocess.PIPE,
             stderr=subprocess.STDOUT, text=True, errors="replace", check=False,
             env={**os.environ, "TMPDIR": room},
         )
-    ended = re.fullmatch(r"only=(\d+) proved=(\d+)", ran.stdout.rstrip().split("\n")[-1])
+    ended = re.fullmatch(r"only=(\d+) holes=(\d+)", ran.stdout.rstrip().split("\n")[-1])
     return ran.stdout, ran.returncode, bool(ended)
 
 
@@ -148,7 +183,9 @@ def verdict(name, texts, functions, kept, call):
     """The first open goal of a changed function, where a crate has these texts in place of its own. `functions` has the
     file and the path of each."""
     said, status, ended = say(name, texts, {path for _, path in functions}, kept, call)
-    if status == 0 and ended:
+    met = [re.search(rf"^fn {name}::(?:\w+::)*{re.escape(path)}: (?:no holes|depends on a hole)", said, re.MULTILINE)
+           for _, path in functions]
+    if all(met) and ended:
         raise NotRefused("not refused: " + ", ".join(path for _, path in functions) + " still meets its contract")
     found = [goal for file, path in sorted(functions)
              for goal in goals(said, file, function_named(file, texts[file], path))]
