@@ -52,14 +52,14 @@ pub use Rattle.noise_vectors.specs.declared.vector.AllowedEvents.TheVariants.{An
 pub use Rattle.noise_vectors.specs.declared.vector.FileDatagrams.{FileDatagrams}
 pub use Rattle.noise_vectors.specs.declared.vector.VectorFile.{VectorFile}
 pub use Rattle.noise_tool.specs.Ends.{IsFilePattern, IsFilePatternFault, IsPlanOf, IsStartFault, file_start, keys_of_role, setup_of, sides_of_file}
-pub use Rattle.noise_tool.specs.Explaining.{AreSaid, ExplainsPrefix, HasExplained, IsExplainedAt, IsExplainedFile, IsExplainedRun, IsExplainedText, IsExplainedVector, IsUnreadName, Said, StopsExplaining, said_text, worse}
+pub use Rattle.noise_tool.specs.Explaining.{AreSaid, IsExplainedAt, IsExplainedFile, IsExplainedRun, IsExplainedText, IsExplainedVector, IsUnreadName, Said, said_text, worse, worst_of}
 pub use Rattle.noise_tool.specs.KeyUseLines.{HasLaterNonce, key_use_lines, rekeyed_lines, transport_lines}
-pub use Rattle.noise_tool.specs.Performing.{AreMet, Converts, DifferAt, HasConverted, HasPrinted, HasUnmet, IsDone, IsFault, IsNotMet, IsOfLines, IsPlain, IsReadVector, IsRunFault, IsShortFile, IsTooLongConverted, IsUnlike, IsUnmet, Printing, ReadsShort, RunsFile}
+pub use Rattle.noise_tool.specs.Performing.{AreMet, Converts, DifferAt, IsDone, IsFault, IsPlain, IsReadVector, IsRunFault, IsRunText, IsTooLongConverted, IsUnmet, Printing, ReadsShort}
 pub use Rattle.noise_tool.specs.Printed.{frame_numbered, note_line, state_lines}
 pub use Rattle.noise_tool.specs.PrintedTrace.{act_word, call_word, none_word, part_word, start_call_word, start_lines_from, start_word, state_key_word, step_lines_from, transport_call_word, transport_line}
 pub use Rattle.noise_tool.specs.Running.{AreLast, IsRunOf, LeavesLines, are_ready, datagram_run_lines, datagrams_of_version, expected_in, gone_over, is_ready}
 pub use Rattle.noise_tool.specs.Selection.{all_lines, heading_lines, if_selected, selection_of, selects_transport}
-pub use Rattle.noise_tool.specs.Testing.{EndsTest, HasBegunTest, HasTested, HaveTested, IsBelowVerdict, IsOfFile, IsPatternOfText, IsPieceOf, IsTested, IsVerdictOn, RunsTo, TestedName, TestsPrefix, asked_in, below_of, failed_in, is_input, passed_in, tally_line, tested_names, tested_names_after, tested_text, verdicts_text}
+pub use Rattle.noise_tool.specs.Testing.{EndsTest, HaveTested, IsBelowVerdict, IsOfFile, IsPatternOfText, IsPieceOf, IsTested, IsTestedFile, IsVerdictOn, RunsTo, TestedName, TestsPrefix, asked_in, failed_in, is_input, passed_in, tally_line, tested_names, tested_names_after, tested_text, verdicts_text}
 pub use Rattle.noise_tool.specs.TracedEnds.{AreOver, AreTracedEnds, EndsTraced, Follow, HasRunTraced, HasTracedTo, IsNewSides, IsOfNoFrame, ShowsEnd, TracedMatches, Used, entry_frame, note_ends}
 pub use Rattle.noise_tool.specs.Tracing.{HasTraces, IsTraceOf, about, act_of, blanks, came_traces, datagram_keys_of, happened_traces, judged_use, last_traces, read_trace, read_use, run_traces, start_lines_of, start_traces, unsent_use, written_frame, written_message, written_trace, written_use}
 pub use Rattle.noise_tool.specs.declared.key_use_lines.Selection.{Selection}

@@ -1,15 +1,13 @@
 pub mod Common
+pub mod AnswerLemmas
 pub mod ConversionLemmas
 pub mod CountingLemmas
 pub mod ComparingLemmas
 pub mod DocumentLemmas
 pub mod EndLemmas
 pub mod OneRunLemmas
-pub mod OutcomeLemmas
-pub mod MetLemmas
 pub mod KeyUseLemmas
 pub mod PerformingLemmas
-pub mod PrefixLemmas
 pub mod PatternNameLemmas
 pub mod AskedLemmas
 pub mod Shortness

@@ -1,3 +1,4 @@
+pub mod Answers
 pub mod Comparing
 pub mod ComparedDocuments
 pub mod Conversion
@@ -13,7 +14,6 @@ pub mod OneRun
 pub mod Outcomes
 pub mod PatternNames
 pub mod Performing
-pub mod Prefixes
 pub mod Printed
 pub mod PrintedDatagrams
 pub mod PrintedTrace

@@ -16,7 +16,6 @@ use Rattle.noise_duel.specs.Notes.{Held, Left, Note, WriteFault, Wrote}
 use Rattle.noise_duel.specs.Runs.{Run}
 use Rattle.noise_duel.specs.Sides.{Side, Sides}
 use Rattle.noise_names.specs.Lists.{bytes_of}
-use Rattle.noise_vectors.specs.FileKeys.{agreement_of, public_of}
 use Rattle.noise_vectors.specs.declared.file_keys.FileKeys.{FileKeys}
 use Rattle.noise_vectors.specs.declared.vector.VectorFile.{VectorFile}
 use Rattle.noise_tool.specs.Ends.{FileDuelMatches, IsPlanOf, sides_of_file}

@@ -1,10 +1,9 @@
 //! The lines of a run of datagrams.
 
-ghost use Rattle.std.specs.Prelude.{◌≡◌, ◌++◌, map, IfOk, IsTrue, OnOk};
+ghost use Rattle.std.specs.Prelude.{◌≡◌, map, IfOk, IsTrue, OnOk};
 ghost use Rattle.noise_session.specs.Datagrams.{DatagramState, DatagramsMatch};
 ghost use Rattle.noise_duel.specs.DatagramReports.{DatagramDuelMatches, datagram_note_of, datagram_notes_of};
 ghost use Rattle.noise_duel.specs.DatagramSides.{DatagramSides};
-ghost use Rattle.noise_names.specs.Lists.{bytes_of};
 ghost use Rattle.noise_lines.specs.Lines.{line_of, text_in};
 ghost use Rattle.noise_tool.specs.Printed.{Appended};
 ghost use Rattle.noise_tool.specs.PrintedDatagrams as print;

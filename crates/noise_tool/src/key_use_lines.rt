@@ -1,6 +1,6 @@
 //! The lines of the keys that a call of a party uses.
 
-ghost use Rattle.std.specs.Prelude.{◌≡◌, ◌++◌, OnOk, Some};
+ghost use Rattle.std.specs.Prelude.{◌≡◌, OnOk, Some};
 ghost use Rattle.noise_trace.specs.KeyUses.{use_value};
 ghost use Rattle.noise_trace.specs.KeyUses.KeyUseValue.{Transport};
 ghost use Rattle.noise_tool.specs.Printed.{Appended};

@@ -1,11 +1,11 @@
 //! What the command `noise` does: it does what the command line asks for, and writes lines or reports a fault.
 #![tactic(auto)]
 
+mod answers;
 mod compared_document;
 mod comparison;
 mod counted_run;
 mod datagram_report;
-mod documents;
 mod ends;
 mod explanation;
 mod file_facts;
@@ -15,6 +15,7 @@ mod laws;
 mod named_files;
 mod pattern_names;
 mod performing;
+mod printing;
 mod report;
 mod run;
 mod testing;

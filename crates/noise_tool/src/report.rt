@@ -1,14 +1,14 @@
 //! The lines of a run.
 
-ghost use Rattle.std.specs.Prelude.{◌≡◌, ◌∷◌, ◌++◌, [], codes, map, IfOk, IsTrue, OnOk};
+ghost use Rattle.std.specs.Prelude.{◌≡◌, ◌∷◌, ◌++◌, [], map, IfOk, IsTrue, OnOk};
 ghost use Rattle.std.specs.List.{join_with_byte};
 ghost use Rattle.noise_session.specs.Ends.{EndState, EndMatches};
 ghost use Rattle.noise_duel.specs.Entries.{note_of, notes_of, step_of};
 ghost use Rattle.noise_duel.specs.Notes.{WriteFault};
 ghost use Rattle.noise_duel.specs.DuelValue.{HasFrames};
-ghost use Rattle.noise_duel.specs.Sides.{Side, Sides, side};
+ghost use Rattle.noise_duel.specs.Sides.{Sides, side};
 ghost use Rattle.noise_names.specs.Lists.{bytes_of};
-ghost use Rattle.noise_vectors.specs.FileKeys.{agreement_of, pairs_of, public_of};
+ghost use Rattle.noise_vectors.specs.FileKeys.{pairs_of};
 ghost use Rattle.noise_lines.specs.Lines.{text_in};
 ghost use Rattle.noise_tool.specs.Ends.{FileDuelMatches};
 ghost use Rattle.noise_tool.specs.Printed as print;

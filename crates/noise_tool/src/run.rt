@@ -1,6 +1,6 @@
 //! The run of a vector file.
 
-ghost use Rattle.std.specs.Prelude.{◌≡◌, ◌++◌, ◌∷◌, [], ℕ, List, Option, IfErr, IfOk, OnOk, codes, map};
+ghost use Rattle.std.specs.Prelude.{◌≡◌, ◌++◌, ◌∷◌, [], ℕ, List, Option, IfErr, IfOk, OnOk, codes};
 ghost use Rattle.noise_duel.specs.DatagramReports.{DatagramDuelMatches};
 ghost use Rattle.noise_duel.specs.DatagramSides.{datagram_sides};
 ghost use Rattle.noise_duel.specs.Sides.{Sides};

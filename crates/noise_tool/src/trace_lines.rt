@@ -3,7 +3,6 @@
 ghost use Rattle.std.specs.Prelude.{◌≡◌, ◌∷◌, ◌++◌, [], codes, slice_range, IfOk, IsTrue, OnOk};
 ghost use Rattle.noise_lines.specs.Lines.{line_of, text_in};
 ghost use Rattle.noise_lines.specs.PrintedWords.{is_printed};
-ghost use Rattle.noise_names.specs.Lists.{bytes_of};
 ghost use Rattle.noise_vectors.specs.VectorText as text;
 ghost use Rattle.noise_tool.specs.Printed.{Appended};
 ghost use Rattle.noise_tool.specs.PrintedTrace as print;

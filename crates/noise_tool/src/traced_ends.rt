@@ -1,6 +1,6 @@
 //! The two parties that a vector file describes, with the key schedule of each beside it.
 
-ghost use Rattle.std.specs.Prelude.{◌≡◌, ◌≤◌, ◌++◌, ℕ, List, None, IfErr, IfOk, OnOk, length};
+ghost use Rattle.std.specs.Prelude.{◌≡◌, ℕ, None, IfErr, IfOk, OnOk};
 ghost use Rattle.noise_handshake.specs.Setup.{setup_fault};
 ghost use Rattle.noise_handshake.specs.Party.{Party};
 ghost use Rattle.noise_names.specs.declared.token.Role.{Role};
