@@ -79,7 +79,10 @@ const uint8_t *secret(unsigned number) {
 
 const uint8_t *prologue(void) {
     static uint8_t bytes[NOISE_MAX_PROLOGUE + 1];
-    for (unsigned i = 0; i < sizeof bytes; i++) bytes[i] = (uint8_t)(i * i + 3);
+    static bool are_filled;
+    if (!are_filled)
+        for (unsigned i = 0; i < sizeof bytes; i++) bytes[i] = (uint8_t)(i * i + 3);
+    are_filled = true;
     return bytes;
 }
 
