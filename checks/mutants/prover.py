@@ -1,7 +1,8 @@
 """What the prover says of a function whose text an edit has changed: over the proved libraries of the crates below its
-own (crates/NAME/out/rlib), that function and those that it calls are checked, and none of the others. What was refused
-is kept on this machine by a checksum of all that was read: the toolchain's name, the edited crate, the sources of those
-below it, and this file."""
+own (crates/NAME/out/rlib), that function is checked, and none of the others. Each other function of the crate keeps its
+contract, and has neither its body nor its proof: a proof knows only the contracts of the functions that it calls, and
+`rt ci` has proved those. What was refused is kept on this machine by a checksum of all that was read: the toolchain's
+name, the edited crate, the sources of those below it, and this file."""
 
 import hashlib
 import os
@@ -15,6 +16,17 @@ ROOT = pathlib.Path(__file__).resolve().parent.parent.parent
 PARTS = ("src", "specs", "proofs")
 FUNCTION = re.compile(r"^( *)(?:pub(?:\([^)]*\))? )?(?:const )?(?:unsafe )?(?:extern \"C\" )?fn (\w+)", re.MULTILINE)
 IMPL = re.compile(r"^impl(?:<[^{]*?>)? (?:(?:\w+::)*(\w+)(?:<[^{]*?>)? for )?(?:\w+::)*(\w+)", re.MULTILINE)
+BODY = " loop {} "
+PROOF = """use {module}.Statement.{{statement}}
+use Rattle.{crate}.proofs.TakenAsProved.{{taken}}
+
+pub {name}_spec : {{M : Type 1}} → statement M
+{name}_spec {{M}} = taken (statement M)
+"""
+# (one hole that all such proofs cite, since the prover prints the goal of each hole)
+TAKEN = """pub taken : (claim : Type 2) → claim
+taken claim = ?
+"""
 GOAL = re.compile(r"^note: (src/[\w/]+\.rt):(\d+):\d+: (.*(?:not proved|did not prove).*)$", re.MULTILINE)
 
 
@@ -112,48 +124,114 @@ def function_named(file, text, path):
     return next(lines for it, lines in (function_at(file, text, at) for at in places) if it == path)
 
 
-def say(name, texts, functions, kept, call):
-    """What the prover prints of these functions, where a crate has these texts in place of its own, with its status and
-    whether it came to its end; the functions below them that stay as they are are kept in a folder."""
+def place_of_proof(files, file, found):
+    """The module, the type and the name of a function of these files, or None for a method of a trait's impl, and for a
+    function in another one, whose proofs stand elsewhere. A method's proof stands where its type is declared."""
+    inside = list(IMPL.finditer(files[file], 0, found.start())) if found[1] else []
+    if len(found[1]) > 4 or inside and inside[-1][1]:
+        return None
+    of_type = [inside[-1][2]] if inside else []
+    if of_type:
+        declared = re.compile(rf"^(?:pub(?:\([^)]*\))? )?(?:struct|enum) {of_type[0]}\b", re.MULTILINE)
+        homes = [it for it in [file, *files] if declared.search(files[it])]
+        file = homes[0] if homes else file
+    module = [it for it in file.removeprefix("src/").removesuffix(".rt").split("/") if it not in ("lib", "mod")]
+    return [*module, *of_type, found[2]]
+
+
+def body_of(text, found):
+    """The place of a function's body, between its braces, or None where it has none, or one with no line of its own."""
+    indent, start = found[1], found.start()
+    after = FUNCTION.search(text, found.end())
+    end = text.find(f"\n{indent}}}", start, after.start() if after else len(text))
+    # (it begins on a line of its own after clauses)
+    brace = text.find(f"\n{indent}{{\n", start, end)
+    begin = brace + len(indent) + 2 if brace >= 0 else text.find(" {\n", start, end) + 2
+    return (begin, end) if end >= 0 and begin > start + 1 else None
+
+
+def take_as_proved(name, room, functions):
+    """Gives each function of the crate in a folder that isn't one of these a body that never ends and the proof that is
+    taken for granted, where its proof has the plain form. The few others keep theirs."""
+    files = {str(it.relative_to(room)): it.read_text(encoding="utf-8") for it in sorted(room.glob("src/**/*.rt"))}
+    for file, text in files.items():
+        changed = text
+        for found in reversed(list(FUNCTION.finditer(text))):
+            place, body = place_of_proof(files, file, found), body_of(text, found)
+            if not place or not body or function_at(file, text, found.end())[0] in functions:
+                continue
+            changed = changed[:body[0]] + BODY + changed[body[1]:]
+            folder = room.joinpath("proofs", *place)
+            folder.mkdir(parents=True, exist_ok=True)
+            for it in ("Answers", "Invariants"):
+                (folder / f"{it}.antt").unlink(missing_ok=True)
+            # (where a function calls itself)
+            shutil.rmtree(folder.parent / f"+{place[-1]}", ignore_errors=True)
+            module = ".".join(["Rattle", name, "proofs", *place])
+            proof = PROOF.format(module=module, crate=name, name=place[-1])
+            (folder / "Proof.antt").write_text(proof, encoding="utf-8")
+        room.joinpath(file).write_text(changed, encoding="utf-8")
+    room.joinpath("proofs/TakenAsProved.antt").write_text(TAKEN, encoding="utf-8")
+    with room.joinpath("proofs/Lib.antt").open("a", encoding="utf-8") as root:
+        root.write("\npub mod TakenAsProved\n")
+
+
+def say(name, texts, functions, call):
+    """What the prover prints of these functions, each with its file and path, where a crate has these texts in place of
+    its own, with its status, whether it came to its end, and the lines of each function in what it read."""
     with tempfile.TemporaryDirectory(prefix="mutant-") as room:
         for part in PARTS:
             if (ROOT / "crates" / name / part).is_dir():
                 shutil.copytree(ROOT / "crates" / name / part, f"{room}/{part}")
         for file, text in texts.items():
             pathlib.Path(room, file).write_text(text, encoding="utf-8")
-        only = [word for path in sorted(functions) for word in ("--only", path)]
+        paths = {path for _, path in functions}
+        take_as_proved(name, pathlib.Path(room), paths)
+        lines = {(file, path): function_named(file, pathlib.Path(room, file).read_text(encoding="utf-8"), path)
+                 for file, path in functions}
+        only = [word for path in sorted(paths) for word in ("--only", path)]
         ran = subprocess.run(
-            [*call, "--incremental", kept, *only], cwd=room, stdin=subprocess.DEVNULL, stdout=subprocess.PIPE,
-            stderr=subprocess.STDOUT, text=True, errors="replace", check=False,
-            env={**os.environ, "TMPDIR": room},
+            [*call, "--allow-holes", *only], cwd=room, stdin=subprocess.DEVNULL, stdout=subprocess.PIPE,
+            stderr=subprocess.STDOUT, text=True, errors="replace", check=False, env={**os.environ, "TMPDIR": room},
         )
-    ended = re.fullmatch(r"only=(\d+) proved=(\d+)", ran.stdout.rstrip().split("\n")[-1])
-    return ran.stdout, ran.returncode, bool(ended)
+    ended = re.fullmatch(r"only=(\d+) holes=(\d+)", ran.stdout.rstrip().split("\n")[-1])
+    return ran.stdout, ran.returncode, bool(ended), lines
 
 
-def refused_together(name, texts, functions_of, kept, call):
+def is_met(name, said, path):
+    """Whether the prover says that the function of a path meets its contract, given those that it calls."""
+    met = re.findall(rf"^fn {name}::(\S+): (?:no holes|depends on a hole)", said, re.MULTILINE)
+    return any(f"::{it}".replace("+", "").endswith(f"::{path}") for it in met)
+
+
+def refused_together(name, texts, functions_of, call):
     """For each edit the first open goal of its functions, or None, where a crate has the texts that all edits give. No
     two edits change one function: so each is refused by the contract of a body that it alone has changed, since of the
     others a proof knows the contracts alone. `functions_of` has the files and paths of the functions of each edit."""
-    paths = {path for functions in functions_of.values() for _, path in functions}
-    said, status, ended = say(name, texts, paths, kept, call)
+    every = {it for functions in functions_of.values() for it in functions}
+    said, status, ended, lines = say(name, texts, every, call)
     if status != 1 or not ended:
         return {}
-    return {edit: next((goal for file, path in sorted(functions)
-                        for goal in goals(said, file, function_named(file, texts[file], path))), None)
+    return {edit: next((goal for it in sorted(functions) for goal in goals(said, it[0], lines[it])), None)
             for edit, functions in functions_of.items()}
 
 
-def verdict(name, texts, functions, kept, call):
+def verdict(name, texts, functions, call):
     """The first open goal of a changed function, where a crate has these texts in place of its own. `functions` has the
     file and the path of each."""
-    said, status, ended = say(name, texts, {path for _, path in functions}, kept, call)
-    if status == 0 and ended:
+    said, status, ended, lines = say(name, texts, functions, call)
+    if ended and all(is_met(name, said, path) for _, path in functions):
         raise NotRefused("not refused: " + ", ".join(path for _, path in functions) + " still meets its contract")
-    found = [goal for file, path in sorted(functions)
-             for goal in goals(said, file, function_named(file, texts[file], path))]
+    found = [goal for it in sorted(functions) for goal in goals(said, it[0], lines[it])]
     if status != 1 or not ended or not found:
-        lines = said.rstrip().split("\n")
-        told = [it for it in lines if re.match(r"(note: )?\S+:\d+:\d+: ", it)] or lines[-1:]
+        told = [it for it in said.rstrip().split("\n") if re.match(r"(note: )?\S+:\d+:\d+: ", it)]
+        told = [it for it in told if "TakenAsProved" not in it] or said.rstrip().split("\n")[-1:]
         raise NotRefused(f"no open goal of its function (status {status}): {told[0][:200]}")
     return found[0]
+
+
+def unmet(name, functions, call):
+    """The paths of those of these functions that don't meet their contracts as they are, or whose run came to no
+    end."""
+    said, _, ended, _ = say(name, {}, functions, call)
+    return sorted(path for _, path in functions if not ended or not is_met(name, said, path))
