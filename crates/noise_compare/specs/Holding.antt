@@ -112,28 +112,28 @@ in_form HalfZeroed x = take 16 x ++ replicate 16 0
 abbrev pub code_of : List ℕ → List ℕ → List ℕ
 code_of key text = hmac_of (if nat_le (length key) 64 then key else sha256 key) text
 
--- an output of HKDF with this counter, of the temporary key and the output before it (4.3)
-unfoldable pub block : Expansion → List ℕ → List ℕ → ℕ → List ℕ
-block Standard temporary before n = hmac_of temporary (before ++ n ∷ [])
-block FromZero temporary before n = hmac_of temporary (before ++ (n - 1) ∷ [])
-block Digits temporary before n = hmac_of temporary (before ++ (n + 48) ∷ [])
-block BigCounter temporary before n = hmac_of temporary (before ++ 0 ∷ 0 ∷ 0 ∷ n ∷ [])
-block LittleCounter temporary before n = hmac_of temporary (before ++ n ∷ 0 ∷ 0 ∷ 0 ∷ [])
-block CounterInFront temporary before n = hmac_of temporary (n ∷ before)
-block NoCounter temporary before n = hmac_of temporary before
-block Unchained temporary before n = hmac_of temporary (n ∷ [])
-block Exchanged temporary before n = code_of (before ++ n ∷ []) temporary
+-- the output of HKDF with this counter, of the temporary key, an info and the output before it (4.3; RFC 5869, 2.3)
+unfoldable pub block : Expansion → List ℕ → List ℕ → List ℕ → ℕ → List ℕ
+block Standard temporary info before n = hmac_of temporary (before ++ (info ++ n ∷ []))
+block FromZero temporary info before n = hmac_of temporary (before ++ (n - 1) ∷ [])
+block Digits temporary info before n = hmac_of temporary (before ++ (n + 48) ∷ [])
+block BigCounter temporary info before n = hmac_of temporary (before ++ 0 ∷ 0 ∷ 0 ∷ n ∷ [])
+block LittleCounter temporary info before n = hmac_of temporary (before ++ n ∷ 0 ∷ 0 ∷ 0 ∷ [])
+block CounterInFront temporary info before n = hmac_of temporary (n ∷ before)
+block NoCounter temporary info before n = hmac_of temporary before
+block Unchained temporary info before n = hmac_of temporary (n ∷ [])
+block Exchanged temporary info before n = code_of (before ++ n ∷ []) temporary
 
-abbrev pub first_block : Expansion → List ℕ → List ℕ
-first_block e temporary = block e temporary [] 1
+abbrev pub first_block : Expansion → List ℕ → List ℕ → List ℕ
+first_block e temporary info = block e temporary info [] 1
 
-abbrev pub second_block : Expansion → List ℕ → List ℕ
-second_block e temporary = block e temporary (first_block e temporary) 2
+abbrev pub second_block : Expansion → List ℕ → List ℕ → List ℕ
+second_block e temporary info = block e temporary info (first_block e temporary info) 2
 
-unfoldable pub output_of : Expansion → List ℕ → Output → List ℕ
-output_of e temporary First = first_block e temporary
-output_of e temporary Second = second_block e temporary
-output_of e temporary Third = block e temporary (second_block e temporary) 3
+unfoldable pub output_of : Expansion → List ℕ → List ℕ → Output → List ℕ
+output_of e temporary info First = first_block e temporary info
+output_of e temporary info Second = second_block e temporary info
+output_of e temporary info Third = block e temporary info (second_block e temporary info) 3
 
 -- the temporary key of HKDF in other ways: SHA256 for its HMAC; HMAC that hashes each key first, which RFC 2104 (2) does
 -- with longer ones than a block; or no extraction (RFC 5869, 2.2)
@@ -148,21 +148,6 @@ unfoldable pub info_of : Derivation → List ℕ → List ℕ → List ℕ
 info_of NameAsInfo name x = name
 info_of ExpandAlone name x = x
 info_of other name x = []
-
-abbrev pub informed_block : List ℕ → List ℕ → List ℕ → ℕ → List ℕ
-informed_block temporary info before n = hmac_of temporary (before ++ (info ++ n ∷ []))
-
-abbrev pub informed_second : List ℕ → List ℕ → List ℕ
-informed_second temporary info = informed_block temporary info (informed_block temporary info [] 1) 2
-
-unfoldable pub informed_output : List ℕ → List ℕ → Output → List ℕ
-informed_output temporary info First = informed_block temporary info [] 1
-informed_output temporary info Second = informed_second temporary info
-informed_output temporary info Third = informed_block temporary info (informed_second temporary info) 3
-
-abbrev pub derived : Derivation → Situation → List ℕ → Output → List ℕ
-derived d at x o =
-    informed_output (temporary_of d at.before.chaining_key x) (info_of d at.name.now x) o
 
 -- the value is what a function gives of another, if there is that
 abbrev pub is_made : Option (List ℕ) → (List ℕ → List ℕ) → List ℕ → Bool
@@ -217,12 +202,12 @@ digest_by (DigestAfter s) at y x = sha256 (y ++ x)
 digest_by (DigestBefore s) at y x = sha256 (x ++ y)
 digest_by MixedTwice at y x = sha256 (sha256 (y ++ x) ++ x)
 digest_by MixedFirst at y x = sha256 (sha256 (y ++ x) ++ at.data.now)
-digest_by (MixedOutput o) at y x = sha256 (y ++ output_of Standard (code_of at.before.chaining_key x) o)
+digest_by (MixedOutput o) at y x = sha256 (y ++ output_of Standard (code_of at.before.chaining_key x) [] o)
 digest_by (Code s) at y x = code_of y x
 digest_by (CodeUnder s) at y x = code_of x y
-digest_by (Expanded s e o) at y x = output_of e (code_of y x) o
-digest_by (ExpandedBy s o) at y x = output_of Standard (code_of x y) o
-digest_by (Derived d o) at y x = derived d at x o
+digest_by (Expanded s e o) at y x = output_of e (code_of y x) [] o
+digest_by (ExpandedBy s o) at y x = output_of Standard (code_of x y) [] o
+digest_by (Derived d o) at y x = output_of Standard (temporary_of d at.before.chaining_key x) (info_of d at.name.now x) o
 digest_by other at y x = sha256 x
 
 -- the operation gives this value of an input
@@ -246,19 +231,12 @@ logged_value value.Hash logged = items_of logged.hash
 logged_value value.ChainingKey logged = items_of logged.chaining_key
 logged_value value.Key logged = items_of logged.key
 
--- An operation gives this value of a source in a form. A source of more bytes than a message has is not tried.
-abbrev pub holds_for : Equation → Situation → Logged → List ℕ → List ℕ → Bool
-holds_for e at logged v x = nat_le (length x) 65535 && gives e.operation at logged (in_form e.input.form x) v
-
-abbrev pub holds_at : Equation → Situation → Logged → List ℕ → Option (List ℕ) → Bool
-holds_at e at logged v None = false
-holds_at e at logged v (Some x) = holds_for e at logged v x
-
+-- An operation gives this value, if it was logged, of a source in a form, if the step has it. A source of more bytes than
+-- a message has is not tried.
 abbrev pub holds_of : Equation → Situation → Logged → Option (List ℕ) → Option (List ℕ) → Bool
-holds_of e at logged None source = false
-holds_of e at logged (Some v) source = holds_at e at logged v source
+holds_of e at logged (Some v) (Some x) = nat_le (length x) 65535 && gives e.operation at logged (in_form e.input.form x) v
+holds_of e at logged value source = false
 
--- The logged value is what the operation gives of its input. Where there is no such value, the equation doesn't hold.
 unfoldable pub holds : Equation → Situation → Logged → Bool
 holds e at logged = holds_of e at logged (logged_value e.value logged) (source_bytes e.input.source at logged)
 

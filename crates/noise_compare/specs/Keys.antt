@@ -57,12 +57,11 @@ earlier_hash_fits at logged = nat_lt 0 (count_by (λ hash. fits logged at.bytes.
 abbrev pub left_out_explains : Situation → Logged → Bool
 left_out_explains at logged = fits logged at.bytes.now at.before || key_before_explains at logged
 
--- 32 zeros under the key before, with this nonce (Rekey, Noise 4.2): 48 bytes
-abbrev pub rekeyed_by : Situation → List ℕ → List ℕ
-rekeyed_by at nonce = sealed_under at.before.key nonce [] (replicate 32 0)
-
-abbrev pub rekey_explains : Situation → Logged → List ℕ → Bool
-rekey_explains at logged nonce = fits_with_key at logged (take 32 (rekeyed_by at nonce))
+-- the key is 32 bytes, from this place on, of 32 zeros that are encrypted under the key before with this nonce: 48 bytes
+-- (Rekey, Noise 4.2)
+abbrev pub rekey_explains : Situation → Logged → List ℕ → ℕ → Bool
+rekey_explains at logged nonce from =
+    fits_with_key at logged (take 32 (drop from (sealed_under at.before.key nonce [] (replicate 32 0))))
 
 unfoldable pub key_explains : KeyMistake → Situation → Logged → Bool
 key_explains SplitLater at logged = later_outputs_explain at logged
@@ -77,7 +76,7 @@ key_explains NonceRaised at logged = fits logged at.bytes.now (with_nonce at.rig
 key_explains NonceSetBack at logged = fits logged at.bytes.now (with_nonce at.right 0)
 key_explains RekeyLater at logged = key_before_explains at logged
 key_explains RekeyLeftOut at logged = left_out_explains at logged
-key_explains RekeyByNonce at logged = rekey_explains at logged (nonce_of at.right.nonce)
-key_explains RekeyByZero at logged = rekey_explains at logged (replicate 12 0)
-key_explains RekeyByOnes at logged = rekey_explains at logged (replicate 12 255)
-key_explains RekeyLastBytes at logged = fits_with_key at logged (drop 16 (rekeyed_by at (nonce_of 0xffff_ffff_ffff_ffff)))
+key_explains RekeyByNonce at logged = rekey_explains at logged (nonce_of at.right.nonce) 0
+key_explains RekeyByZero at logged = rekey_explains at logged (nonce_of 0) 0
+key_explains RekeyByOnes at logged = rekey_explains at logged (replicate 12 255) 0
+key_explains RekeyLastBytes at logged = rekey_explains at logged (nonce_of 0xffff_ffff_ffff_ffff) 16

@@ -39,7 +39,7 @@ name_explains ChainingKeyOfZeros at logged = start_fits at logged at.right.hash 
 
 -- a state with another hash
 abbrev pub with_hash : State → List ℕ → State
-with_hash state hash = record { hash = hash; chaining_key = state.chaining_key; key = state.key; nonce = state.nonce }
+with_hash state hash = record state { hash = hash }
 
 -- MixKey of an input, from this chaining key
 abbrev pub with_key : State → List ℕ → List ℕ → State

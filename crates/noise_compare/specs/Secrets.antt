@@ -73,27 +73,23 @@ applied k before o = if is_psk k then mixed_key_and_hash before o else mixed_key
 abbrev pub exchanged : Kind → Outputs → Outputs
 exchanged k o = if is_psk k then outputs o.first o.third o.second else outputs o.second o.first o.third
 
-abbrev pub with_chaining_key : State → List ℕ → State
-with_chaining_key state chaining_key =
-    record { hash = state.hash; chaining_key = chaining_key; key = state.key; nonce = state.nonce }
-
 abbrev pub with_nonce : State → ℕ → State
-with_nonce state nonce = record { hash = state.hash; chaining_key = state.chaining_key; key = state.key; nonce = nonce }
+with_nonce state nonce = record state { nonce = nonce }
 
--- the state after the step with another secret
-abbrev pub after_secret : Situation → List ℕ → State
-after_secret at secret = applied at.kind at.before (expanded at.before.chaining_key secret)
+-- the state after the step with this secret, from this state on
+abbrev pub after_secret : Situation → State → List ℕ → State
+after_secret at from secret = applied at.kind from (expanded from.chaining_key secret)
 
 -- what a mistake gives; that of another secret is below
 unfoldable pub secret_state : SecretMistake → Situation → State
 secret_state InputsExchanged at = applied at.kind at.before (expanded at.secret at.before.chaining_key)
 secret_state OutputsExchanged at = applied at.kind at.before (exchanged at.kind (expanded at.before.chaining_key at.secret))
-secret_state Reversed at = after_secret at (reverse at.secret)
-secret_state Digested at = after_secret at (sha256 at.secret)
+secret_state Reversed at = after_secret at at.before (reverse at.secret)
+secret_state Digested at = after_secret at at.before (sha256 at.secret)
 secret_state CountedFromZero at = applied at.kind at.before (counted_from_zero (hmac_of at.before.chaining_key at.secret))
 secret_state Unchained at = applied at.kind at.before (unchained (hmac_of at.before.chaining_key at.secret))
 secret_state ShortBlocks at = applied at.kind at.before (short_outputs (short_hmac at.before.chaining_key at.secret))
-secret_state ChainingKeyKept at = with_chaining_key at.right at.before.chaining_key
+secret_state ChainingKeyKept at = record at.right { chaining_key = at.before.chaining_key }
 secret_state NonceKept at = with_nonce at.right at.before.nonce
 secret_state NonceFromOne at = with_nonce at.right 1
 secret_state LeftOut at = at.before
@@ -101,12 +97,12 @@ secret_state HashedToo at = with_hash at.right (sha256 (at.right.hash ++ at.secr
 secret_state KeyAlone at = mixed_key at.before (expanded at.before.chaining_key at.secret)
 secret_state HashLeftOut at = with_hash at.right at.before.hash
 secret_state Other at = at.right
-secret_state StepsLeftOut at = applied at.kind at.agreed (expanded at.agreed.chaining_key at.secret)
+secret_state StepsLeftOut at = after_secret at at.agreed at.secret
 
 -- some secret of the run gives the logged values
 abbrev pub other_explains : Situation → Logged → Bool
 other_explains at logged =
-    nat_lt 0 (count_by (λ secret. fits logged at.bytes.now (after_secret at secret)) at.secrets.now)
+    nat_lt 0 (count_by (λ secret. fits logged at.bytes.now (after_secret at at.before secret)) at.secrets.now)
 
 unfoldable pub secret_explains : SecretMistake → Situation → Logged → Bool
 secret_explains Other at logged = other_explains at logged

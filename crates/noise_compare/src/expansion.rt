@@ -1,8 +1,7 @@
 //! HMAC and HKDF in other forms.
 
 ghost use Rattle.std.specs.Prelude.{◌≡◌, ◌≤◌, ◌++◌, ◌∷◌, [], IfOk};
-ghost use Rattle.sha2.specs.Sha256.{sha256};
-ghost use Rattle.noise_compare.specs.Holding.{block, code_of, first_block, info_of, informed_block, informed_output, informed_second, output_of, second_block, temporary_of};
+ghost use Rattle.noise_compare.specs.Holding.{block, code_of, first_block, info_of, output_of, second_block, temporary_of};
 
 use crate::equation::{Derivation, Expansion, Output};
 use crate::mixing::mixed;
@@ -22,35 +21,26 @@ pub(crate) fn code_of(key: &[u8], text: &[u8]) -> [u8; 32]
     }
 }
 
-/// An output of HKDF in another form, of this temporary key.
+/// An output of HKDF in another form, of this temporary key, and with this info in front of the counter.
 #[tactic(auto, unfolding(crate::specs::Holding::output_of))]
 pub(crate) fn output_of(
     alloc: Global,
     expansion: Expansion,
     temporary: &[u8; 32],
+    info: &[u8],
     output: Output,
 ) -> Result<[u8; 32], AllocError>
-    ensures { IfOk result (λ o. o ≡ output_of expansion temporary.now output) }
+    ensures { IfOk result (λ o. o ≡ output_of expansion temporary.now info.now output) }
 {
+    let first = block(alloc, expansion, temporary, info, &[], 1)?;
     match output {
-        Output::First => block(alloc, expansion, temporary, &[], 1),
-        Output::Second => second_block(alloc, expansion, temporary),
+        Output::First => Ok(first),
+        Output::Second => block(alloc, expansion, temporary, info, &first, 2),
         Output::Third => {
-            let second = second_block(alloc, expansion, temporary)?;
-            block(alloc, expansion, temporary, &second, 3)
+            let second = block(alloc, expansion, temporary, info, &first, 2)?;
+            block(alloc, expansion, temporary, info, &second, 3)
         }
     }
-}
-
-fn second_block(
-    alloc: Global,
-    expansion: Expansion,
-    temporary: &[u8; 32],
-) -> Result<[u8; 32], AllocError>
-    ensures { IfOk result (λ o. o ≡ second_block expansion temporary.now) }
-{
-    let first = block(alloc, expansion, temporary, &[], 1)?;
-    block(alloc, expansion, temporary, &first, 2)
 }
 
 // The output of this number, after another.
@@ -59,14 +49,15 @@ fn block(
     alloc: Global,
     expansion: Expansion,
     temporary: &[u8; 32],
+    info: &[u8],
     before: &[u8],
     number: u8,
 ) -> Result<[u8; 32], AllocError>
     requires few { number ≤ 3 }
-    ensures value { IfOk result (λ o. o ≡ block expansion temporary.now before.now number) }
+    ensures value { IfOk result (λ o. o ≡ block expansion temporary.now info.now before.now number) }
 {
     match expansion {
-        Expansion::Standard => Ok(hmac(temporary, &[before, &[number]])),
+        Expansion::Standard => Ok(hmac(temporary, &[before, info, &[number]])),
         Expansion::FromZero => Ok(hmac(temporary, &[before, &[number.saturating_sub(1)]])),
         Expansion::Digits => Ok(hmac(temporary, &[before, &[number + 48]])),
         Expansion::BigCounter => Ok(hmac(temporary, &[before, &[0, 0, 0, number]])),
@@ -102,16 +93,13 @@ pub(crate) fn temporary_of(
 {
     match derivation {
         Derivation::DigestFirst => mixed(chaining_key, input),
-        Derivation::KeysHashed => digest(&hmac(&digest(chaining_key), &[input])),
+        Derivation::KeysHashed => {
+            let key: [u8; 32] = Sha256::digest(chaining_key);
+            Sha256::digest(&hmac(&key, &[input]))
+        }
         Derivation::NameAsInfo => hmac(chaining_key, &[input]),
         Derivation::ExpandAlone => *chaining_key,
     }
-}
-
-fn digest(bytes: &[u8; 32]) -> [u8; 32]
-    ensures { result ≡ sha256 bytes.now }
-{
-    Sha256::digest(bytes)
 }
 
 /// What each of its outputs takes before the counter.
@@ -124,29 +112,4 @@ pub(crate) fn info_of<'a>(derivation: Derivation, name: &'a [u8], input: &'a [u8
         Derivation::ExpandAlone => input,
         Derivation::DigestFirst | Derivation::KeysHashed => &[],
     }
-}
-
-/// An output of HKDF with this info.
-#[tactic(auto, unfolding(crate::specs::Holding::informed_output))]
-pub(crate) fn informed_output(temporary: &[u8; 32], info: &[u8], output: Output) -> [u8; 32]
-    ensures { result ≡ informed_output temporary.now info.now output }
-{
-    match output {
-        Output::First => informed_block(temporary, info, &[], 1),
-        Output::Second => informed_second(temporary, info),
-        Output::Third => informed_block(temporary, info, &informed_second(temporary, info), 3),
-    }
-}
-
-fn informed_second(temporary: &[u8; 32], info: &[u8]) -> [u8; 32]
-    ensures { result ≡ informed_second temporary.now info.now }
-{
-    let first = informed_block(temporary, info, &[], 1);
-    informed_block(temporary, info, &first, 2)
-}
-
-fn informed_block(temporary: &[u8; 32], info: &[u8], before: &[u8], number: u8) -> [u8; 32]
-    ensures { result ≡ informed_block temporary.now info.now before.now number }
-{
-    hmac(temporary, &[before, info, &[number]])
 }

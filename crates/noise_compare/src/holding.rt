@@ -2,13 +2,11 @@
 
 ghost use Rattle.std.specs.Prelude.{◌≡◌, IfOk, option_copied, take};
 ghost use Rattle.noise_aead.specs.Sealing.{nonce_of};
-ghost use Rattle.noise_compare.specs.Holding.{code_of, derived, digest_by, found_equations, gives, holds, holds_at, holds_for, holds_of, is_but_tag, is_made, is_renewed, is_sealed, is_value_right, key_of, other_source, output_of, rekey_number, sealed_if_short, source_bytes};
+ghost use Rattle.noise_compare.specs.Holding.{digest_by, found_equations, gives, holds, is_but_tag, is_made, is_renewed, is_sealed, is_value_right, key_of, other_source, rekey_number, sealed_if_short};
 ghost use Rattle.noise_compare.specs.Values.{items_of};
 
-use crate::equation::{
-    Derivation, Equation, Expansion, Operation, Output, RekeyNonce, Source, Value, equations,
-};
-use crate::expansion::{code_of, info_of, informed_output, output_of, temporary_of};
+use crate::equation::{Equation, Expansion, Operation, RekeyNonce, Source, Value, equations};
+use crate::expansion::{code_of, info_of, output_of, temporary_of};
 use crate::mixing::mixed;
 use crate::sources::{in_form, logged_value, source_bytes};
 use crate::state::{Logged, Situation, has, key_fits};
@@ -48,7 +46,8 @@ pub(crate) fn is_value_right(value: Value, at: &Situation<'_>, logged: &Logged) 
     }
 }
 
-// Whether an equation holds.
+// Whether the operation of an equation gives the logged value of its source in its form.
+#[tactic(auto, unfolding(crate::specs::Holding::holds))]
 fn holds(
     alloc: Global,
     equation: Equation,
@@ -57,62 +56,17 @@ fn holds(
 ) -> Result<bool, AllocError>
     ensures { IfOk result (λ b. b ≡ holds equation at.now logged.now) }
 {
-    let value = logged_value(equation.value, logged);
-    let source = source_bytes(equation.input.source, at, logged);
-    holds_of(alloc, equation, at, logged, value, source)
-}
-
-fn holds_of(
-    alloc: Global,
-    equation: Equation,
-    at: &Situation<'_>,
-    logged: &Logged,
-    value: Option<&[u8]>,
-    source: Option<&[u8]>,
-) -> Result<bool, AllocError>
-    ensures { IfOk result (λ b. b
-        ≡ holds_of equation at.now logged.now (option_copied value.entry) (option_copied source.entry)) }
-{
-    match value {
-        Some(value) => holds_at(alloc, equation, at, logged, value, source),
-        None => Ok(false),
-    }
-}
-
-fn holds_at(
-    alloc: Global,
-    equation: Equation,
-    at: &Situation<'_>,
-    logged: &Logged,
-    value: &[u8],
-    source: Option<&[u8]>,
-) -> Result<bool, AllocError>
-    ensures { IfOk result (λ b. b
-        ≡ holds_at equation at.now logged.now value.now (option_copied source.entry)) }
-{
-    match source {
-        Some(bytes) => holds_for(alloc, equation, at, logged, value, bytes),
-        None => Ok(false),
-    }
-}
-
-// Whether the operation of an equation gives this value of these bytes in its form.
-fn holds_for(
-    alloc: Global,
-    equation: Equation,
-    at: &Situation<'_>,
-    logged: &Logged,
-    value: &[u8],
-    bytes: &[u8],
-) -> Result<bool, AllocError>
-    ensures { IfOk result (λ b. b ≡ holds_for equation at.now logged.now value.now bytes.now) }
-{
+    let Some(value) = logged_value(equation.value, logged) else {
+        return Ok(false);
+    };
+    let Some(bytes) = source_bytes(equation.input.source, at, logged) else {
+        return Ok(false);
+    };
     if bytes.len() > 65535 {
         return Ok(false);
     }
     let input = in_form(alloc, equation.input.form, bytes)?;
-    let given = gives(alloc, equation.operation, at, logged, &input, value)?;
-    Ok(given)
+    gives(alloc, equation.operation, at, logged, &input, value)
 }
 
 // Whether an operation gives this value of an input.
@@ -203,28 +157,25 @@ fn digest_by(
         Operation::MixedFirst => Ok(mixed(&mixed(other, input), at.data)),
         Operation::MixedOutput(output) => {
             let temporary = code_of(&at.before.chaining_key, input);
-            let made = output_of(alloc, Expansion::Standard, &temporary, output)?;
+            let made = output_of(alloc, Expansion::Standard, &temporary, &[], output)?;
             Ok(mixed(other, &made))
         }
         Operation::Code(_) => Ok(code_of(other, input)),
         Operation::CodeUnder(_) => Ok(code_of(input, other)),
         Operation::Expanded(_, expansion, output) => {
-            output_of(alloc, expansion, &code_of(other, input), output)
+            output_of(alloc, expansion, &code_of(other, input), &[], output)
         }
         Operation::ExpandedBy(_, output) => {
-            output_of(alloc, Expansion::Standard, &code_of(input, other), output)
+            let temporary = code_of(input, other);
+            output_of(alloc, Expansion::Standard, &temporary, &[], output)
         }
-        Operation::Derived(derivation, output) => Ok(derived(at, derivation, input, output)),
+        Operation::Derived(derivation, output) => {
+            let temporary = temporary_of(derivation, &at.before.chaining_key, input);
+            let info = info_of(derivation, at.name, input);
+            output_of(alloc, Expansion::Standard, &temporary, info, output)
+        }
         _ => Ok(Sha256::digest(input)),
     }
-}
-
-// An output of HKDF in another way.
-fn derived(at: &Situation<'_>, derivation: Derivation, input: &[u8], output: Output) -> [u8; 32]
-    ensures { result ≡ derived derivation at.now input.now output }
-{
-    let temporary = temporary_of(derivation, &at.before.chaining_key, input);
-    informed_output(&temporary, info_of(derivation, at.name, input), output)
 }
 
 fn key_of(input: &[u8]) -> Option<[u8; 32]>

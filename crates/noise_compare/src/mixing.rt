@@ -4,7 +4,7 @@ ghost use Rattle.std.specs.Prelude.{◌≡◌, ◌≤◌, ◌-◌, ◌++◌, Som
 ghost use Rattle.std.specs.Char.{to_ascii_lowercase};
 ghost use Rattle.sha2.specs.Sha256.{sha256};
 ghost use Rattle.noise_compare.specs.States.{fits};
-ghost use Rattle.noise_compare.specs.Mixing.{digits_explain, hash_explains, hash_state, hashed, length_in_front, length_in_front_explains, length_mixed, length_mixed_explains, name_explains, other_public_explains, padded, redone, start_fits, started, with_hash, with_key};
+ghost use Rattle.noise_compare.specs.Mixing.{hash_explains, hash_state, hashed, length_in_front, length_in_front_explains, length_mixed, length_mixed_explains, name_explains, padded, redone, start_fits, started, with_hash, with_key};
 
 use crate::mistake::{HashMistake, NameMistake};
 use crate::state::{Logged, Situation, State, has, key_fits, nonce_fits};
@@ -88,27 +88,19 @@ pub(crate) fn hash_explains(
     match mistake {
         HashMistake::LengthInFront => Ok(length_in_front_explains(at, logged)),
         HashMistake::LengthMixed => Ok(length_mixed_explains(at, logged)),
-        HashMistake::OtherKey => Ok(other_public_explains(at, logged)),
-        HashMistake::HexDigits => digits_explain(alloc, at, logged),
+        HashMistake::OtherKey => Ok(
+            0 < at
+                .publics
+                .iter()
+                .filter(|key| logged.fits(at.bytes, &hashed(at, *key)))
+                .count(),
+        ),
+        HashMistake::HexDigits => {
+            let digits = hex::encode(alloc, at.data)?;
+            Ok(logged.fits(at.bytes, &hashed(at, digits.as_bytes())))
+        }
         _ => Ok(logged.fits(at.bytes, &hash_state(mistake, at))),
     }
-}
-
-fn other_public_explains(at: &Situation<'_>, logged: &Logged) -> bool
-    ensures { result ≡ other_public_explains at.now logged.now }
-{
-    0 < at
-        .publics
-        .iter()
-        .filter(|key| logged.fits(at.bytes, &hashed(at, *key)))
-        .count()
-}
-
-fn digits_explain(alloc: Global, at: &Situation<'_>, logged: &Logged) -> Result<bool, AllocError>
-    ensures { IfOk result (λ b. b ≡ digits_explain at.now logged.now) }
-{
-    let digits = hex::encode(alloc, at.data)?;
-    Ok(logged.fits(at.bytes, &hashed(at, digits.as_bytes())))
 }
 
 /// The right state, with the hash of these bytes.
@@ -147,12 +139,7 @@ pub(crate) fn redone(at: &Situation<'_>) -> State
 pub(crate) fn with_hash(state: &State, hash: [u8; 32]) -> State
     ensures { result ≡ with_hash state.now hash }
 {
-    State {
-        hash,
-        chaining_key: state.chaining_key,
-        key: state.key,
-        nonce: state.nonce,
-    }
+    State { hash, ..*state }
 }
 
 // MixKey, from this chaining key.

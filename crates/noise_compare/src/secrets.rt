@@ -1,9 +1,7 @@
 //! Mistakes of steps that mix a DH result or a psk.
 
-ghost use Rattle.std.specs.Prelude.{◌≡◌, ◌++◌, ◌∷◌, [], map, reverse, bit_xor};
-ghost use Rattle.sha2.specs.Sha256.{sha256};
-ghost use Rattle.noise_kdf.specs.Hkdf.{hmac_of};
-ghost use Rattle.noise_compare.specs.Secrets.{after_secret, applied, counted_from_zero, exchanged, expanded, is_psk, mixed_key, mixed_key_and_hash, other_explains, secret_explains, secret_state, short_hmac, short_outputs, unchained, with_chaining_key, with_nonce};
+ghost use Rattle.std.specs.Prelude.{◌≡◌, ◌++◌, map, reverse, bit_xor};
+ghost use Rattle.noise_compare.specs.Secrets.{after_secret, applied, counted_from_zero, exchanged, expanded, is_psk, mixed_key, secret_explains, secret_state, short_hmac, short_outputs, unchained, with_nonce};
 
 use crate::mistake::SecretMistake;
 use crate::mixing::{mixed, with_hash};
@@ -25,19 +23,15 @@ pub(crate) fn secret_explains(mistake: SecretMistake, at: &Situation<'_>, logged
     ensures { result ≡ secret_explains mistake at.now logged.now }
 {
     match mistake {
-        SecretMistake::Other => other_explains(at, logged),
+        SecretMistake::Other => {
+            0 < at
+                .secrets
+                .iter()
+                .filter(|secret| logged.fits(at.bytes, &after_secret(at, &at.before, secret)))
+                .count()
+        }
         _ => logged.fits(at.bytes, &secret_state(mistake, at)),
     }
-}
-
-fn other_explains(at: &Situation<'_>, logged: &Logged) -> bool
-    ensures { result ≡ other_explains at.now logged.now }
-{
-    0 < at
-        .secrets
-        .iter()
-        .filter(|secret| logged.fits(at.bytes, &after_secret(at, secret)))
-        .count()
 }
 
 #[tactic(auto, unfolding(crate::specs::Secrets::secret_state))]
@@ -51,16 +45,19 @@ fn secret_state(mistake: SecretMistake, at: &Situation<'_>) -> State
         SecretMistake::OutputsExchanged => {
             applied(kind, before, &exchanged(kind, &expanded(ck, secret)))
         }
-        SecretMistake::Reversed => after_secret(at, &reversed(at.secret)),
-        SecretMistake::Digested => after_secret(at, &digested(secret)),
+        SecretMistake::Reversed => after_secret(at, before, &reversed(at.secret)),
+        SecretMistake::Digested => after_secret(at, before, &Sha256::digest(secret)),
         SecretMistake::CountedFromZero => {
             applied(kind, before, &counted_from_zero(&hmac(ck, &[secret])))
         }
         SecretMistake::Unchained => applied(kind, before, &unchained(&hmac(ck, &[secret]))),
         SecretMistake::ShortBlocks => {
-            applied(kind, before, &short_outputs(&short_hmac(ck, secret)))
+            applied(kind, before, &short_outputs(&short_hmac(ck, &[], secret)))
         }
-        SecretMistake::ChainingKeyKept => with_chaining_key(&at.right, *ck),
+        SecretMistake::ChainingKeyKept => State {
+            chaining_key: *ck,
+            ..at.right
+        },
         SecretMistake::NonceKept => with_nonce(&at.right, before.nonce),
         SecretMistake::NonceFromOne => with_nonce(&at.right, 1),
         SecretMistake::LeftOut => at.before,
@@ -68,26 +65,15 @@ fn secret_state(mistake: SecretMistake, at: &Situation<'_>) -> State
         SecretMistake::KeyAlone => mixed_key(before, &expanded(ck, secret)),
         SecretMistake::HashLeftOut => with_hash(&at.right, before.hash),
         SecretMistake::Other => at.right,
-        SecretMistake::StepsLeftOut => after_agreed(at),
+        SecretMistake::StepsLeftOut => after_secret(at, &at.agreed, secret),
     }
 }
 
-// The step after the last one that agrees.
-fn after_agreed(at: &Situation<'_>) -> State
-    ensures { result ≡ applied at.now.kind at.now.agreed (expanded at.now.agreed.chaining_key at.now.secret) }
+// The state after the step with this secret, from this state on.
+fn after_secret(at: &Situation<'_>, from: &State, secret: &[u8; 32]) -> State
+    ensures { result ≡ after_secret at.now from.now secret.now }
 {
-    let outputs = expanded(&at.agreed.chaining_key, &at.secret);
-    applied(at.kind, &at.agreed, &outputs)
-}
-
-fn after_secret(at: &Situation<'_>, secret: &[u8; 32]) -> State
-    ensures { result ≡ after_secret at.now secret.now }
-{
-    applied(
-        at.kind,
-        &at.before,
-        &expanded(&at.before.chaining_key, secret),
-    )
+    applied(at.kind, from, &expanded(&from.chaining_key, secret))
 }
 
 fn reversed(mut secret: [u8; 32]) -> [u8; 32]
@@ -95,12 +81,6 @@ fn reversed(mut secret: [u8; 32]) -> [u8; 32]
 {
     secret.reverse();
     secret
-}
-
-fn digested(secret: &[u8; 32]) -> [u8; 32]
-    ensures { result ≡ sha256 secret.now }
-{
-    Sha256::digest(secret)
 }
 
 fn expanded(chaining_key: &[u8; 32], input: &[u8]) -> Outputs
@@ -140,9 +120,9 @@ fn unchained(temporary: &[u8; 32]) -> Outputs
 fn short_outputs(temporary: &[u8; 32]) -> Outputs
     ensures { result ≡ short_outputs temporary.now }
 {
-    let first = short_hmac(temporary, &[1]);
-    let second = short_hmac_of(temporary, &first, 2);
-    let third = short_hmac_of(temporary, &second, 3);
+    let first = short_hmac(temporary, &[], &[1]);
+    let second = short_hmac(temporary, &first, &[2]);
+    let third = short_hmac(temporary, &second, &[3]);
     Outputs {
         first,
         second,
@@ -150,22 +130,15 @@ fn short_outputs(temporary: &[u8; 32]) -> Outputs
     }
 }
 
-fn short_hmac_of(key: &[u8; 32], front: &[u8; 32], number: u8) -> [u8; 32]
-    ensures { result ≡ short_hmac key.now (front.now ++ number ∷ []) }
+// HMAC of both texts under a key that isn't padded.
+fn short_hmac(key: &[u8; 32], front: &[u8], back: &[u8]) -> [u8; 32]
+    ensures { result ≡ short_hmac key.now (front.now ++ back.now) }
 {
     let mut hasher = Sha256::new();
     hasher.update(padded_by(*key, 0x36));
     hasher.update(front);
-    hasher.update([number]);
+    hasher.update(back);
     let inner = hasher.finalize();
-    mixed(&padded_by(*key, 0x5c), &inner)
-}
-
-// HMAC under a key that isn't padded.
-fn short_hmac(key: &[u8; 32], text: &[u8]) -> [u8; 32]
-    ensures { result ≡ short_hmac key.now text.now }
-{
-    let inner = mixed(&padded_by(*key, 0x36), text);
     mixed(&padded_by(*key, 0x5c), &inner)
 }
 
@@ -183,7 +156,12 @@ fn applied(kind: Kind, before: &State, outputs: &Outputs) -> State
     ensures { result ≡ applied kind before.now outputs.now }
 {
     if is_psk(kind) {
-        mixed_key_and_hash(before, outputs)
+        State {
+            hash: mixed(&before.hash, &outputs.second),
+            chaining_key: outputs.first,
+            key: Some(outputs.third),
+            nonce: 0,
+        }
     } else {
         mixed_key(before, outputs)
     }
@@ -202,17 +180,6 @@ fn mixed_key(before: &State, outputs: &Outputs) -> State
         hash: before.hash,
         chaining_key: outputs.first,
         key: Some(outputs.second),
-        nonce: 0,
-    }
-}
-
-fn mixed_key_and_hash(before: &State, outputs: &Outputs) -> State
-    ensures { result ≡ mixed_key_and_hash before.now outputs.now }
-{
-    State {
-        hash: mixed(&before.hash, &outputs.second),
-        chaining_key: outputs.first,
-        key: Some(outputs.third),
         nonce: 0,
     }
 }
@@ -240,24 +207,8 @@ fn exchanged(kind: Kind, outputs: &Outputs) -> Outputs
     }
 }
 
-fn with_chaining_key(state: &State, chaining_key: [u8; 32]) -> State
-    ensures { result ≡ with_chaining_key state.now chaining_key }
-{
-    State {
-        hash: state.hash,
-        chaining_key,
-        key: state.key,
-        nonce: state.nonce,
-    }
-}
-
 pub(crate) fn with_nonce(state: &State, nonce: u64) -> State
     ensures { result ≡ with_nonce state.now nonce }
 {
-    State {
-        hash: state.hash,
-        chaining_key: state.chaining_key,
-        key: state.key,
-        nonce,
-    }
+    State { nonce, ..*state }
 }

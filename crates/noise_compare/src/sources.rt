@@ -1,8 +1,6 @@
 //! What an operation of an equation takes.
 
 ghost use Rattle.std.specs.Prelude.{◌≡◌, ◌++◌, None, Some, IfOk, drop, if◌then◌else◌, option_copied, replicate, reverse, take};
-ghost use Rattle.hex.specs.Hex.{encode_lower};
-ghost use Rattle.sha2.specs.Sha256.{sha256};
 ghost use Rattle.noise_compare.specs.Values.{items_of};
 ghost use Rattle.noise_compare.specs.Holding.{has_after, has_before, in_form, is_after_name, logged_value, source_bytes, taken};
 
@@ -29,7 +27,8 @@ pub(crate) fn source_bytes<'a>(
         Source::Zeros => when(true, &ZEROS),
         Source::Hash => when(has_before(at.kind), &at.before.hash),
         Source::ChainingKey => when(has_before(at.kind), &at.before.chaining_key),
-        Source::Key => key_before(at),
+        Source::Key if is_after_name(at.kind) => key_bytes(&at.before.key),
+        Source::Key => None,
         Source::RightHash => when(has_after(at.kind), &at.right.hash),
         Source::RightChainingKey => when(has_after(at.kind), &at.right.chaining_key),
         Source::RightKey => key_bytes(&at.right.key),
@@ -55,15 +54,6 @@ fn bytes_of<'a>(value: &'a Option<Vec<u8>>) -> Option<&'a [u8]>
         Some(bytes) => Some(bytes.as_slice()),
         None => None,
     }
-}
-
-fn key_before<'a>(at: &'a Situation<'_>) -> Option<&'a [u8]>
-    ensures { option_copied result ≡ (if is_after_name at.now.kind then at.now.before.key else None) }
-{
-    if !is_after_name(at.kind) {
-        return None;
-    }
-    key_bytes(&at.before.key)
 }
 
 fn key_bytes<'a>(key: &'a Option<[u8; 32]>) -> Option<&'a [u8]>
@@ -132,10 +122,13 @@ pub(crate) fn in_form(alloc: Global, form: Form, bytes: &[u8]) -> Result<Vec<u8>
     match form {
         Form::Plain => Vec::from_slice(alloc, bytes),
         Form::Reversed => reversed(alloc, bytes),
-        Form::Digested => digested(alloc, bytes),
-        Form::HexDigits => hex_digits(alloc, bytes),
+        Form::Digested => {
+            let digest: [u8; 32] = Sha256::digest(bytes);
+            Vec::from_slice(alloc, &digest)
+        }
+        Form::HexDigits => Ok(hex::encode(alloc, bytes)?.into_bytes()),
         Form::Doubled => joined(alloc, bytes, bytes),
-        Form::WithoutFirst => without_first(alloc, bytes),
+        Form::WithoutFirst => bytes_from(alloc, bytes, 1),
         Form::WithoutLast => Vec::from_slice(alloc, &bytes[..bytes.len().saturating_sub(1)]),
         Form::WithoutTag => Vec::from_slice(alloc, without_tag(bytes)),
         Form::ZeroInFront => joined(alloc, &[0], bytes),
@@ -162,24 +155,11 @@ fn reversed(alloc: Global, bytes: &[u8]) -> Result<Vec<u8>, AllocError>
     Ok(reversed)
 }
 
-fn digested(alloc: Global, bytes: &[u8]) -> Result<Vec<u8>, AllocError>
-    ensures { IfOk result (λ v. v.items ≡ sha256 bytes.now) }
+/// The bytes from this place on.
+pub(crate) fn bytes_from(alloc: Global, bytes: &[u8], from: usize) -> Result<Vec<u8>, AllocError>
+    ensures { IfOk result (λ v. v.items ≡ drop from bytes.now) }
 {
-    let digest: [u8; 32] = Sha256::digest(bytes);
-    Vec::from_slice(alloc, &digest)
-}
-
-fn hex_digits(alloc: Global, bytes: &[u8]) -> Result<Vec<u8>, AllocError>
-    ensures { IfOk result (λ v. v.items ≡ encode_lower bytes.now) }
-{
-    let digits = hex::encode(alloc, bytes)?;
-    Vec::from_slice(alloc, digits.as_bytes())
-}
-
-fn without_first(alloc: Global, bytes: &[u8]) -> Result<Vec<u8>, AllocError>
-    ensures { IfOk result (λ v. v.items ≡ drop 1 bytes.now) }
-{
-    bytes.iter().skip(1).copied().collect(alloc)
+    bytes.iter().skip(from).copied().collect(alloc)
 }
 
 fn half_zeroed(alloc: Global, bytes: &[u8]) -> Result<Vec<u8>, AllocError>
@@ -191,7 +171,7 @@ fn half_zeroed(alloc: Global, bytes: &[u8]) -> Result<Vec<u8>, AllocError>
     Ok(half)
 }
 
-fn joined(alloc: Global, first: &[u8], second: &[u8]) -> Result<Vec<u8>, AllocError>
+pub(crate) fn joined(alloc: Global, first: &[u8], second: &[u8]) -> Result<Vec<u8>, AllocError>
     ensures { IfOk result (λ v. v.items ≡ first.now ++ second.now) }
 {
     let mut bytes = Vec::from_slice(alloc, first)?;

@@ -1,17 +1,18 @@
 //! Mistakes of `s` and of a payload.
 
-ghost use Rattle.std.specs.Prelude.{◌≡◌, ◌≤◌, ◌++◌, ◌-◌, ◌+◌, [], IfOk, drop, length, replicate, take};
+ghost use Rattle.std.specs.Prelude.{◌≡◌, ◌≤◌, ◌++◌, IfOk, length};
 ghost use Rattle.sha2.specs.Sha256.{sha256};
 ghost use Rattle.noise_aead.specs.Sealing.{nonce_of, sealed};
 ghost use Rattle.noise_compare.specs.Mixing.{hashed, with_hash};
 ghost use Rattle.noise_compare.specs.States.{fits};
-ghost use Rattle.noise_compare.specs.Texts.{big_endian, big_endian_first_bytes, bytes_fit, earlier_hash_explains, first_bytes, hashed_before, nonce_fits_text, one_more, other_key_explains, raised, sealed_by_zero, sealed_fits, sealed_under, state_without_steps, tag_first, text_explains, text_state, without_steps_explains, without_tag, zero_fits};
+ghost use Rattle.noise_compare.specs.Texts.{big_endian, big_endian_first_bytes, bytes_fit, earlier_hash_explains, first_bytes, hashed_before, nonce_fits_text, one_more, other_key_explains, raised, sealed_by_zero, sealed_fits, sealed_under, text_explains, text_state, without_steps_explains, without_tag, zero_fits};
 
 use crate::mistake::TextMistake;
 use crate::mixing::{
     hashed, length_in_front_explains, length_mixed_explains, mixed, redone, with_hash,
 };
 use crate::secrets::with_nonce;
+use crate::sources::joined;
 use crate::state::{Logged, Situation, State};
 use byteorder::{BigEndian, ByteOrder, LittleEndian};
 use noise_aead::{nonce, seal_in_place};
@@ -32,8 +33,11 @@ pub(crate) fn text_explains(
         TextMistake::Clear => Ok(clear_fits(at, logged, at.text)),
         TextMistake::OtherKey => other_key_explains(alloc, at, logged),
         TextMistake::TagLeftOff => Ok(clear_fits(at, logged, without_tag(at.bytes))),
-        TextMistake::TagAdded => tag_explains(alloc, at, logged),
-        TextMistake::TagInFront => tag_first_explains(alloc, at, logged),
+        TextMistake::TagAdded => joined_fits(alloc, at, logged, at.text, &[0; 16]),
+        TextMistake::TagInFront => {
+            let (front, tag) = at.bytes.split_at(at.bytes.len().saturating_sub(16));
+            joined_fits(alloc, at, logged, tag, front)
+        }
         TextMistake::BigEndian => big_endian_explains(alloc, at, logged),
         TextMistake::FirstBytes => nonce_fits_text(alloc, at, logged, &first_bytes(n)),
         TextMistake::BigEndianFirstBytes => {
@@ -78,24 +82,17 @@ fn clear_fits(at: &Situation<'_>, logged: &Logged, bytes: &[u8]) -> bool
     logged.fits(bytes, &with_hash(&at.before, hash))
 }
 
-fn tag_explains(alloc: Global, at: &Situation<'_>, logged: &Logged) -> Result<bool, AllocError>
-    ensures { IfOk result (λ b. b ≡ bytes_fit at.now logged.now (at.now.text.now ++ replicate 16 0)) }
-{
-    let mut bytes = Vec::from_slice(alloc, at.text)?;
-    bytes.extend_from_slice(&[0; 16])?;
-    Ok(bytes_fit(at, logged, &bytes))
-}
-
-fn tag_first_explains(
+// Whether these bytes, one behind the other, give the logged values.
+fn joined_fits(
     alloc: Global,
     at: &Situation<'_>,
     logged: &Logged,
+    first: &[u8],
+    second: &[u8],
 ) -> Result<bool, AllocError>
-    ensures { IfOk result (λ b. b ≡ bytes_fit at.now logged.now (tag_first at.now.bytes.now)) }
+    ensures { IfOk result (λ b. b ≡ bytes_fit at.now logged.now (first.now ++ second.now)) }
 {
-    let (text, tag) = at.bytes.split_at(at.bytes.len().saturating_sub(16));
-    let mut bytes = Vec::from_slice(alloc, tag)?;
-    bytes.extend_from_slice(text)?;
+    let bytes = joined(alloc, first, second)?;
     Ok(bytes_fit(at, logged, &bytes))
 }
 
@@ -129,17 +126,8 @@ fn zero_nonce_explains(
     ensures { IfOk result (λ b. b ≡ zero_fits at.now logged.now (sealed_by_zero at.now)) }
 {
     let bytes = sealed_by(alloc, &at.before.key, 0, &at.before.hash, at.text)?;
-    Ok(zero_fits(at, logged, &bytes))
-}
-
-fn zero_fits(at: &Situation<'_>, logged: &Logged, bytes: &[u8]) -> bool
-    ensures { result ≡ zero_fits at.now logged.now bytes.now }
-{
-    bytes_fit(at, logged, bytes)
-        || logged.fits(
-            bytes,
-            &with_nonce(&hashed(at, bytes), raised(&at.before.key, 0)),
-        )
+    let state = with_nonce(&hashed(at, &bytes), raised(&at.before.key, 0));
+    Ok(bytes_fit(at, logged, &bytes) || logged.fits(&bytes, &state))
 }
 
 // Whether the text and its state, without the steps since the last line that agrees, are what was logged.
@@ -152,15 +140,9 @@ fn without_steps_explains(
 {
     let agreed = &at.agreed;
     let bytes = sealed_by(alloc, &agreed.key, agreed.nonce, &agreed.hash, at.text)?;
-    let sealed = logged.fits(&bytes, &state_without_steps(at, &bytes));
-    Ok(sealed || logged.fits(at.bytes, &redone(at)))
-}
-
-fn state_without_steps(at: &Situation<'_>, bytes: &[u8]) -> State
-    ensures { result ≡ state_without_steps at.now bytes.now }
-{
-    let hashed = with_hash(&at.agreed, mixed(&at.agreed.hash, bytes));
-    with_nonce(&hashed, raised(&at.agreed.key, at.agreed.nonce))
+    let hashed = with_hash(agreed, mixed(&agreed.hash, &bytes));
+    let state = with_nonce(&hashed, raised(&agreed.key, agreed.nonce));
+    Ok(logged.fits(&bytes, &state) || logged.fits(at.bytes, &redone(at)))
 }
 
 // The nonce after a text: raised, if there is a key.

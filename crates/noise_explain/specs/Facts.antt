@@ -51,12 +51,9 @@ tagged_text p writer k =
     ++ codes "\n"
 
 -- the same of message n, which has a tag where there is a key after its tokens (5.2)
-unfoldable pub written_text : Bool → Plan → ℕ → List ℕ
-written_text true p n = tagged_text p (sender_of n) n
-written_text false p n = UNTAGGED.now
-
 unfoldable pub origin_text : Plan → ℕ → List ℕ
-origin_text p n = codes "    it can be written by " ++ written_text (has_key p (first_places p n)) p n
+origin_text p n = codes "    it can be written by "
+    ++ (if has_key p (first_places p n) then tagged_text p (sender_of n) n else UNTAGGED.now)
 
 -- ---- messages
 
@@ -99,12 +96,10 @@ responder_messages_text true p = []
 responder_messages_text false p = codes "    the responder's can be written by "
     ++ tagged_text p Responder (length p.messages)
 
-unfoldable pub recording_text : Plan → List ℕ
-recording_text p = key_text (mixed_before p (length p.messages) 0) Responder Neither
-
 unfoldable pub transport_text : Plan → List ℕ
 transport_text p =
-    transport_line (is_one_way p) ++ recording_text p ++ codes "    the initiator's can be written by "
+    transport_line (is_one_way p) ++ key_text (mixed_before p (length p.messages) 0) Responder Neither
+    ++ codes "    the initiator's can be written by "
     ++ tagged_text p Initiator (length p.messages)
     ++ responder_messages_text (is_one_way p) p
 

@@ -58,11 +58,6 @@ token_place fault token =
     codes "Rule " ++ decimal fault.rule ++ codes " is broken at message " ++ decimal fault.message ++ codes ", token "
     ++ word_of token ++ codes "."
 
-abbrev pub payload_place : RuleFault → List ℕ
-payload_place fault =
-    codes "Rule " ++ decimal fault.rule ++ codes " is broken at the payload of message " ++ decimal fault.message
-    ++ codes "."
-
 abbrev pub transport_place : RuleFault → Role → List ℕ
 transport_place fault role =
     codes "Rule " ++ decimal fault.rule ++ codes " is broken at the first transport message of the " ++ role_word role
@@ -71,7 +66,9 @@ transport_place fault role =
 abbrev pub place_words : Plan → RuleFault → Option Token → List ℕ
 place_words p fault (Some token) = token_place fault token
 place_words p fault None =
-    if nat_le fault.message (length p.messages) then payload_place fault
+    if nat_le fault.message (length p.messages)
+    then codes "Rule " ++ decimal fault.rule ++ codes " is broken at the payload of message " ++ decimal fault.message
+    ++ codes "."
     else transport_place fault (rule_sender p fault)
 
 abbrev pub key_missing : Token → Role × Token → List ℕ
@@ -85,34 +82,23 @@ key_again p role key =
     then codes "The " ++ role_word role ++ codes "'s " ++ word_of key ++ codes " is named above \"...\" already."
     else codes "The " ++ role_word role ++ codes " has sent " ++ word_of key ++ codes " already."
 
-abbrev pub dh_again : Token → List ℕ
-dh_again dh = word_of dh ++ codes " is mixed in already, and adds nothing the second time."
-
-abbrev pub dh_missing : Role → Token × Token → List ℕ
-dh_missing role (mixed, wanted) =
-    codes "The " ++ role_word role ++ codes " encrypts here, " ++ word_of mixed ++ codes " is mixed in, and "
-    ++ word_of wanted
-    ++ codes " isn't: what it encrypts could depend on no fresh key of its own."
-
-abbrev pub fresh_missing : Role → List ℕ
-fresh_missing role =
-    codes "The " ++ role_word role
-    ++ codes " encrypts here after psk, and has sent no e: the same key and nonce could come again."
-
 -- what is said of rules 4 and 5, which need no token
 abbrev pub fresh_words : Plan → RuleFault → List ℕ
 fresh_words p fault =
-    if fault.rule == 4
-    then dh_missing (rule_sender p fault)
-    (unfresh (rule_sender p fault) (mixed_before p (fault.message - 1) fault.token))
-    else fresh_missing (rule_sender p fault)
+    let dhs : Token × Token = unfresh (rule_sender p fault) (mixed_before p (fault.message - 1) fault.token) in
+    codes "The " ++ role_word (rule_sender p fault)
+    ++ (if fault.rule == 4
+    then codes " encrypts here, " ++ word_of dhs.0 ++ codes " is mixed in, and " ++ word_of dhs.1
+    ++ codes " isn't: what it encrypts could depend on no fresh key of its own."
+    else codes " encrypts here after psk, and has sent no e: the same key and nonce could come again.")
 
 abbrev pub token_words : Plan → RuleFault → Option Token → List ℕ
 token_words p fault None = fresh_words p fault
 token_words p fault (Some token) =
     if fault.rule == 1 then key_missing token (missing_key p fault token)
     else (if fault.rule == 2 then key_again p (rule_sender p fault) token
-    else (if fault.rule == 3 then dh_again token
+    else (if fault.rule == 3
+    then word_of token ++ codes " is mixed in already, and adds nothing the second time."
     else fresh_words p fault))
 
 -- the two lines of a broken rule: its place, and what is wrong there

@@ -6,7 +6,7 @@ ghost use Rattle.noise_lines.specs.PrintedWords.{is_printed_byte};
 
 /// What is wrong, as closely as an explanation reports it: its sentences say what each is.
 #[rattlefmt::skip]
-#[derive(Clone, Copy, Debug, PartialEq, Eq)]
+#[derive(Clone, Copy, PartialEq, Eq)]
 pub(crate) enum Advice {
     TooLong, ByteOrderMark, CarriageReturn, Tab, SpaceAtEnd, Empty, Comment, Heading,
     HeadingMissing, VectorHeading, HeadingIndented, Modifier, NameCase, NameLength, NameFirst,
@@ -15,24 +15,13 @@ pub(crate) enum Advice {
     NinthMessage, PskAlone, ManyTokens, LineFeedMissing, MessageMissing,
 }
 
+/// What had to stand there, or what stands there; and what mends it.
+pub(crate) type Sentences = (&'static str, &'static str);
+
 impl Advice {
-    /// What has to stand there, or what stands there.
-    pub fn says(self) -> &'static str
-        ensures { IsTrue (list_all is_printed_byte result.now) }
-    {
-        self.sentences().0
-    }
-
-    /// What mends it.
-    pub fn mends(self) -> &'static str
-        ensures { IsTrue (list_all is_printed_byte result.now) }
-    {
-        self.sentences().1
-    }
-
-    // Both, of a file and of a first line.
+    /// Both, of a file and of a first line.
     #[rattlefmt::skip]
-    fn sentences(self) -> (&'static str, &'static str)
+    pub fn sentences(self) -> Sentences
         ensures says { IsTrue (list_all is_printed_byte result.0.now) }
         ensures mends { IsTrue (list_all is_printed_byte result.1.now) }
     {
@@ -67,7 +56,7 @@ impl Advice {
 
     // The same of a line of tokens.
     #[rattlefmt::skip]
-    fn of_a_line(self) -> (&'static str, &'static str)
+    fn of_a_line(self) -> Sentences
         ensures says { IsTrue (list_all is_printed_byte result.0.now) }
         ensures mends { IsTrue (list_all is_printed_byte result.1.now) }
     {

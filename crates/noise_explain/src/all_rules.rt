@@ -8,7 +8,7 @@ use noise_names::{Pattern, Role, RuleFault, Token};
 use std::alloc::{AllocError, Global};
 
 // What is encrypted at a place, or which token is there, breaks a rule; `about` is the DH that lacks, or the token.
-#[derive(Clone, Copy, PartialEq, Eq)]
+#[derive(Clone, Copy)]
 struct Found {
     fault: RuleFault,
     party: Role,

@@ -159,8 +159,9 @@ fn told_lines(
     ensures told { IfOk result (λ told. IsTextTold text.now told.items) }
 {
     let advice = fault_advice(text, fault, position.column);
+    let (says, _) = advice.sentences();
     let mut said = Vec::new(alloc);
-    push_sentence(advice.says(), &mut said)?;
+    push_sentence(says, &mut said)?;
     let found = Found {
         fault: Fault::Text(fault),
         position,
@@ -235,9 +236,10 @@ fn other_rule_lines(
 fn advice_lines(alloc: Global, advice: Advice) -> Result<Vec<u8>, AllocError>
     ensures { IfOk result (λ text. AreTwo text.items) }
 {
+    let (says, mends) = advice.sentences();
     let mut text = Vec::new(alloc);
-    push_sentence(advice.says(), &mut text)?;
-    push_sentence(advice.mends(), &mut text)?;
+    push_sentence(says, &mut text)?;
+    push_sentence(mends, &mut text)?;
     Ok(text)
 }
 

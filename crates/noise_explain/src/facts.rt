@@ -3,7 +3,7 @@
 ghost use Rattle.std.specs.Prelude.{◌≡◌, ◌≤◌, ◌<◌, ◌++◌, IfOk, OnOk, codes, length};
 ghost use Rattle.noise_names.specs.Overhead.{has_key};
 ghost use Rattle.noise_names.specs.Pieces.{places_to, tokens_of};
-ghost use Rattle.noise_explain.specs.Facts.{computed_text, facts_text, if_keyed, key_text, message_text, origin_text, payload_text, recording_text, responder_messages_text, rest_of, tagged_text, token_text, tokens_text, transport_line, transport_text, unmixed_text, written_text};
+ghost use Rattle.noise_explain.specs.Facts.{computed_text, facts_text, if_keyed, key_text, message_text, origin_text, payload_text, responder_messages_text, rest_of, tagged_text, token_text, tokens_text, transport_line, transport_text, unmixed_text};
 
 use crate::excerpt::{push_sentence, push_sentences};
 use crate::fact_words::{mixed_words, push, push_again, push_enough, push_writer};
@@ -179,22 +179,9 @@ fn push_origin(
     requires last { message ≤ length pattern.now.messages }
     ensures appended { OnOk result (text.new.items ≡ text.old.items ++ origin_text pattern.now message) }
 {
+    let number = usize::from(message);
     push(&["    it can be written by "], text)?;
-    push_written(alloc, pattern, message, pattern.has_key(message), text)
-}
-
-#[tactic(auto, unfolding(crate::specs::Facts::written_text))]
-fn push_written(
-    alloc: Global,
-    pattern: &ValidPattern,
-    message: u8,
-    has_tag: bool,
-    text: &mut Vec<u8>,
-) -> Result<(), AllocError>
-    ensures { OnOk result (text.new.items ≡ text.old.items ++ written_text has_tag pattern.now message) }
-{
-    if has_tag {
-        let number = usize::from(message);
+    if pattern.has_key(message) {
         push_tagged(alloc, pattern, sender_of(number), number, text)
     } else {
         push(&[UNTAGGED], text)
@@ -246,23 +233,16 @@ fn push_transport(
 {
     let count = pattern.pattern().messages().len();
     push(&[transport_line(pattern.one_way())], text)?;
-    push_recording(alloc, pattern, text)?;
+    push_key(
+        alloc,
+        mixed_by(pattern.pattern(), count, 0),
+        Role::Responder,
+        Part::Neither,
+        text,
+    )?;
     push(&["    the initiator's can be written by "], text)?;
     push_tagged(alloc, pattern, Role::Initiator, count, text)?;
     push_responder_messages(alloc, pattern, pattern.one_way(), text)
-}
-
-// Who can compute the keys of a recording, later.
-#[tactic(auto, unfolding(crate::specs::Facts::recording_text))]
-fn push_recording(
-    alloc: Global,
-    pattern: &ValidPattern,
-    text: &mut Vec<u8>,
-) -> Result<(), AllocError>
-    ensures { OnOk result (text.new.items ≡ text.old.items ++ recording_text pattern.now) }
-{
-    let mixed = mixed_by(pattern.pattern(), pattern.pattern().messages().len(), 0);
-    push_key(alloc, mixed, Role::Responder, Part::Neither, text)
 }
 
 fn transport_line(one_way: bool) -> &'static str

@@ -14,7 +14,7 @@ use noise_vectors::read_hex;
 use std::alloc::{AllocError, Global};
 
 /// What stands at a byte of the frame of a handshake message.
-#[derive(Clone, Copy, Debug, PartialEq, Eq)]
+#[derive(Clone, Copy)]
 pub enum Piece {
     /// The message's length.
     Length,

@@ -1,8 +1,6 @@
 //! Reads a file with what is given for the places of a template: a line `NAME = HEX` for each.
 
 ghost use Rattle.std.specs.Prelude.{◌≡◌, ◌++◌, ◌∷◌, [], IfErr, IfOk, OnOk, drop, map};
-ghost use Rattle.std.specs.Bool.{nat_eq};
-ghost use Rattle.std.specs.List.{starts_with};
 ghost use Rattle.noise_explain.specs.KeyLines.{IfLine, IsGivenBy, IsRead, IsValueIn, IsWrongFile, front_of, is_given, is_skipped, is_space, lines_in, place_in, plain_line, word_after};
 ghost use Rattle.noise_explain.specs.Values.{AreRight, fits};
 ghost use Rattle.noise_explain.specs.declared.key_lines.KeyFileFault.TheVariants.{Memory};
@@ -42,7 +40,7 @@ impl From<AllocError> for KeyFileFault {
 }
 
 /// What comes of a line.
-#[derive(Debug, Drop, PartialEq, Eq)]
+#[derive(Drop)]
 pub(crate) enum Reading {
     /// It is blank or a comment.
     Nothing,
@@ -148,7 +146,7 @@ fn place_in(alloc: Global, places: &[Place], plain: &[u8]) -> Result<Option<Plac
 {
     for place in places {
         let front = front_of(alloc, *place)?;
-        if begins(plain, &front) {
+        if plain.starts_with(&front) {
             return Ok(Some(*place));
         }
     }
@@ -162,12 +160,6 @@ fn front_of(alloc: Global, place: Place) -> Result<Vec<u8>, AllocError>
     let mut name = place_name(alloc, place)?;
     name.push('=')?;
     plain_line(alloc, name.as_bytes())
-}
-
-fn begins(plain: &[u8], front: &[u8]) -> bool
-    ensures { result ≡ starts_with nat_eq plain.now front.now }
-{
-    plain.starts_with(front)
 }
 
 // Whether a place is given.

@@ -39,7 +39,6 @@ mod rule_place;
 mod rule_sentences;
 mod run_counts;
 mod run_sentences;
-mod sentences;
 mod setup_sentences;
 mod shapes;
 mod state_part;

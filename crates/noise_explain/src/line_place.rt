@@ -1,6 +1,6 @@
 //! What stands above a line of a vector file.
 
-use crate::position::line_at;
+use crate::position::{after_line, line_at};
 use noise_names::{ProtocolName, Role, fundamental};
 
 // The party whose keys have to stand in the line of this number.
@@ -18,9 +18,17 @@ pub(crate) fn is_after_datagrams(text: &[u8], number: usize) -> bool {
 
 // Whether a line above the one of this number begins so.
 fn has_above(text: &[u8], number: usize, front: &[u8]) -> bool {
-    text.split(|b| *b == b'\n')
-        .take(number.saturating_sub(1))
-        .any(|line| line.starts_with(front))
+    let mut rest = text;
+    for _ in 1..number {
+        if rest.starts_with(front) {
+            return true;
+        }
+        if rest.is_empty() {
+            return false;
+        }
+        rest = after_line(rest);
+    }
+    false
 }
 
 pub(crate) fn is_first_version(text: &[u8]) -> bool {

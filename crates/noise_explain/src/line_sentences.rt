@@ -1,10 +1,9 @@
 //! The sentences on wrong lines of vector files.
 
-use crate::advice::Advice;
+use crate::advice::{Advice, Sentences};
 use crate::line_column::{first_word, word_from, wrong_at};
 use crate::line_place::{is_after_datagrams, is_first_version, needed_role};
 use crate::line_shapes::shapes_of;
-use crate::sentences::Sentences;
 use crate::shapes::Shape;
 use crate::text_advice::slip;
 use crate::word_sentences::word_reported;
@@ -15,10 +14,10 @@ use noise_vectors::LineKind;
 #[rattlefmt::skip]
 pub(crate) fn line_reported(kind: LineKind, text: &[u8], number: usize, line: &[u8]) -> Sentences {
     if line.starts_with(b"#".as_slice()) {
-        return Sentences::new("A vector file has no comments, and this line begins as one.", "Leave it out.");
+        return ("A vector file has no comments, and this line begins as one.", "Leave it out.");
     }
     if let Some(advice) = slip(line) {
-        return slip_reported(advice, line);
+        return if line == b"expect ".as_slice() { EXPECT_EMPTY } else { advice.sentences() };
     }
     let first = first_word(line);
     let shapes = shapes_of(kind, first);
@@ -31,18 +30,11 @@ pub(crate) fn line_reported(kind: LineKind, text: &[u8], number: usize, line: &[
     }
 }
 
-// What is wrong in characters that aren't seen. After `expect` a space may be all that is there.
-fn slip_reported(advice: Advice, line: &[u8]) -> Sentences {
-    if line == b"expect ".as_slice() {
-        return EXPECT_EMPTY;
-    }
-    Sentences::of(advice)
-}
-
-const EXPECT_EMPTY: Sentences = Sentences {
-    says: "LINE has at least one byte, and none stands here.",
-    mends: "Write the line that is expected, or leave this one out.",
-};
+// After `expect` a space may be all that is there.
+const EXPECT_EMPTY: Sentences = (
+    "LINE has at least one byte, and none stands here.",
+    "Write the line that is expected, or leave this one out.",
+);
 
 // What is wrong with the word that so many bytes of a line stand before.
 #[rattlefmt::skip]
@@ -52,9 +44,9 @@ fn place_reported(shapes: &[Shape], line: &[u8], at: usize) -> Sentences {
     let word = word_from(line, at);
     match shapes.get(index).copied() {
         Some(shape) if !word.is_empty() => word_reported(shape, word),
-        _ if at >= line.len() => Sentences::new("A word is missing at the end of the line.", "Write it after a space."),
-        _ if word.is_empty() => Sentences::new("One space stands between two words, and here is another one.", "Take it out."),
-        _ => Sentences::new("The line has a word too many.", "Leave it out."),
+        _ if at >= line.len() => ("A word is missing at the end of the line.", "Write it after a space."),
+        _ if word.is_empty() => ("One space stands between two words, and here is another one.", "Take it out."),
+        _ => ("The line has a word too many.", "Leave it out."),
     }
 }
 
@@ -62,18 +54,18 @@ fn place_reported(shapes: &[Shape], line: &[u8], at: usize) -> Sentences {
 #[rattlefmt::skip]
 fn first_reported(kind: LineKind, text: &[u8], number: usize, line: &[u8]) -> Sentences {
     if line.starts_with(b" ".as_slice()) {
-        return Sentences::new("A line begins with its first word, and a space stands before it.", "Take it out.");
+        return ("A line begins with its first word, and a space stands before it.", "Take it out.");
     }
     match kind {
-        LineKind::Header => Sentences::new("The first line says that it is a vector file, and its version.",
+        LineKind::Header => ("The first line says that it is a vector file, and its version.",
             "Write vector 1 or vector 2."),
-        LineKind::Protocol => Sentences::new("The protocol's line has to stand here, and another one does.",
+        LineKind::Protocol => ("The protocol's line has to stand here, and another one does.",
             "Put it above this one, for example: protocol Noise_XX_25519_ChaChaPoly_SHA256"),
-        LineKind::Prologue if line.ends_with(b":".as_slice()) => Sentences::new("The prologue's line has to stand here: the pattern of this name is a fundamental one, which no file spells.",
+        LineKind::Prologue if line.ends_with(b":".as_slice()) => ("The prologue's line has to stand here: the pattern of this name is a fundamental one, which no file spells.",
             "Leave the lines of the pattern and the line end out if they are those of this name, or write their own name."),
-        LineKind::Prologue => Sentences::new("The prologue's line has to stand here, and another one does.",
+        LineKind::Prologue => ("The prologue's line has to stand here, and another one does.",
             "Put it above this one. Without a prologue it is: prologue -"),
-        LineKind::Interval => Sentences::new("The interval's line has to stand here, and another one does.",
+        LineKind::Interval => ("The interval's line has to stand here, and another one does.",
             "Put it above this one. Where no key is rekeyed it is: interval 0"),
         LineKind::Keys => keys_reported(needed_role(text, number), first_word(line)),
         LineKind::Event => event_reported(text, number, line),
@@ -82,23 +74,23 @@ fn first_reported(kind: LineKind, text: &[u8], number: usize, line: &[u8]) -> Se
     }
 }
 
-const OTHER: Sentences = Sentences {
-    says: "Another line has to stand here.",
-    mends: "The lines and their order are those of the format.",
-};
+const OTHER: Sentences = (
+    "Another line has to stand here.",
+    "The lines and their order are those of the format.",
+);
 
 #[rattlefmt::skip]
 fn keys_reported(role: Role, first: &[u8]) -> Sentences {
     if first == b"answer".as_slice() {
-        return Sentences::new("DH results stand below a line of keys of the kind table alone, and above this one no such line stands.",
+        return ("DH results stand below a line of keys of the kind table alone, and above this one no such line stands.",
             "Write table in place of xor, or leave the DH results out.");
     }
     match role {
-        Role::Initiator if first == b"psk".as_slice() => Sentences::new("A psk's line has a key, and none stands here.",
+        Role::Initiator if first == b"psk".as_slice() => ("A psk's line has a key, and none stands here.",
             "Write it after a space."),
-        Role::Initiator => Sentences::new("The initiator's line has to stand here, and another one does.",
+        Role::Initiator => ("The initiator's line has to stand here, and another one does.",
             "Put it above this one, for example: initiator xor - -"),
-        Role::Responder => Sentences::new("The responder's line has to stand here, and another one does.",
+        Role::Responder => ("The responder's line has to stand here, and another one does.",
             "Put it above this one, for example: responder xor - -"),
     }
 }
@@ -110,24 +102,24 @@ fn event_reported(text: &[u8], number: usize, line: &[u8]) -> Sentences {
         return if is_first_version(text) { FIRST_VERSION } else { expect_reported(line) };
     }
     if first == b"psk".as_slice() {
-        return Sentences::new("An event has to stand here, and a line of this name stands above the events.", "Move it up.");
+        return ("An event has to stand here, and a line of this name stands above the events.", "Move it up.");
     }
     if UPPER.contains(&first) {
-        return Sentences::new("An event has to stand here, and a line of this name stands above the events.",
+        return ("An event has to stand here, and a line of this name stands above the events.",
             "Move it up, or leave it out.");
     }
     if is_after_datagrams(text, number) {
-        return Sentences::new("An event of datagrams has to stand here, and none has this name.",
+        return ("An event of datagrams has to stand here, and none has this name.",
             "The names are seal, open and foreign.");
     }
-    Sentences::new("An event has to stand here, and none has this name.",
+    ("An event has to stand here, and none has this name.",
         "The names are say, write, deliver and raw, and after the line of datagrams seal, open and foreign.")
 }
 
-const FIRST_VERSION: Sentences = Sentences {
-    says: "Version 1 has no datagrams and no expected output.",
-    mends: "Write vector 2 in the first line.",
-};
+const FIRST_VERSION: Sentences = (
+    "Version 1 has no datagrams and no expected output.",
+    "Write vector 2 in the first line.",
+);
 
 // The first words of the lines above the events.
 #[rattlefmt::skip]
@@ -140,10 +132,10 @@ fn expect_reported(line: &[u8]) -> Sentences {
         return EXPECT_EMPTY;
     }
     if line.starts_with(b"expect ".as_slice()) {
-        return Sentences::new("LINE has bytes from 32 (a space) to 126 (~) alone, and another one stands in this.",
+        return ("LINE has bytes from 32 (a space) to 126 (~) alone, and another one stands in this.",
             "Take it out: no line of output has it.");
     }
-    Sentences::new("After the first line of expected output only such lines stand, and this is none.",
+    ("After the first line of expected output only such lines stand, and this is none.",
         "Move it above them, or leave it out.")
 }
 
@@ -151,15 +143,15 @@ fn expect_reported(line: &[u8]) -> Sentences {
 #[rattlefmt::skip]
 fn whole_reported(kind: LineKind, text: &[u8], number: usize, line: &[u8]) -> Sentences {
     match kind {
-        LineKind::Psk => Sentences::new("A file has at most 9 psk lines, and this is one more.",
+        LineKind::Psk => ("A file has at most 9 psk lines, and this is one more.",
             "Write one psk line for each psk token, in the order of the tokens."),
         LineKind::Keys => match needed_role(text, number) {
-            Role::Initiator => Sentences::new("The initiator's line has to stand here, and this is the responder's.",
+            Role::Initiator => ("The initiator's line has to stand here, and this is the responder's.",
                 "Put the initiator's above this one, for example: initiator xor - -"),
-            Role::Responder => Sentences::new("The responder's line has to stand here, and this is the initiator's.",
+            Role::Responder => ("The responder's line has to stand here, and this is the initiator's.",
                 "Put the responder's here, for example: responder xor - -"),
         },
-        LineKind::Answer => Sentences::new("A table has at most 8 DH results, and this is one more.", "Leave it out."),
+        LineKind::Answer => ("A table has at most 8 DH results, and this is one more.", "Leave it out."),
         LineKind::Event => whole_event_reported(text, number, line),
         _ => OTHER,
     }
@@ -170,23 +162,21 @@ fn whole_reported(kind: LineKind, text: &[u8], number: usize, line: &[u8]) -> Se
 fn whole_event_reported(text: &[u8], number: usize, line: &[u8]) -> Sentences {
     let first = first_word(line);
     let is_datagrams = first == b"datagrams".as_slice();
-    let is_of_datagrams = is_datagram_event(first);
+    let is_of_datagrams = DATAGRAM_EVENTS.contains(&first);
     let is_after = is_after_datagrams(text, number);
     if (is_datagrams || is_of_datagrams) && is_first_version(text) {
         FIRST_VERSION
     } else if is_datagrams {
-        Sentences::new("The line of datagrams stands once, and this is another one.", "Leave it out.")
+        ("The line of datagrams stands once, and this is another one.", "Leave it out.")
     } else if is_of_datagrams && !is_after {
-        Sentences::new("An event of datagrams stands below the line of datagrams, and above this one no such line stands.",
+        ("An event of datagrams stands below the line of datagrams, and above this one no such line stands.",
             "Put it above this one, for example: datagrams 64")
     } else if is_after && !is_of_datagrams {
-        Sentences::new("Below the line of datagrams only seal, open and foreign stand, and this is another event.",
+        ("Below the line of datagrams only seal, open and foreign stand, and this is another event.",
             "Move it above that line, or leave it out.")
     } else {
         OTHER
     }
 }
 
-fn is_datagram_event(first: &[u8]) -> bool {
-    first == b"seal".as_slice() || first == b"open".as_slice() || first == b"foreign".as_slice()
-}
+const DATAGRAM_EVENTS: [&[u8]; 3] = [b"seal", b"open", b"foreign"];

@@ -9,7 +9,7 @@ use crate::rule_place::tokens_at;
 use noise_names::{Pattern, Role, Token};
 
 /// How many psks are mixed in.
-#[derive(Clone, Copy, Debug, PartialEq, Eq)]
+#[derive(Clone, Copy)]
 pub(crate) enum Psks {
     None,
     One,
@@ -17,7 +17,7 @@ pub(crate) enum Psks {
 }
 
 /// Which DHs are mixed in, and how many psks.
-#[derive(Clone, Copy, Debug, PartialEq, Eq)]
+#[derive(Clone, Copy)]
 pub(crate) struct Mixed {
     pub ee: bool,
     pub es: bool,
@@ -27,7 +27,7 @@ pub(crate) struct Mixed {
 }
 
 /// Some of the four private keys of a handshake.
-#[derive(Clone, Copy, Debug, PartialEq, Eq)]
+#[derive(Clone, Copy)]
 pub(crate) struct Keys {
     pub initiator_e: bool,
     pub initiator_s: bool,

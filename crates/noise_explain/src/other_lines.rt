@@ -62,7 +62,7 @@ fn push_line(
     said.extend_from_slice(b"  Line ".as_slice())?;
     push_number(alloc, number, said)?;
     said.extend_from_slice(b": ".as_slice())?;
-    said.extend_from_slice(advice.says().as_bytes())?;
+    said.extend_from_slice(advice.sentences().0.as_bytes())?;
     said.push(b'\n')?;
     Ok(())
 }

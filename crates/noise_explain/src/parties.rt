@@ -9,6 +9,7 @@ ghost use Rattle.noise_explain.specs.Parties.{chooses, has_sent, has_token, is_f
 
 use crate::mixed::{Keys, Mixed};
 use crate::rule_place::tokens_at;
+use crate::values::is_role;
 use noise_names::{Pattern, Role, Token};
 
 // Who sends the message after so many.
@@ -19,16 +20,6 @@ fn sender_after(passed: usize) -> Role
         Role::Initiator
     } else {
         Role::Responder
-    }
-}
-
-fn is_same(first: Role, second: Role) -> bool
-    ensures { result ≡ same_role first second }
-{
-    match (first, second) {
-        (Role::Initiator, Role::Initiator) => true,
-        (Role::Responder, Role::Responder) => true,
-        _ => false,
     }
 }
 
@@ -43,7 +34,7 @@ fn has_key_after(pattern: &Pattern, key: Token, passed: usize) -> bool
 fn sends_after(pattern: &Pattern, party: Role, key: Token, passed: usize) -> bool
     ensures { result ≡ (same_role (sender_after passed) party && has_token key (tokens_after pattern.now passed)) }
 {
-    is_same(sender_after(passed), party) && has_key_after(pattern, key, passed)
+    is_role(sender_after(passed), party) && has_key_after(pattern, key, passed)
 }
 
 // Whether a party sends this key in one of the first messages.
@@ -91,7 +82,7 @@ fn sends_in_front(pattern: &Pattern, party: Role, key: Token, passed: usize, cou
     ensures { result
         ≡ (same_role (sender_after passed) party && has_token key (take count (tokens_after pattern.now passed))) }
 {
-    is_same(sender_after(passed), party) && has_key_in_front(pattern, key, passed, count)
+    is_role(sender_after(passed), party) && has_key_in_front(pattern, key, passed, count)
 }
 
 // Whether this key is among the first tokens of the message after so many.
@@ -117,7 +108,7 @@ pub(crate) fn is_fresh(pattern: &Pattern, party: Role, passed: usize) -> bool
 }
 
 /// Which keys of its own are enough for somebody who takes the part of a party.
-#[derive(Clone, Copy, Debug, PartialEq, Eq)]
+#[derive(Clone, Copy)]
 pub(crate) enum Part {
     Neither,
     Ephemeral,

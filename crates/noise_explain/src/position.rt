@@ -5,7 +5,7 @@ ghost use Rattle.noise_names.specs.WrongText.{first_line};
 ghost use Rattle.noise_explain.specs.Positions.{after_line, from_line, line_at};
 
 /// A position in a text.
-#[derive(Clone, Copy, Debug, PartialEq, Eq)]
+#[derive(Clone, Copy)]
 pub struct Position {
     /// The line, counted from 1.
     pub line: usize,

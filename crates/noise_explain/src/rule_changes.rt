@@ -33,7 +33,11 @@ pub(crate) fn rule_candidates(
         Some(_) if broken.rule == 3 => tried.push_out(broken.spot)?,
         _ if broken.rule == 4 => {
             let (_, missing) = unfresh(pattern, fault);
-            tried.push_for_dh(broken.spot.message, missing)?;
+            let (first, second) = keys_of(missing);
+            let last = broken.spot.message;
+            tried.push_puts(last, &[missing])?;
+            tried.push_puts(last, &[first, missing])?;
+            tried.push_puts(last, &[second, missing])?;
         }
         _ => tried.push_puts(broken.spot.message, &[Token::E])?,
     }
@@ -69,28 +73,11 @@ impl<'a> Tried<'a> {
         self.push_out(place)
     }
 
-    // Rule 4. The DH that is missing is mixed, if need be after a key that is sent for it.
-    fn push_for_dh(&mut self, last: usize, missing: Token) -> Result<(), AllocError> {
-        let (first, second) = keys_of(missing);
-        self.push_puts(last, &[missing])?;
-        self.push_puts(last, &[first, missing])?;
-        self.push_puts(last, &[second, missing])
-    }
-
     // These tokens at each place of the first messages.
     fn push_puts(&mut self, last: usize, tokens: &[Token]) -> Result<(), AllocError> {
-        for message in 0..last.min(self.pattern.messages().len()) {
-            self.push_puts_in(message, tokens)?;
-        }
-        Ok(())
-    }
-
-    fn push_puts_in(&mut self, message: usize, tokens: &[Token]) -> Result<(), AllocError> {
-        let old = tokens_at(self.pattern.messages(), message);
-        for place in 0..old.len().saturating_add(1) {
-            let put = replaced(self.alloc, old, place, 0, tokens)?;
-            let change = self.written(message, &put)?;
-            self.push_one(change)?;
+        let messages = self.pattern.messages();
+        for message in 0..last.min(messages.len()) {
+            self.push_places(message, tokens_at(messages, message), message, tokens)?;
         }
         Ok(())
     }
@@ -104,18 +91,18 @@ impl<'a> Tried<'a> {
         };
         let left = replaced(self.alloc, old, from.token, 1, &[])?;
         for message in first..end.min(self.pattern.messages().len()) {
-            self.push_moves_to(at, &left, message, token)?;
+            self.push_places(at, &left, message, &[token])?;
         }
         Ok(())
     }
 
-    // The token, which was taken out of the first message, put at each place of the other one.
-    fn push_moves_to(
+    // Tokens put at each place of a message, where these are left of the first one, which may be the same.
+    fn push_places(
         &mut self,
         from: usize,
         left: &[Token],
         message: usize,
-        token: Token,
+        tokens: &[Token],
     ) -> Result<(), AllocError> {
         let old = if message == from {
             left
@@ -127,7 +114,7 @@ impl<'a> Tried<'a> {
             if message != from {
                 changes.push(self.written(from, left)?)?;
             }
-            let put = replaced(self.alloc, old, place, 0, &[token])?;
+            let put = replaced(self.alloc, old, place, 0, tokens)?;
             changes.push(self.written(message, &put)?)?;
             self.found.push(Correction { changes })?;
         }
@@ -144,7 +131,10 @@ impl<'a> Tried<'a> {
         } else {
             Change::Out(self.line_of(message))
         };
-        self.push_one(change)
+        let mut changes = Vec::new(self.alloc);
+        changes.push(change)?;
+        self.found.push(Correction { changes })?;
+        Ok(())
     }
 
     // A key of a party named above the messages.
@@ -182,13 +172,6 @@ impl<'a> Tried<'a> {
                 changes.push(Change::Write(number, body(self.alloc, owner, &[other])?))?;
             }
         }
-        self.found.push(Correction { changes })?;
-        Ok(())
-    }
-
-    fn push_one(&mut self, change: Change) -> Result<(), AllocError> {
-        let mut changes = Vec::new(self.alloc);
-        changes.push(change)?;
         self.found.push(Correction { changes })?;
         Ok(())
     }

@@ -2,7 +2,7 @@
 
 ghost use Rattle.std.specs.Prelude.{◌≡◌, ◌-◌, IfOk, string_bytes};
 ghost use Rattle.noise_explain.specs.MixedKeys.{mixed_before};
-ghost use Rattle.noise_explain.specs.RuleWords.{dh_again, dh_missing, fresh_missing, fresh_words, key_again, key_missing, missing_key, payload_place, place_words, rule_sender, rule_token, token_place, token_words, transport_place, unfresh};
+ghost use Rattle.noise_explain.specs.RuleWords.{fresh_words, key_again, key_missing, missing_key, place_words, rule_sender, rule_token, token_place, token_words, transport_place, unfresh};
 
 use crate::known::{Spot, keys_of, sender_of, token_at};
 use crate::mixed::mixed_by;
@@ -67,10 +67,12 @@ pub(crate) fn place_words(
 ) -> Result<String, AllocError>
     ensures { IfOk result (λ text. string_bytes text ≡ place_words pattern.now fault (rule_token pattern.now fault)) }
 {
+    let rule = fault.rule;
+    let message = fault.message;
     match token_of(pattern, fault) {
         Some(token) => token_place(alloc, fault, token),
         None if usize::from(fault.message) <= pattern.messages().len() => {
-            payload_place(alloc, fault)
+            Ok(format!(in alloc; "Rule {rule} is broken at the payload of message {message}.")?)
         }
         None => transport_place(alloc, fault, sender_at(pattern, fault)),
     }
@@ -83,14 +85,6 @@ fn token_place(alloc: Global, fault: RuleFault, token: Token) -> Result<String, 
     let message = fault.message;
     let word = token_word(token);
     format!(in alloc; "Rule {rule} is broken at message {message}, token {word}.")
-}
-
-fn payload_place(alloc: Global, fault: RuleFault) -> Result<String, AllocError>
-    ensures { IfOk result (λ text. string_bytes text ≡ payload_place fault) }
-{
-    let rule = fault.rule;
-    let message = fault.message;
-    format!(in alloc; "Rule {rule} is broken at the payload of message {message}.")
 }
 
 fn transport_place(alloc: Global, fault: RuleFault, role: Role) -> Result<String, AllocError>
@@ -116,20 +110,31 @@ pub(crate) fn fault_words(
         Some(token) if fault.rule == 2 => {
             key_again(alloc, pattern, sender_at(pattern, fault), token)
         }
-        Some(token) if fault.rule == 3 => dh_again(alloc, token),
+        Some(token) if fault.rule == 3 => {
+            let token = token_word(token);
+            Ok(format!(in alloc; "{token} is mixed in already, and adds nothing the second time.")?)
+        }
         _ => fresh_words(alloc, pattern, fault),
     }
 }
 
-// The same of rules 4 and 5, which need no token.
+// The same of rule 4, a DH of the sender's ephemeral key is missing, and of rule 5, a psk comes without such a key.
 fn fresh_words(alloc: Global, pattern: &Pattern, fault: RuleFault) -> Result<String, AllocError>
     ensures { IfOk result (λ text. string_bytes text ≡ fresh_words pattern.now fault) }
 {
-    let sender = sender_at(pattern, fault);
+    let sender = role_word(sender_at(pattern, fault));
     if fault.rule == 4 {
-        dh_missing(alloc, sender, unfresh(pattern, fault))
+        let (mixed, wanted) = unfresh(pattern, fault);
+        let after = token_word(mixed);
+        let missing = token_word(wanted);
+        format!(in alloc;
+            "The {sender} encrypts here, {after} is mixed in, and {missing} isn't: what it encrypts could depend on no \
+             fresh key of its own."
+        )
     } else {
-        fresh_missing(alloc, sender)
+        format!(in alloc;
+            "The {sender} encrypts here after psk, and has sent no e: the same key and nonce could come again."
+        )
     }
 }
 
@@ -178,28 +183,6 @@ fn key_again(alloc: Global, pattern: &Pattern, role: Role, key: Token) -> Result
     }
 }
 
-// Rule 3: a DH comes a second time.
-fn dh_again(alloc: Global, dh: Token) -> Result<String, AllocError>
-    ensures { IfOk result (λ text. string_bytes text ≡ dh_again dh) }
-{
-    let token = token_word(dh);
-    format!(in alloc; "{token} is mixed in already, and adds nothing the second time.")
-}
-
-// Rule 4: a DH of the sender's ephemeral key is missing.
-fn dh_missing(alloc: Global, role: Role, dhs: (Token, Token)) -> Result<String, AllocError>
-    ensures { IfOk result (λ text. string_bytes text ≡ dh_missing role dhs) }
-{
-    let (mixed, wanted) = dhs;
-    let sender = role_word(role);
-    let after = token_word(mixed);
-    let missing = token_word(wanted);
-    format!(in alloc;
-        "The {sender} encrypts here, {after} is mixed in, and {missing} isn't: what it encrypts could depend on no \
-         fresh key of its own."
-    )
-}
-
 // A DH of the sender's static key that is mixed, and the one of its ephemeral key that isn't.
 pub(crate) fn unfresh(pattern: &Pattern, fault: RuleFault) -> (Token, Token)
     ensures { result ≡ unfresh (rule_sender pattern.now fault)
@@ -223,14 +206,4 @@ pub(crate) fn unfresh(pattern: &Pattern, fault: RuleFault) -> (Token, Token)
             }
         }
     }
-}
-
-// Rule 5: a psk comes without an ephemeral key.
-fn fresh_missing(alloc: Global, role: Role) -> Result<String, AllocError>
-    ensures { IfOk result (λ text. string_bytes text ≡ fresh_missing role) }
-{
-    let sender = role_word(role);
-    format!(in alloc;
-        "The {sender} encrypts here after psk, and has sent no e: the same key and nonce could come again."
-    )
 }

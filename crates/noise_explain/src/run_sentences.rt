@@ -26,61 +26,53 @@ pub(crate) fn run_lines(
 }
 
 fn count_lines(alloc: Global, counts: &RunCounts) -> Result<Vec<u8>, AllocError> {
-    let (initiator, responder) = (counts.initiator, counts.responder);
+    let (one, other) = (counts.initiator, counts.responder);
     let mut text = Vec::new(alloc);
     push_sentence("what its events come to", &mut text)?;
-    let first = (initiator.wrote, initiator.accepted);
-    let second = (responder.wrote, responder.accepted);
-    push_counts(alloc, HANDSHAKE, first, second, &mut text)?;
-    let first = (initiator.sent, initiator.received);
-    let second = (responder.sent, responder.received);
-    push_counts(alloc, TRANSPORT, first, second, &mut text)?;
-    let refused = (initiator.dropped, responder.dropped);
-    push_refused(alloc, TRANSPORT, refused, &mut text)?;
+    let (first, second) = (
+        (one.wrote, one.accepted, 0),
+        (other.wrote, other.accepted, 0),
+    );
+    push_counts(
+        alloc,
+        ("handshake messages", "wrote"),
+        first,
+        second,
+        &mut text,
+    )?;
+    let first = (one.sent, one.received, one.dropped);
+    let second = (other.sent, other.received, other.dropped);
+    push_counts(
+        alloc,
+        ("transport messages", "wrote"),
+        first,
+        second,
+        &mut text,
+    )?;
     if counts.has_datagrams {
-        let first = (initiator.sealed, initiator.opened);
-        let second = (responder.sealed, responder.opened);
-        push_counts(alloc, DATAGRAMS, first, second, &mut text)?;
-        let refused = (initiator.rejected, responder.rejected);
-        push_refused(alloc, DATAGRAMS, refused, &mut text)?;
+        let first = (one.sealed, one.opened, one.rejected);
+        let second = (other.sealed, other.opened, other.rejected);
+        push_counts(alloc, ("datagrams", "sealed"), first, second, &mut text)?;
     }
     Ok(text)
 }
 
-// What is counted, and how a party makes one.
-type Kind = (&'static str, &'static str);
-
-const HANDSHAKE: Kind = ("handshake messages", "wrote");
-
-const TRANSPORT: Kind = ("transport messages", "wrote");
-
-const DATAGRAMS: Kind = ("datagrams", "sealed");
-
-// How many of these each party made and accepted.
+// How many of these each party made and accepted, and how many it refused, where any.
 fn push_counts(
     alloc: Global,
-    (what, verb): Kind,
-    (first, second): (usize, usize),
-    (third, fourth): (usize, usize),
+    (what, verb): (&str, &str),
+    (first, second, third): (usize, usize, usize),
+    (fourth, fifth, sixth): (usize, usize, usize),
     text: &mut Vec<u8>,
 ) -> Result<(), AllocError> {
     let line = format!(in alloc;
-        "{what}: the initiator {verb} {first} and accepted {second}, the responder {verb} {third} and accepted {fourth}"
+        "{what}: the initiator {verb} {first} and accepted {second}, the responder {verb} {fourth} and accepted {fifth}"
     )?;
-    push_fact(line.as_str(), text)
-}
-
-// How many of these each party refused, where any.
-fn push_refused(
-    alloc: Global,
-    (what, _): Kind,
-    (first, second): (usize, usize),
-    text: &mut Vec<u8>,
-) -> Result<(), AllocError> {
-    if first == 0 && second == 0 {
+    push_fact(line.as_str(), text)?;
+    if third == 0 && sixth == 0 {
         return Ok(());
     }
-    let line = format!(in alloc; "{what}: the initiator refused {first}, the responder {second}")?;
+    let line = format!(in alloc; "{what}: the initiator refused {third}, the responder {sixth}")?;
     push_fact(line.as_str(), text)
 }
 

@@ -10,7 +10,7 @@ use noise_vectors::{
 
 /// What a word has to be: its shape is told in `word_sentences`.
 #[rattlefmt::skip]
-#[derive(Clone, Copy, Debug, PartialEq, Eq)]
+#[derive(Clone, Copy)]
 pub(crate) enum Shape {
     // `First` is the first word of the line, by which the others are reported; the numbers are the greatest.
     First, Name, Version, Kind, Role, Own, Window, Hex(usize), Key, MaybeKey, Number(u64), Cuts,

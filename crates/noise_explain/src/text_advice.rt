@@ -25,7 +25,11 @@ pub fn fault_advice(text: &[u8], fault: TextFault, column: usize) -> Advice {
         TextFaultKind::PskPlace if fault.line == 1 => Advice::PskBeyond,
         TextFaultKind::PskPlace => Advice::PskTokens,
         TextFaultKind::NameTaken => Advice::NameTaken,
-        TextFaultKind::Limit => limit_advice(after_arrow(line)),
+        TextFaultKind::Limit => match own_count(after_arrow(line)) {
+            0 => Advice::PskAlone,
+            1..=8 => Advice::NinthMessage,
+            _ => Advice::ManyTokens,
+        },
         TextFaultKind::Ending if line.is_empty() => Advice::MessageMissing,
         TextFaultKind::Ending => Advice::LineFeedMissing,
     }
@@ -58,7 +62,7 @@ fn end_slip(last: Option<u8>) -> Option<Advice>
 
 // What is wrong with a first line, where the piece at its fault begins with these bytes.
 fn heading_advice(line: &[u8], piece: &[u8]) -> Advice {
-    if is_of_vectors(line) {
+    if VECTOR_LINES.iter().any(|front| line.starts_with(front)) {
         return Advice::VectorHeading;
     }
     let words = without_spaces(line);
@@ -74,25 +78,22 @@ fn heading_advice(line: &[u8], piece: &[u8]) -> Advice {
         _ if piece.starts_with(b"psk".as_slice()) => Advice::ColonMissing,
         Some(b'0'..=b'9') if line.len() == piece.len() => Advice::NameFirst,
         Some(b'A'..=b'Z') | Some(b'0'..=b'9') => Advice::NameLength,
-        _ if piece.len() < line.len() && is_modifier(piece) => Advice::Modifier,
+        _
+            if piece.len() < line.len()
+                && OTHER_MODIFIERS.iter().any(|front| piece.starts_with(front)) => {
+            Advice::Modifier
+        }
         Some(b'a'..=b'z') => Advice::NameCase,
         _ => Advice::Heading,
     }
 }
 
-// Whether the line is one of those that a vector file begins with, below the first.
-fn is_of_vectors(line: &[u8]) -> bool {
-    line.starts_with(b"protocol ".as_slice())
-        || line.starts_with(b"prologue ".as_slice())
-        || line.starts_with(b"interval ".as_slice())
-        || line.starts_with(b"initiator ".as_slice())
-        || line.starts_with(b"responder ".as_slice())
-}
+// What the lines begin with that a vector file has below its first.
+#[rattlefmt::skip]
+const VECTOR_LINES: [&[u8]; 5] = [b"protocol ", b"prologue ", b"interval ", b"initiator ", b"responder "];
 
-// Whether a modifier of the standard or of an extension, other than psk, is at the front.
-fn is_modifier(piece: &[u8]) -> bool {
-    piece.starts_with(b"fallback".as_slice()) || piece.starts_with(b"hfs".as_slice())
-}
+// The modifiers of the standard and of an extension other than psk.
+const OTHER_MODIFIERS: [&[u8]; 2] = [b"fallback", b"hfs"];
 
 // What is wrong with a line of no arrow.
 fn arrow_advice(line: &[u8]) -> Advice {
@@ -153,16 +154,7 @@ pub(crate) fn is_keys(line: &[u8]) -> bool {
     list == b"s".as_slice() || list == b"e, s".as_slice()
 }
 
-// Which limit a list of tokens is beyond: it has none but psk, or more than 8 others; or its message is the ninth.
-fn limit_advice(list: &[u8]) -> Advice {
-    match own_count(list) {
-        0 => Advice::PskAlone,
-        1..=8 => Advice::NinthMessage,
-        _ => Advice::ManyTokens,
-    }
-}
-
-// How many tokens of a list aren't psk.
+// How many tokens of a list aren't psk: a message has from 1 to 8, and a pattern at most 8 messages.
 fn own_count(list: &[u8]) -> usize {
     list.split(|b| *b == b' ')
         .filter(|word| !word.starts_with(b"psk".as_slice()))

@@ -120,8 +120,8 @@ fn push_changes(at: Wrong<'_>, by: Repair, changes: &mut Vec<Change>) -> Result<
     match by {
         Repair::LineFeed if at.text.last() != Some(&b'\n') => changes.push(Change::LineFeed)?,
         Repair::NoReturns if at.text.contains(&b'\r') => changes.push(Change::NoReturns)?,
-        Repair::Tidy => changes.push(tidied(at.alloc, number, at.line)?)?,
-        Repair::AllTidy => push_tidy(at.alloc, at.text, changes)?,
+        Repair::Tidy => push_tidy(at, number, 1, changes)?,
+        Repair::AllTidy => push_tidy(at, 1, 40, changes)?,
         Repair::Placed => changes.push(placed(at.alloc, at.text)?)?,
         Repair::Named => changes.push(named(at)?)?,
         Repair::HeadingAbove => changes.push(put(at, 1, b"MINE:")?)?,
@@ -136,7 +136,10 @@ fn push_changes(at: Wrong<'_>, by: Repair, changes: &mut Vec<Change>) -> Result<
             changes.push(put(at, number, b"  -> e")?)?;
         }
         Repair::Line(words) => push_line(at, words, changes)?,
-        Repair::LineAndPlaces(words) => push_placed(at, words, changes)?,
+        Repair::LineAndPlaces(words) => {
+            push_line(at, words, changes)?;
+            push_places_of(at, changes)?;
+        }
         _ => {}
     }
     Ok(())
@@ -146,26 +149,22 @@ fn put(at: Wrong<'_>, number: usize, line: &[u8]) -> Result<Change, AllocError> 
     Ok(Change::Put(number, Vec::from_slice(at.alloc, line)?))
 }
 
-// The line as the format has it, or left out where nothing stands in it.
-fn tidied(alloc: Global, number: usize, line: &[u8]) -> Result<Change, AllocError> {
-    let made = tidy_line(alloc, line, number == 1)?;
-    Ok(if made.is_empty() {
-        Change::Out(number)
-    } else {
-        Change::Write(number, made)
-    })
-}
-
-// Appends the changes of all lines that aren't as the format has them. A pattern has at most 12.
-fn push_tidy(alloc: Global, text: &[u8], changes: &mut Vec<Change>) -> Result<(), AllocError> {
-    let mut rest = text;
-    let mut number: usize = 1;
-    for _ in 0..40 {
+// Appends the changes of those of so many lines from this one on that aren't as the format has them. A pattern has at
+// most 12.
+fn push_tidy(
+    at: Wrong<'_>,
+    first: usize,
+    count: usize,
+    changes: &mut Vec<Change>,
+) -> Result<(), AllocError> {
+    let mut rest = from_line(at.text, first);
+    let mut number = first;
+    for _ in 0..count {
         if rest.is_empty() {
             return Ok(());
         }
         let line = line_at(rest, 1);
-        let made = tidy_line(alloc, line, number == 1)?;
+        let made = tidy_line(at.alloc, line, number == 1)?;
         rest = after_line(rest);
         if made.is_empty() {
             changes.push(Change::Out(number))?;
@@ -241,16 +240,12 @@ fn push_line(at: Wrong<'_>, by: Rewriting, changes: &mut Vec<Change>) -> Result<
     Ok(())
 }
 
-fn push_placed(at: Wrong<'_>, by: Rewriting, changes: &mut Vec<Change>) -> Result<(), AllocError> {
-    let mut first = Vec::new(at.alloc);
-    push_line(at, by, &mut first)?;
-    if first.is_empty() {
-        return Ok(());
+// Puts the heading with the places of the psks that the changes leave before them, where there are some.
+fn push_places_of(at: Wrong<'_>, changes: &mut Vec<Change>) -> Result<(), AllocError> {
+    if !changes.is_empty() {
+        let made = corrected(at.alloc, at.text, changes)?;
+        changes.insert(0, placed(at.alloc, &made)?)?;
     }
-    let made = corrected(at.alloc, at.text, &first)?;
-    let line = Vec::from_slice(at.alloc, line_at(&made, at.number))?;
-    changes.push(placed(at.alloc, &made)?)?;
-    changes.push(Change::Write(at.number, line))?;
     Ok(())
 }
 
@@ -258,9 +253,11 @@ fn push_placed(at: Wrong<'_>, by: Rewriting, changes: &mut Vec<Change>) -> Resul
 fn rewritten(at: Wrong<'_>, by: Rewriting) -> Result<Option<Vec<u8>>, AllocError> {
     let alloc = at.alloc;
     let (arrow, list) = at.line.split_at(at.line.len().min(5));
+    let is_right = arrow == b"  -> ".as_slice();
+    let other: &[u8] = if is_right { b"  <- " } else { b"  -> " };
     let made = match by {
         Rewriting::Tidy => tidy_line(alloc, at.line, false)?,
-        Rewriting::ArrowTurned => turned(alloc, at.line)?,
+        Rewriting::ArrowTurned => joined(alloc, &[other, list])?,
         Rewriting::WithE => joined(alloc, &[at.line, b", e"])?,
         Rewriting::AfterE => joined(alloc, &[arrow, b"e, ", list])?,
         Rewriting::OnceEach => once_each(alloc, arrow, list)?,
@@ -268,16 +265,6 @@ fn rewritten(at: Wrong<'_>, by: Rewriting) -> Result<Option<Vec<u8>>, AllocError
         Rewriting::PieceLeftOut => return piece_left_out(at),
     };
     Ok(Some(made))
-}
-
-fn turned(alloc: Global, line: &[u8]) -> Result<Vec<u8>, AllocError> {
-    let (arrow, list) = line.split_at(line.len().min(4));
-    let other: &[u8] = if arrow == b"  ->".as_slice() {
-        b"  <-"
-    } else {
-        b"  ->"
-    };
-    joined(alloc, &[other, list])
 }
 
 // The words of a list, each without the space that stands before it.

@@ -60,9 +60,8 @@ pub(crate) fn joined(alloc: Global, pieces: &[&[u8]]) -> Result<Vec<u8>, AllocEr
 // The arrow that is meant at the front, and what follows it.
 fn after_arrow(words: &[u8]) -> Option<(&'static [u8], &[u8])> {
     for (written, meant) in &ARROWS {
-        if words.starts_with(written) {
-            let (_, list) = words.split_at(written.len().min(words.len()));
-            return Some((meant, list));
+        if let Some(list) = words.strip_prefix(*written) {
+            return Some((*meant, list));
         }
     }
     None
@@ -96,8 +95,7 @@ fn listed(alloc: Global, arrow: &[u8], list: &[u8]) -> Result<Vec<u8>, AllocErro
 
 // The heading that is meant by these words: a name in upper case, and the psk modifiers in order.
 fn heading(alloc: Global, words: &[u8]) -> Result<Vec<u8>, AllocError> {
-    let name = name_len(words);
-    let (front, rest) = words.split_at(name.min(words.len()));
+    let (front, rest) = words.split_at(name_len(words).min(words.len()));
     let mut line = Vec::new(alloc);
     push_name(front, &mut line)?;
     push_modifiers(rest, &mut line)?;
@@ -127,58 +125,32 @@ fn push_name(words: &[u8], line: &mut Vec<u8>) -> Result<(), AllocError> {
 
 // How many letters and digits stand at the front, before a psk modifier.
 fn name_len(words: &[u8]) -> usize {
-    for len in 0..words.len() {
-        let (_, rest) = words.split_at(len.min(words.len()));
-        let is_in_name = match rest.first() {
-            Some(byte) => byte.is_ascii_alphanumeric(),
-            None => false,
-        };
-        if !is_in_name || rest.starts_with(b"psk".as_slice()) {
-            return len;
-        }
+    let len = words
+        .iter()
+        .take_while(|b| b.is_ascii_alphanumeric())
+        .count();
+    match words.windows(3).position(|word| word == b"psk".as_slice()) {
+        Some(at) => len.min(at),
+        None => len,
     }
-    words.len()
 }
 
 // Appends the psk modifiers that stand somewhere in a text, in rising order.
 pub(crate) fn push_modifiers(text: &[u8], line: &mut Vec<u8>) -> Result<(), AllocError> {
-    let mut has = false;
+    let mut front: &[u8] = b"psk";
     for digit in b'0'..b'9' {
-        if has_modifier(text, digit) {
-            line.extend_from_slice(if has {
-                b"+psk".as_slice()
-            } else {
-                b"psk".as_slice()
-            })?;
+        let modifier = [b'p', b's', b'k', digit];
+        if text.windows(4).any(|word| word == modifier.as_slice()) {
+            line.extend_from_slice(front)?;
             line.push(digit)?;
-            has = true;
+            front = b"+psk";
         }
     }
     Ok(())
 }
 
-// Whether psk with this digit stands somewhere in a text.
-fn has_modifier(text: &[u8], digit: u8) -> bool {
-    for at in 0..text.len() {
-        let (_, rest) = text.split_at(at.min(text.len()));
-        if rest.starts_with(b"psk".as_slice()) && rest.get(3).copied() == Some(digit) {
-            return true;
-        }
-    }
-    false
-}
-
 // Whether psk stands somewhere in a line, in small letters or not.
 pub(crate) fn has_psk(line: &[u8]) -> bool {
-    for at in 0..line.len() {
-        let (_, rest) = line.split_at(at.min(line.len()));
-        if let [p, s, k, ..] = rest
-            && p.to_ascii_lowercase() == b'p'
-            && s.to_ascii_lowercase() == b's'
-            && k.to_ascii_lowercase() == b'k'
-        {
-            return true;
-        }
-    }
-    false
+    line.windows(3)
+        .any(|word| word.eq_ignore_ascii_case(b"psk"))
 }

@@ -61,7 +61,7 @@ pub(crate) fn is_same(place: Place, other: Place) -> bool
     }
 }
 
-fn is_role(role: Role, other: Role) -> bool
+pub(crate) fn is_role(role: Role, other: Role) -> bool
     ensures { result ≡ same_role role other }
 {
     role == other

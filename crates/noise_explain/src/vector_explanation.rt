@@ -6,7 +6,7 @@ ghost use Rattle.noise_explain.specs.VectorExplained.{IsPatternIn, LacksPattern,
 
 use crate::block_changes::block_change_lines;
 use crate::block_sentences::{block_reported, ending_reported};
-use crate::excerpt::{caret_lines, push_sentence, unread_head, wrong_head};
+use crate::excerpt::{caret_lines, push_sentence, push_sentences, unread_head, wrong_head};
 use crate::expected_forms::expected_form;
 use crate::explanation::{Explained, rule_lines};
 use crate::facts::fact_lines;
@@ -15,7 +15,6 @@ use crate::line_sentences::line_reported;
 use crate::position::{Position, line_at};
 use crate::run_counts::RunCounts;
 use crate::run_sentences::run_lines;
-use crate::sentences::Sentences;
 use crate::setup_sentences::setup_lines;
 use noise_lines::{Fault, named_pattern, push_shown};
 use noise_names::{Pattern, ProtocolName};
@@ -79,18 +78,13 @@ fn line_lines(
         let expected = format!(in alloc; "expected: {form}")?;
         push_sentence(expected.as_str(), &mut lines)?;
     }
-    let said = match kind {
+    let (says, mends) = match kind {
         LineKind::Pattern => block_reported(text, position.line, position.column),
         LineKind::Ending => ending_reported(text, position.line, line),
         _ => line_reported(kind, text, position.line, line),
     };
-    push_reported(said, &mut lines)?;
+    push_sentences(&[says, mends], &mut lines)?;
     Ok(lines)
-}
-
-fn push_reported(said: Sentences, lines: &mut Vec<u8>) -> Result<(), AllocError> {
-    push_sentence(said.says, lines)?;
-    push_sentence(said.mends, lines)
 }
 
 /// Explains why the two parties of a vector file can't be made. `pattern` is the file's, where it has one.
@@ -123,23 +117,19 @@ fn start_lines(
             Ok(lines)
         }
         (Fault::Setup(role, why), _) => setup_lines(alloc, role, why),
-        (Fault::Place(_), _) => place_lines(alloc),
+        (Fault::Place(_), _) => {
+            let mut lines = Vec::new(alloc);
+            push_sentences(&NO_PLACE, &mut lines)?;
+            Ok(lines)
+        }
         _ => Ok(Vec::new(alloc)),
     }
 }
 
-fn place_lines(alloc: Global) -> Result<Vec<u8>, AllocError> {
-    let mut lines = Vec::new(alloc);
-    push_sentence(
-        "The protocol's name has this index of a psk, and the pattern has fewer messages.",
-        &mut lines,
-    )?;
-    push_sentence(
-        "Write another one: psk0 is before message 1, pskN at the end of message N.",
-        &mut lines,
-    )?;
-    Ok(lines)
-}
+const NO_PLACE: [&str; 2] = [
+    "The protocol's name has this index of a psk, and the pattern has fewer messages.",
+    "Write another one: psk0 is before message 1, pskN at the end of message N.",
+];
 
 /// The pattern of a vector file: the one that it spells, or else that of its protocol's name, if there is one.
 pub fn pattern_in(

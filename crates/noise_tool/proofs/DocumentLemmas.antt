@@ -1,19 +1,20 @@
--- What is on the outputs after a document.
-use Rattle.std.proofs.Common.{rules, ◌≡◌, ◌∙◌, refl, sym, ap, subst, ◌⊎◌, inl, inr, arith, ◌≤◌, ◌<◌, ℕ, Bool, true, List, [], ◌∷◌, ◌++◌, Option, Some, None, Result, Ok, Err, String, drop, length, map, string_bytes, take}
-use Rattle.std.specs.Prelude.{IfErr, IfOk, IsTrue}
-use Rattle.noise_tool.proofs.Common.{Appends, AppendsPrefix, Contains, Contains-append_right, Fault, Global, IfSome, IsExplainedAt, IsReportedOf, IsUnreadName, LeavesOutput, Said, error_text, fold-append, map_push, status_of, worse, EndsTest}
+-- What a document says.
+use Rattle.std.proofs.Common.{◌≡◌, inl, inr, Bool, subst, ℕ, List, Option, Some, None, Result, Ok, Err}
+use Rattle.std.specs.Prelude.{IfOk}
+use Rattle.noise_tool.proofs.Common.{EndsTest, Fault, IfSome}
+use Rattle.noise_tool.specs.Answers.{AnswerValue, TellsFault}
+use Rattle.noise_tool.specs.ComparedDocuments.{IsDocumentAnswer}
+use Rattle.noise_words.specs.declared.orders.Documented.{Documented}
+use Rattle.noise_words.specs.declared.orders.Documented.TheVariants as documented
 use Rattle.noise_compare.specs.Findings.{IsReport}
 use Rattle.noise_compare.specs.declared.comparison.Finding.{Finding}
 use Rattle.noise_compare.specs.declared.comparison.Finding.TheVariants.{Agrees, Ends, Differs}
-use Rattle.noise_compare.specs.declared.comparison.LogReport.{LogReport}
 use Rattle.noise_compare.specs.declared.facts.Facts.{Facts}
 use Rattle.noise_compare.specs.declared.line.Line.{Line}
 use Rattle.noise_documents.specs.Comparison.{IsFindingOf}
-use Rattle.noise_json.specs.declared.object.Object.{Object}
-use Rattle.noise_tool.specs.Comparing.{Compares, HasFacts, IfFacts, IfMade, IsUncompared, StopsComparing, finding_status, uncompared_line}
+use Rattle.noise_tool.specs.Comparing.{HasFacts, IfFacts}
 use Rattle.noise_tool.specs.declared.comparison.Comparison.{Comparison}
 use Rattle.noise_tool.specs.declared.comparison.Comparison.TheVariants.{Made, Unread, Wrong}
-use Rattle.noise_words.specs.declared.orders.Compared.{Compared}
 
 -- what was found is so
 pub finding-of : (facts : Facts) (right log : List Line) (finding : Finding) (text : List ℕ) → IsReport facts right log finding text
@@ -35,11 +36,7 @@ facts-known (Ok (Made report facts)) Runs (Some bytes) None text read runs made 
 facts-known (Ok (Made report facts)) Runs (Some bytes) (Some f) text read runs made =
     subst (λ (l : List ℕ). HasFacts l f report facts) read (made f runs)
 
--- a write was refused or memory ran out
-pub stops-comparing : (names : Compared) (unreadable : List ℕ → Bool) (old new : Option (List ℕ))
-    → (fault : Fault) × EndsTest fault × AppendsPrefix old new (error_text fault) → StopsComparing names unreadable old new
-stops-comparing names unreadable old new why = record {
-  text = error_text why.0;
-  why = inl (why.0, why.1, refl);
-  grown = why.2;
-}
+-- a fault that ends a command that writes a document
+pub tells-document : (asked : Documented) (bytes_at : List ℕ → Option (List ℕ)) (unreadable : List ℕ → Bool) (told : AnswerValue)
+    → TellsFault EndsTest told → IsDocumentAnswer asked bytes_at unreadable told
+tells-document (documented.Compare names) bytes_at unreadable told tells = inr (inl tells)

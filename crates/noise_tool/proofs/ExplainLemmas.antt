@@ -1,11 +1,13 @@
 -- What is said of files that are explained.
-use Rattle.std.proofs.Common.{rules, ◌≡◌, ◌∙◌, refl, sym, ap, subst, ◌⊎◌, inl, inr, arith, ◌≤◌, if◌then◌else◌, ℕ, Bool, true, false, nat_le, List, [], ◌∷◌, ◌++◌, Option, Some, None, String, drop, length, string_bytes, take, append_assoc}
+use Rattle.std.proofs.Common.{rules, ◌≡◌, ◌∙◌, refl, sym, ap, subst, inl, inr, arith, ◌≤◌, ◌<◌, ◌+◌, if◌then◌else◌, ℕ, Bool, true, false, nat_le, List, [], ◌∷◌, ◌++◌, Option, Some, None, String, drop, get_or, length, string_bytes, take}
 use Rattle.std.specs.Prelude.{IfNone, IfOk, IsTrue, Result, Ok, Err, map}
-use Rattle.noise_tool.proofs.Common.{Global, Appends, Keeps, Appends-trans, flat_map_more, map-append, map_push, take_all, take-append-drop, Contains, All-push, Contains-append_right, fold-append, status_of, AppendsPrefix, IsReportedOf, LeavesOutput, error_text, Fault, AreSaid, ExplainsPrefix, HasExplained, IsExplainedAt, IsUnreadName, Said, StopsExplaining, said_text, worse, EndsTest}
+use Rattle.noise_tool.proofs.Common.{Global, flat_map_more, map_push, take_all, All-push, fold-append, Fault, AreSaid, IsExplainedAt, IsUnreadName, Said, said_text, worse, worst_of}
 use Rattle.noise_explain.specs.declared.explanation.Explained.{Explained}
 use Rattle.noise_explain.specs.Shown.{unread_head}
 use Rattle.noise_tool.specs.PatternNames.{NamesText}
-use Rattle.noise_tool.proofs.TestingLemmas.{after-prefix, kept-appends, reported-ends, reported-left, whole-prefix}
+use Rattle.noise_tool.specs.Answers.{AnswerValue}
+use Rattle.noise_tool.specs.Explaining.{IsExplainAnswer}
+use Rattle.noise_tool.proofs.TestingLemmas.{name-more, names-at}
 use Rattle.noise_lines.specs.declared.faults.Fault.TheVariants as fault
 
 -- it is said of one file more
@@ -22,109 +24,66 @@ text-of : (said : List Said) (name : List ℕ) (x : Explained)
     → said_text said ++ x.text.items ≡ said_text (said ++ record { name = name; explained = x } ∷ [])
 text-of said name x = flat_map_more (λ (s : Said). s.explained.text.items) [] said (record { name = name; explained = x })
 
-pub said-more : (fixes : Bool) (bytes_at : List ℕ → Option (List ℕ)) (unreadable : List ℕ → Bool) (names all : List (List ℕ)) (name : List ℕ) (a m e : Option (List ℕ)) (status next : ℕ) (x : Explained)
-    (text : List ℕ) → all ≡ names ++ name ∷ [] → HasExplained fixes bytes_at unreadable names a m status → IsExplainedAt fixes bytes_at unreadable name x → text ≡ x.text.items
-    → Appends m e text → next ≡ worse status x.status → HasExplained fixes bytes_at unreadable all a e next
-said-more fixes bytes_at unreadable names all name a m e status next x text all_is before right text_is written next_is =
-    let this : Said = record { name = name; explained = x } in
-    let printed : Appends a e (said_text before.said ++ text) = Appends-trans a m e (said_text before.said) text before.printed written in
-    subst (λ (ns : List (List ℕ)). HasExplained fixes bytes_at unreadable ns a e next) (sym all_is) (record {
-      said = before.said ++ this ∷ [];
-      are = said-of fixes bytes_at unreadable names name before.said x before.are right;
-      printed = subst (λ (t : List ℕ). Appends a e t) (ap (λ (t : List ℕ). said_text before.said ++ t) text_is ∙ text-of before.said name x) printed;
-      status_is = search (rules, fold-append);
-    })
+-- this is said of the files of these names so far
+pub record HasSaid (fixes : Bool) (bytes_at : List ℕ → Option (List ℕ)) (unreadable : List ℕ → Bool) (names : List (List ℕ)) (text : List ℕ)
+    (status : ℕ) : Type 0 where
+  pub said : List Said
+  pub are : AreSaid fixes bytes_at unreadable names said
+  pub few : status ≤ 2
+  pub text_is : text ≡ said_text said
+  pub status_is : status ≡ worst_of said
 
-pub said-kept : (fixes : Bool) (bytes_at : List ℕ → Option (List ℕ)) (unreadable : List ℕ → Bool) (names : List (List ℕ)) (a m e : Option (List ℕ)) (status : ℕ) → HasExplained fixes bytes_at unreadable names a m status
-    → Keeps m e → HasExplained fixes bytes_at unreadable names a e status
-said-kept fixes bytes_at unreadable names a m e status before kept = search kept-appends
-
--- all names are passed
-pub all-kept : (fixes : Bool) (bytes_at : List ℕ → Option (List ℕ)) (unreadable : List ℕ → Bool) (names : List (String Global)) (i : ℕ) (a m e : Option (List ℕ)) (status : ℕ) → length names ≤ i
-    → HasExplained fixes bytes_at unreadable (map string_bytes (take i names)) a m status → Keeps m e → HasExplained fixes bytes_at unreadable (map string_bytes names) a e status
-all-kept fixes bytes_at unreadable names i a m e status past before kept = search (rules, take_all)
-
-pub worse-few : (first second worst : ℕ) → first ≤ 2 → second ≤ 2 → worst ≡ worse first second → worst ≤ 2
+worse-few : (first second worst : ℕ) → first ≤ 2 → second ≤ 2 → worst ≡ worse first second → worst ≤ 2
 worse-few first second worst few few' is = at (nat_le first second) refl where
   at : (b : Bool) → nat_le first second ≡ b → worst ≤ 2
   at true e = let w : worst ≡ second = is ∙ ap (λ (b : Bool). if b then second else first) e in omega (arith, w, few')
   at false e = let w : worst ≡ first = is ∙ ap (λ (b : Bool). if b then second else first) e in omega (arith, w, few)
 
--- ---- a prefix of what is said
-
-said-begun : (fixes : Bool) (bytes_at : List ℕ → Option (List ℕ)) (unreadable : List ℕ → Bool) (names others all : List (List ℕ)) (a e : Option (List ℕ)) (status : ℕ) → names ++ others ≡ all
-    → HasExplained fixes bytes_at unreadable names a e status → ExplainsPrefix fixes bytes_at unreadable all a e
-said-begun fixes bytes_at unreadable names others all a e status is before = search whole-prefix
-
--- what is said of the next file has begun
-pub next-begun : (fixes : Bool) (bytes_at : List ℕ → Option (List ℕ)) (unreadable : List ℕ → Bool) (names others all : List (List ℕ)) (name : List ℕ) (a m e : Option (List ℕ)) (status : ℕ) (x : Explained)
-    (text : List ℕ) → names ++ name ∷ others ≡ all → HasExplained fixes bytes_at unreadable names a m status → IsExplainedAt fixes bytes_at unreadable name x → text ≡ x.text.items
-    → AppendsPrefix m e text → ExplainsPrefix fixes bytes_at unreadable all a e
-next-begun fixes bytes_at unreadable names others all name a m e status x text is before right text_is grown =
+pub said-more : (fixes : Bool) (bytes_at : List ℕ → Option (List ℕ)) (unreadable : List ℕ → Bool) (names all : List (List ℕ)) (name text more : List ℕ)
+    (status next : ℕ) (x : Explained) → all ≡ names ++ name ∷ [] → HasSaid fixes bytes_at unreadable names text status
+    → IsExplainedAt fixes bytes_at unreadable name x → x.status ≤ 2 → more ≡ text ++ x.text.items → next ≡ worse status x.status
+    → HasSaid fixes bytes_at unreadable all more next
+said-more fixes bytes_at unreadable names all name text more status next x all_is before right few more_is next_is =
     let this : Said = record { name = name; explained = x } in
-    record {
-      first = names ++ name ∷ [];
-      others = others;
-      names_are = append_assoc names (name ∷ []) others ∙ is;
+    subst (λ (ns : List (List ℕ)). HasSaid fixes bytes_at unreadable ns more next) (sym all_is) (record {
       said = before.said ++ this ∷ [];
       are = said-of fixes bytes_at unreadable names name before.said x before.are right;
-      grown = search (rules, text-of, after-prefix);
-    }
-
--- what is said of the files before one of them
-pub begun-at : (fixes : Bool) (bytes_at : List ℕ → Option (List ℕ)) (unreadable : List ℕ → Bool) (names : List (String Global)) (i : ℕ) (a e : Option (List ℕ)) (status : ℕ)
-    → HasExplained fixes bytes_at unreadable (map string_bytes (take i names)) a e status → ExplainsPrefix fixes bytes_at unreadable (map string_bytes names) a e
-begun-at fixes bytes_at unreadable names i a e status before =
-    said-begun fixes bytes_at unreadable (map string_bytes (take i names)) (map string_bytes (drop i names)) (map string_bytes names) a e status
-    (sym (map-append string_bytes (take i names) (drop i names)) ∙ ap (map string_bytes) (take-append-drop i names)) before
-
--- ---- what is reported where the command ends
-
-pub left-at-three : {O : Type 0} (contents : O → Option (List ℕ)) (why : Fault) (middle new : O) → status_of why ≡ 3 → LeavesOutput contents why middle new
-    → new ≡ middle
-left-at-three contents (fault.Rule f) middle new three h = absurd (cc three)
-left-at-three contents _ middle new three h = h
-
--- memory ran out or a write was refused
-pub stops-at : {E : Type 0} (contents : E → Option (List ℕ)) (unreadable : List ℕ → Bool) (names : List (List ℕ)) (why : Fault) (result : ℕ) (old middle new : E)
-    → EndsTest why → middle ≡ old
-    → (reported : Fault) × IsReportedOf why reported × (status_of reported ≡ result) × AppendsPrefix (contents middle) (contents new) (error_text reported)
-    → StopsExplaining unreadable names (contents old) (contents new)
-stops-at {E = E} contents unreadable names why result old middle new ends same reported =
-    let found = reported-ends why result (contents middle) (contents new) ends reported in
-    record {
-      text = error_text found.0;
-      why = inl (found.0, found.1, refl);
-      grown = subst (λ (e : E). AppendsPrefix (contents e) (contents new) (error_text found.0)) same found.2;
-    }
+      few = worse-few status x.status next before.few few next_is;
+      text_is = more_is ∙ ap (λ (t : List ℕ). t ++ x.text.items) before.text_is ∙ text-of before.said name x;
+      status_is = search (rules, fold-append);
+    })
 
 -- a file of these can't be read
-pub stops-in : {E : Type 0} (contents : E → Option (List ℕ)) (unreadable : List ℕ → Bool) (names others all : List (List ℕ)) (name : List ℕ) (old middle new : E)
-    → names ++ name ∷ others ≡ all → IsUnreadName unreadable name → middle ≡ old
-    → AppendsPrefix (contents middle) (contents new) (unread_head name fault.Unreadable)
-    → StopsExplaining unreadable all (contents old) (contents new)
-stops-in {E = E} contents unreadable names others all name old middle new is bad same grown =
-    let here : Contains (names ++ name ∷ others) name = Contains-append_right names (name ∷ others) name (0, omega arith, refl) in
-    record {
-      text = unread_head name fault.Unreadable;
-      why = inr (name, subst (λ (ns : List (List ℕ)). Contains ns name) is here, bad, refl);
-      grown = subst (λ (e : E). AppendsPrefix (contents e) (contents new) (unread_head name fault.Unreadable)) same grown;
-    }
+pub explains-first : (fixes : Bool) (bytes_at : List ℕ → Option (List ℕ)) (unreadable : List ℕ → Bool) (names : List (String Global)) (i : ℕ) (item : String Global)
+    (name text : List ℕ) (status : ℕ) (told : AnswerValue) → i < length names → item ≡ get_or names i item → name ≡ string_bytes item
+    → HasSaid fixes bytes_at unreadable (map string_bytes (take i names)) text status → IsUnreadName unreadable name → told.out ≡ text
+    → told.err ≡ unread_head name fault.Unreadable → told.status ≡ 3 → IsExplainAnswer fixes bytes_at unreadable (map string_bytes names) told
+explains-first fixes bytes_at unreadable names i item name text status told less is name_is before bad out err three = inr (inl (record {
+  first = map string_bytes (take i names);
+  name = name;
+  others = map string_bytes (drop (i + 1) names);
+  names_are = names-at names i name (name-more names i item name less is name_is);
+  said = before.said;
+  are = before.are;
+  unread = bad;
+  out = out ∙ before.text_is;
+  err = err;
+  status = three;
+}))
 
--- of the status of what was written where a file can't be read
-pub three-explained : (r : Result ℕ Fault) (P : ℕ → Type 0) → IfOk r (λ status. status ≡ 3) → IfOk r (λ status. (status ≡ 3) ⊎ P status)
-three-explained (Ok status) P h = inl h
-three-explained (Err why) P h = tt
-
-pub three-stops : (r : Result ℕ Fault) (A B : Type 0) → (A → B) → IfOk r (λ _. A) → IfOk r (λ status. (status ≤ 2) ⊎ B)
-three-stops (Ok status) A B f h = inr (f h)
-three-stops (Err why) A B f h = tt
-
-pub left-begun : {O : Type 0} (contents : O → Option (List ℕ)) (fixes : Bool) (bytes_at : List ℕ → Option (List ℕ)) (unreadable : List ℕ → Bool) (names : List (List ℕ)) (a : Option (List ℕ))
-    (why : Fault) (middle new : O) → EndsTest why → LeavesOutput contents why middle new → ExplainsPrefix fixes bytes_at unreadable names a (contents middle)
-    → ExplainsPrefix fixes bytes_at unreadable names a (contents new)
-left-begun {O = O} contents fixes bytes_at unreadable names a why middle new ends left begun =
-    subst (λ (o : O). ExplainsPrefix fixes bytes_at unreadable names a (contents o)) (sym (reported-left contents why middle new ends left)) begun
+-- all are explained
+pub explains-all : (fixes : Bool) (bytes_at : List ℕ → Option (List ℕ)) (unreadable : List ℕ → Bool) (names : List (String Global)) (i : ℕ) (text : List ℕ)
+    (status : ℕ) (told : AnswerValue) → length names ≤ i → HasSaid fixes bytes_at unreadable (map string_bytes (take i names)) text status
+    → told.out ≡ text → told.err ≡ [] → told.status ≡ status → IsExplainAnswer fixes bytes_at unreadable (map string_bytes names) told
+explains-all fixes bytes_at unreadable names i text status told past before out err is =
+    let whole : HasSaid fixes bytes_at unreadable (map string_bytes names) text status = search (rules, take_all) in
+    inl (record {
+      said = whole.said;
+      are = whole.are;
+      few = omega (arith, whole.few, whole.status_is);
+      out = out ∙ whole.text_is;
+      alone = (err, is ∙ whole.status_is);
+    })
 
 -- ---- where the file can't be read, and its name may be that of a pattern
 

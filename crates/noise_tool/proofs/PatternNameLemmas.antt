@@ -1,7 +1,7 @@
 -- Which words name a pattern.
-use Rattle.std.proofs.Common.{◌≡◌, ◌∙◌, refl, sym, subst, ◌⊎◌, inl, inr, ℕ, List, [], Option, Some, None, Result, Ok, Err, OnOk, String, string_bytes}
+use Rattle.std.proofs.Common.{◌≡◌, ◌∙◌, sym, subst, ℕ, List, Option, Some, None, Result, Ok, Err}
 use Rattle.std.specs.Prelude.{Vec, IfOk, is_some, true}
-use Rattle.noise_tool.proofs.Common.{Global, Appends, AppendsPrefix, Fault, Plan}
+use Rattle.noise_tool.proofs.Common.{Global, Fault, Plan}
 use Rattle.noise_lines.specs.Named.{IsNamed, IsUnnamed}
 use Rattle.noise_lines.specs.Output.{NamesPattern, show_text}
 use Rattle.noise_names.specs.Fundamental.{fundamental_of}
@@ -9,8 +9,7 @@ use Rattle.noise_names.specs.Names.{Names, Section}
 use Rattle.noise_names.specs.Placing.{none-beyond}
 use Rattle.noise_names.specs.Limits.{first_beyond}
 use Rattle.noise_names.specs.declared.faults.NameFault.{NameFault}
-use Rattle.noise_tool.specs.PatternNames.{HasShown, NamesFundamental, StandsFor}
-use Rattle.noise_tool.specs.Prefixes.{PrintsPrefix}
+use Rattle.noise_tool.specs.PatternNames.{NamesFundamental, StandsFor}
 use Rattle.noise_words.specs.declared.orders.Chosen.TheVariants as order
 use Rattle.noise_lines.specs.declared.faults.Fault.TheVariants as fault
 
@@ -40,27 +39,3 @@ pub shown-word : (r : Result (Vec ℕ Global) Fault) (word bytes : List ℕ) →
     → IfOk r (λ text. (b : List ℕ) × StandsFor word b × (p : Plan) × NamesPattern b p × (text.items ≡ show_text p))
 shown-word (Ok text) word bytes stands h = (bytes, stands, h.0, h.1, h.2)
 shown-word (Err why) word bytes stands h = tt
-
--- ---- what is printed of it
-
--- what `show` prints of a word
-abbrev pub IsShownText : List ℕ → List ℕ → Type 0
-IsShownText word text = (b : List ℕ) × StandsFor word b × (p : Plan) × NamesPattern b p × (text ≡ show_text p)
-
-pub shown-done : (r : Result Unit Fault) (word t items : List ℕ) (a b : Option (List ℕ)) → t ≡ items → IsShownText word items → OnOk r (Appends a b t)
-    → OnOk r (HasShown word a b)
-shown-done (Ok u) word t items a b same (bytes, stands, p, names, is) grown =
-    (bytes, stands, p, names, subst (λ (z : List ℕ). Appends a b z) (same ∙ is) grown)
-shown-done (Err why) word t items a b same shown grown = tt
-
-pub shown-begun : {O : Type 0} (old new : O) (word t items : List ℕ) (a b : Option (List ℕ)) → t ≡ items → IsShownText word items → AppendsPrefix a b t
-    → (new ≡ old) ⊎ ((text : List ℕ) × HasShown word (Some []) (Some text) × AppendsPrefix a b text)
-shown-begun old new word t items a b same (bytes, stands, p, names, is) grown =
-    inr (show_text p, (bytes, stands, p, names, refl), subst (λ (z : List ℕ). AppendsPrefix a b z) (same ∙ is) grown)
-
-pub shown-prefix : {O : Type 0} (word : String Global) (bytes : List ℕ) (known a b : Option (List ℕ)) (old new : O) → bytes ≡ string_bytes word
-    → (new ≡ old) ⊎ ((text : List ℕ) × HasShown bytes (Some []) (Some text) × AppendsPrefix a b text)
-    → (new ≡ old) ⊎ PrintsPrefix (order.Show word) known a b
-shown-prefix word bytes known a b old new e (inl same) = inl same
-shown-prefix word bytes known a b old new e (inr (text, h, grown)) =
-    inr (text, inl (subst (λ (w : List ℕ). HasShown w (Some []) (Some text)) e h), grown)

@@ -1,14 +1,17 @@
 -- What comes of vector files that are tested.
 use Rattle.std.proofs.Common.{rules, ◌≡◌, ◌∙◌, refl, sym, ap, ap₂, subst, ◌⊎◌, inl, inr, ◌<◌, ◌≤◌, ◌+◌, ℕ, Bool, true, false, not, ◌&&◌, ◌||◌, List, [], ◌∷◌, ◌++◌, Option, Some, None, String, drop, get_or, length, string_bytes, take, append_assoc, append-nil, arith}
-use Rattle.std.specs.Prelude.{OnOk, IfOk, IsTrue, Result, Ok, Err, cond, map}
+use Rattle.std.specs.Prelude.{IfOk, IsTrue, Result, Ok, Err, cond, map}
 use Rattle.std.proofs.lemmas.Grind.{flat_map-append}
-use Rattle.noise_tool.proofs.Common.{IfErr, IfSome, count_by, Global, sum_by, Appends, Keeps, Appends-nil, Appends-trans, flat_map_more, map-append, map_more, map_push, take-append-drop, All-push, sum_by-append, Plan, status_of, lines_text, AppendsPrefix, IsReportedOf, LeavesOutput, error_text, Fault, bytes_of, IsVectorFile, file_text, Any, VectorFile, IsJudged, is_met, verdict_text, traces_of, IsFilePatternFault, IsStartFault, IsRunFault, IsRunOf, expected_in, all_lines, TestedName, EndsTest, HasBegunTest, HasTested, HaveTested, IsBelowVerdict, IsOfFile, IsPatternOfText, IsPieceOf, IsTested, IsVerdictOn, RunsTo, TestsPrefix, tested_names, tested_names_after, asked_in, below_of, failed_in, is_input, passed_in, tally_line, tested_text, verdicts_text, HasTraces}
+use Rattle.noise_tool.proofs.Common.{IfErr, IfSome, count_by, Global, sum_by, Appends, Keeps, flat_map_more, map-append, map_more, map_push, take-append-drop, All-push, sum_by-append, Plan, status_of, lines_text, AppendsPrefix, error_text, Fault, bytes_of, IsVectorFile, file_text, Any, VectorFile, IsJudged, is_met, verdict_text, traces_of, IsFilePatternFault, IsStartFault, IsRunFault, IsRunOf, expected_in, all_lines, TestedName, EndsTest, HaveTested, IsBelowVerdict, IsOfFile, IsPatternOfText, IsPieceOf, IsTested, IsTestedFile, IsVerdictOn, RunsTo, TestsPrefix, tested_names, tested_names_after, asked_in, failed_in, is_input, passed_in, tally_line, tested_text, verdicts_text, HasTraces}
+use Rattle.noise_tool.proofs.AnswerLemmas.{after-prefix, kept-appends, whole-prefix}
+use Rattle.noise_tool.specs.Answers.{AnswerValue, IsPrinted, fault_value}
+use Rattle.noise_tool.specs.TracedText.{front_if}
 use Rattle.noise_names.specs.Names.{Section}
 use Rattle.noise_names.specs.Text.{line}
 use Rattle.noise_lines.specs.declared.verdict.Difference.{Difference}
 use Rattle.noise_tool.specs.Testing.{Judged}
 use Rattle.noise_tool.specs.declared.testing.TestedRun.{TestedRun}
-use Rattle.noise_tool.specs.declared.tracing.Traced.{Traced}
+use Rattle.noise_run.specs.declared.tracing.Traced.{Traced}
 use Rattle.noise_lines.specs.declared.verdict.Verdict.{Verdict}
 use Rattle.noise_lines.specs.declared.verdict.Verdict.TheVariants.{Differs, CannotRun, NamedTwice}
 use Rattle.noise_lines.specs.declared.faults.Fault.TheVariants as fault
@@ -57,6 +60,11 @@ fails-known known text items (Ok t) same bytes fails = tt
 fails-known None text items (Err why) same bytes fails = inr tt
 fails-known (Some known) text items (Err why) same bytes fails =
     subst (λ (b : List ℕ). (status_of why ≡ 3) ⊎ IsRunFault Any b why) (same ∙ bytes) fails
+
+-- the lines that follow: these of the piece, and the front of this trace
+abbrev pub below_of : Bool → Verdict → List (List ℕ) → Traced → List (List ℕ)
+below_of traces (Differs d) piece t = piece ++ front_if traces t d.number
+below_of traces verdict piece t = []
 
 -- the lines that follow the two that differ
 below-is : (traces : Bool) (text : List ℕ) (file : VectorFile) (t : Traced) (plan : Plan) (verdict : Verdict) (piece : List (List ℕ))
@@ -114,18 +122,51 @@ fault-known traces known unreadable why other failed h = of-sort (sort-of why) k
     of-sort (inr (inr few)) None (inr h) = inr (few, tt)
     of-sort (inr (inr few)) (Some bytes) (inr h) = inr (few, inl h)
 
-pub unrun-tested : (again traces : Bool) (known : Option (List ℕ)) (unreadable : Bool) (name : List ℕ) (a e : Option (List ℕ)) (verdict : Verdict)
-    (result : Result Bool Fault) → is_met verdict ≡ false → IsVerdictOn again traces known unreadable verdict []
-    → IfOk result (λ met. (met ≡ false) × Appends a e (verdict_text name verdict)) → IfOk result (HasTested again traces known unreadable name a e)
-unrun-tested again traces known unreadable name a e verdict (Ok met) unmet right h = search rules
-unrun-tested again traces known unreadable name a e verdict (Err why) unmet right h = tt
+-- two lists of lines
+lines-both : (first more : List (List ℕ)) → lines_text (first ++ more) ≡ lines_text first ++ lines_text more
+lines-both first more = flat_map-append line first more
 
-pub unrun-begun : {O : Type 0} (contents : O → Option (List ℕ)) (again traces : Bool) (known : Option (List ℕ)) (unreadable : Bool) (name : List ℕ) (old new : O)
-    (verdict : Verdict) (result : Result Bool Fault) → IsVerdictOn again traces known unreadable verdict []
-    → IfErr result (λ _. AppendsPrefix (contents old) (contents new) (verdict_text name verdict))
-    → IfErr result (λ _. (new ≡ old) ⊎ HasBegunTest again traces known unreadable name (contents old) (contents new))
-unrun-begun contents again traces known unreadable name old new verdict (Ok met) right h = tt
-unrun-begun contents again traces known unreadable name old new verdict (Err why) right h = search rules
+-- the text of a run that differs
+pub differs-text : (traces : Bool) (name : List ℕ) (d : Difference) (piece : List (List ℕ)) (t : Traced) (head text : List ℕ)
+    → head ≡ verdict_text name (Differs d) ++ lines_text piece → text ≡ head ++ lines_text (front_if traces t d.number)
+    → text ≡ tested_text name (Differs d) (below_of traces (Differs d) piece t)
+differs-text traces name d piece t head text head_is is =
+    is ∙ ap (λ (h : List ℕ). h ++ lines_text (front_if traces t d.number)) head_is
+    ∙ append_assoc (verdict_text name (Differs d)) (lines_text piece) (lines_text (front_if traces t d.number))
+    ∙ ap (λ (l : List ℕ). verdict_text name (Differs d) ++ l) (sym (lines-both piece (front_if traces t d.number)))
+
+-- and of one that doesn't
+pub plain-text : (traces : Bool) (name : List ℕ) (verdict : Verdict) (t : Traced) → ((d : Difference) → verdict ≡ Differs d → ⊥)
+    → (tested_text name verdict (below_of traces verdict [] t) ≡ verdict_text name verdict) × ((plan : Plan) → IsPieceOf plan verdict [])
+plain-text traces name (Differs d) t other = absurd (other d refl)
+plain-text traces name _ t other = (refl, λ plan. tt)
+
+pub tested-run : (traces : Bool) (known : Option (List ℕ)) (unreadable : Bool) (name : List ℕ) (run : TestedRun) (verdict : Verdict)
+    (piece : List (List ℕ)) (text : List ℕ) (met : Bool)
+    → IfSome known (λ bytes. RunsTo traces bytes run.traced) × IfSome known (λ bytes. IsPatternOfText bytes run.pattern)
+    → IsJudged (bytes_of run.traced.outcome.lines.items) (bytes_of run.traced.outcome.expected.items) verdict
+    → IsPieceOf run.pattern verdict piece → text ≡ tested_text name verdict (below_of traces verdict piece run.traced) → met ≡ is_met verdict
+    → IsTestedFile false traces known unreadable name text met
+tested-run traces known unreadable name run verdict piece text met comes judged is text_is met_is = record {
+  verdict = verdict;
+  below = below_of traces verdict piece run.traced;
+  right = judged-known traces known unreadable run verdict piece comes.0 comes.1 judged is;
+  text_is = text_is;
+  met_is = met_is;
+}
+
+-- a file that isn't run
+pub unrun-tested : (traces : Bool) (known : Option (List ℕ)) (unreadable : Bool) (name : List ℕ) (why : Fault) (verdict : Verdict) (text : List ℕ)
+    (met : Bool) → verdict ≡ CannotRun why → ¬ EndsTest why → (why ≡ fault.Unreadable → IsTrue unreadable)
+    → (status_of why ≡ 3) ⊎ IfSome known (λ bytes. IsRunFault Any bytes why) → text ≡ verdict_text name verdict → met ≡ false
+    → IsTestedFile false traces known unreadable name text met
+unrun-tested traces known unreadable name why verdict text met is other failed fails text_is met_is = record {
+  verdict = CannotRun why;
+  below = [];
+  right = fault-known traces known unreadable why other failed fails;
+  text_is = text_is ∙ ap (verdict_text name) is;
+  met_is = met_is;
+}
 
 no-pattern-read : (block : Option Plan) (name : Section) → ¬ IsFilePatternFault block name fault.Unreadable
 no-pattern-read None name h = h
@@ -166,9 +207,11 @@ counted {X = X} p xs x =
     sum_by-append (λ (y : X). cond (p y) 1 0) xs (x ∷ []) ∙ ap (λ (n : ℕ). sum_by (λ (y : X). cond (p y) 1 0) xs + n) last
 
 tested-more : (traces : Bool) (bytes_at : List ℕ → Option (List ℕ)) (unreadable : List ℕ → Bool) (names : List TestedName) (name : List ℕ) (again : Bool) (a m e : Option (List ℕ)) (passed failed : ℕ)
-    (met : Bool) (p f : ℕ) → HaveTested traces bytes_at unreadable names a m passed failed → HasTested again traces (bytes_at name) (unreadable name) name m e met → p ≡ passed + cond met 1 0
+    (met : Bool) (p f : ℕ) → HaveTested traces bytes_at unreadable names a m passed failed
+    → (text : List ℕ) → IsTestedFile again traces (bytes_at name) (unreadable name) name text met → Appends m e text → p ≡ passed + cond met 1 0
     → f ≡ failed + cond (not met) 1 0 → HaveTested traces bytes_at unreadable (names ++ (name, again) ∷ []) a e p f
-tested-more traces bytes_at unreadable names name again a m e passed failed met p f before one p_is f_is =
+tested-more traces bytes_at unreadable names name again a m e passed failed met p f before text one written p_is f_is =
+    let written_is : Appends m e (tested_text name one.verdict one.below) = subst (Appends m e) one.text_is written in
     let this : Judged = record { name = name; again = again; verdict = one.verdict; below = one.below } in
     record {
       verdicts = before.verdicts ++ this ∷ [];
@@ -182,100 +225,28 @@ tested-more traces bytes_at unreadable names name again a m e passed failed met 
 -- one file more, which passed
 pub passed-more : (traces : Bool) (bytes_at : List ℕ → Option (List ℕ)) (unreadable : List ℕ → Bool) (names all : List TestedName) (name : List ℕ) (again : Bool) (a m e : Option (List ℕ))
     (passed failed : ℕ) (met : Bool) → all ≡ names ++ (name, again) ∷ [] → met ≡ true → HaveTested traces bytes_at unreadable names a m passed failed
-    → HasTested again traces (bytes_at name) (unreadable name) name m e met → HaveTested traces bytes_at unreadable all a e (passed + 1) failed
-passed-more traces bytes_at unreadable names all name again a m e passed failed met all_is is before one =
+    → (text : List ℕ) → IsTestedFile again traces (bytes_at name) (unreadable name) name text met → Appends m e text
+    → HaveTested traces bytes_at unreadable all a e (passed + 1) failed
+passed-more traces bytes_at unreadable names all name again a m e passed failed met all_is is before text one written =
     let more : passed + 1 ≡ passed + cond met 1 0 = rw is refl in
     let same : failed ≡ failed + cond (not met) 1 0 = rw is (omega arith) in
-    rw all_is (tested-more traces bytes_at unreadable names name again a m e passed failed met (passed + 1) failed before one more same)
+    rw all_is (tested-more traces bytes_at unreadable names name again a m e passed failed met (passed + 1) failed before text one written more same)
 
 -- one file more, which failed
 pub failed-more : (traces : Bool) (bytes_at : List ℕ → Option (List ℕ)) (unreadable : List ℕ → Bool) (names all : List TestedName) (name : List ℕ) (again : Bool) (a m e : Option (List ℕ))
     (passed failed : ℕ) (met : Bool) → all ≡ names ++ (name, again) ∷ [] → met ≡ false → HaveTested traces bytes_at unreadable names a m passed failed
-    → HasTested again traces (bytes_at name) (unreadable name) name m e met → HaveTested traces bytes_at unreadable all a e passed (failed + 1)
-failed-more traces bytes_at unreadable names all name again a m e passed failed met all_is is before one =
+    → (text : List ℕ) → IsTestedFile again traces (bytes_at name) (unreadable name) name text met → Appends m e text
+    → HaveTested traces bytes_at unreadable all a e passed (failed + 1)
+failed-more traces bytes_at unreadable names all name again a m e passed failed met all_is is before text one written =
     let same : passed ≡ passed + cond met 1 0 = rw is (omega arith) in
     let more : failed + 1 ≡ failed + cond (not met) 1 0 = rw is refl in
-    rw all_is (tested-more traces bytes_at unreadable names name again a m e passed failed met passed (failed + 1) before one same more)
-
-pub kept-appends : (a b c : Option (List ℕ)) (bs : List ℕ) → Appends a b bs → Keeps b c → Appends a c bs
-kept-appends None b c bs p q = tt
-kept-appends (Some x) None c bs p q = absurd p
-kept-appends (Some x) (Some y) None bs p q = absurd q
-kept-appends (Some x) (Some y) (Some z) bs p q = q ∙ p
+    rw all_is (tested-more traces bytes_at unreadable names name again a m e passed failed met passed (failed + 1) before text one written same more)
 
 -- ---- a prefix of what is printed
-
-pub whole-prefix : (a e : Option (List ℕ)) (text : List ℕ) → Appends a e text → AppendsPrefix a e text
-whole-prefix a e text h = record { prefix = text; rest = []; begins = sym (append-nil text); appended = h }
-
-more-prefix : (a e : Option (List ℕ)) (text more : List ℕ) → AppendsPrefix a e text → AppendsPrefix a e (text ++ more)
-more-prefix a e text more p = search (rules, append_assoc)
-
-pub after-prefix : (a m e : Option (List ℕ)) (first next : List ℕ) → Appends a m first → AppendsPrefix m e next → AppendsPrefix a e (first ++ next)
-after-prefix a m e first next h p = search (rules, append_assoc)
-
-pub none-prefix : (a : Option (List ℕ)) (text : List ℕ) → AppendsPrefix a a text
-none-prefix a text = record { prefix = []; rest = text; begins = refl; appended = Appends-nil a }
 
 pub err-any : {T E : Type 0} (result : Result T E) (P : Type 0) → P → IfErr result (λ _. P)
 err-any (Ok x) P h = tt
 err-any (Err e) P h = h
-
-pub on-ok-map : {T E : Type 0} (r : Result T E) (P Q : Type 0) → (P → Q) → OnOk r P → OnOk r Q
-on-ok-map (Ok t) P Q f h = f h
-on-ok-map (Err e) P Q f h = tt
-
-pub if-err-map : {T E : Type 0} (r : Result T E) (P Q : Type 0) → (P → Q) → IfErr r (λ _. P) → IfErr r (λ _. Q)
-if-err-map (Ok t) P Q f h = tt
-if-err-map (Err e) P Q f h = f h
-
--- the text of a verdict is what is printed first
-verdict-first : (name : List ℕ) (verdict : Verdict) (below : List (List ℕ))
-    → (more : List ℕ) × (verdict_text name verdict ++ more ≡ tested_text name verdict below)
-verdict-first name (Differs d) below = (lines_text below, refl)
-verdict-first name _ below = ([], append-nil _)
-
-pub verdict-prefix : (name : List ℕ) (verdict : Verdict) (below : List (List ℕ)) (a e : Option (List ℕ)) (text : List ℕ)
-    → text ≡ verdict_text name verdict → AppendsPrefix a e text → AppendsPrefix a e (tested_text name verdict below)
-verdict-prefix name verdict below a e text is grown =
-    let more = verdict-first name verdict below in
-    subst (λ (t : List ℕ). AppendsPrefix a e t) more.1 (more-prefix a e (verdict_text name verdict) more.0
-    (subst (λ (t : List ℕ). AppendsPrefix a e t) is grown))
-
--- two lists of lines
-pub lines-both : (first more : List (List ℕ)) → lines_text (first ++ more) ≡ lines_text first ++ lines_text more
-lines-both first more = flat_map-append line first more
-
--- the lines that follow, as far as they are written
-pub piece-prefix : (name : List ℕ) (d : Difference) (piece front : List (List ℕ)) (a m e : Option (List ℕ)) (text : List ℕ)
-    → text ≡ verdict_text name (Differs d) → Appends a m text → AppendsPrefix m e (lines_text piece)
-    → AppendsPrefix a e (tested_text name (Differs d) (piece ++ front))
-piece-prefix name d piece front a m e text is written grown =
-    after-prefix a m e (verdict_text name (Differs d)) (lines_text (piece ++ front)) (subst (λ (x : List ℕ). Appends a m x) is written)
-    (subst (λ (x : List ℕ). AppendsPrefix m e x) (sym (lines-both piece front)) (more-prefix m e (lines_text piece) (lines_text front) grown))
-
-pub front-prefix : (name : List ℕ) (d : Difference) (piece front : List (List ℕ)) (a m n e : Option (List ℕ)) (text : List ℕ)
-    → text ≡ verdict_text name (Differs d) → Appends a m text → Appends m n (lines_text piece) → AppendsPrefix n e (lines_text front)
-    → AppendsPrefix a e (tested_text name (Differs d) (piece ++ front))
-front-prefix name d piece front a m n e text is written next grown =
-    after-prefix a m e (verdict_text name (Differs d)) (lines_text (piece ++ front)) (subst (λ (x : List ℕ). Appends a m x) is written)
-    (subst (λ (x : List ℕ). AppendsPrefix m e x) (sym (lines-both piece front))
-    (after-prefix m n e (lines_text piece) (lines_text front) next grown))
-
-pub front-written : (name : List ℕ) (d : Difference) (piece front : List (List ℕ)) (a m n e : Option (List ℕ)) (text : List ℕ)
-    → text ≡ verdict_text name (Differs d) → Appends a m text → Appends m n (lines_text piece) → Appends n e (lines_text front)
-    → Appends a e (tested_text name (Differs d) (piece ++ front))
-front-written name d piece front a m n e text is written next last =
-    Appends-trans a m e (verdict_text name (Differs d)) (lines_text (piece ++ front)) (subst (λ (x : List ℕ). Appends a m x) is written)
-    (subst (λ (x : List ℕ). Appends m e x) (sym (lines-both piece front))
-    (Appends-trans m n e (lines_text piece) (lines_text front) next last))
-
-pub judged-begun : (traces : Bool) (known : Option (List ℕ)) (unreadable : Bool) (name : List ℕ) (run : TestedRun) (verdict : Verdict)
-    (piece : List (List ℕ)) (a e : Option (List ℕ)) → IfSome known (λ bytes. RunsTo traces bytes run.traced)
-    → IfSome known (λ bytes. IsPatternOfText bytes run.pattern) → IsJudged (bytes_of run.traced.outcome.lines.items) (bytes_of run.traced.outcome.expected.items) verdict
-    → IsPieceOf run.pattern verdict piece → AppendsPrefix a e (tested_text name verdict (below_of traces verdict piece run.traced))
-    → HasBegunTest false traces known unreadable name a e
-judged-begun traces known unreadable name run verdict piece a e runs pattern judged is grown = search judged-known
 
 -- no file more than these
 pub none-begun : (traces : Bool) (bytes_at : List ℕ → Option (List ℕ)) (unreadable : List ℕ → Bool) (names others : List TestedName) (all : List (List ℕ))
@@ -284,19 +255,16 @@ pub none-begun : (traces : Bool) (bytes_at : List ℕ → Option (List ℕ)) (un
 none-begun traces bytes_at unreadable names others all a e passed failed is before = search rules
 
 -- the next file has begun
-pub one-begun : {O : Type 0} (contents : O → Option (List ℕ)) (traces : Bool) (bytes_at : List ℕ → Option (List ℕ)) (unreadable : List ℕ → Bool)
-    (names others : List TestedName) (all : List (List ℕ)) (name : List ℕ) (again : Bool) (a : Option (List ℕ)) (old new : O) (passed failed : ℕ) → names ++ (name, again) ∷ others ≡ tested_names all
-    → HaveTested traces bytes_at unreadable names a (contents old) passed failed
-    → (new ≡ old) ⊎ HasBegunTest again traces (bytes_at name) (unreadable name) name (contents old) (contents new)
-    → TestsPrefix traces bytes_at unreadable all a (contents new)
-one-begun {O = O} contents traces bytes_at unreadable names others all name again a old new passed failed is before (inl same) =
-    subst (λ (o : O). TestsPrefix traces bytes_at unreadable all a (contents o)) (sym same)
-    (none-begun traces bytes_at unreadable names ((name, again) ∷ others) all a (contents old) passed failed is before)
-one-begun contents traces bytes_at unreadable names others all name again a old new passed failed is before (inr one) =
+pub one-begun : (traces : Bool) (bytes_at : List ℕ → Option (List ℕ)) (unreadable : List ℕ → Bool) (names others : List TestedName) (all : List (List ℕ))
+    (name : List ℕ) (again : Bool) (a m e : Option (List ℕ)) (passed failed : ℕ) (text : List ℕ) (met : Bool) → names ++ (name, again) ∷ others ≡ tested_names all
+    → HaveTested traces bytes_at unreadable names a m passed failed → IsTestedFile again traces (bytes_at name) (unreadable name) name text met
+    → AppendsPrefix m e text → TestsPrefix traces bytes_at unreadable all a e
+one-begun traces bytes_at unreadable names others all name again a m e passed failed text met is before one begun =
     let this : Judged = record { name = name; again = again; verdict = one.verdict; below = one.below } in
-    let text = tested_text name one.verdict one.below in
+    let shown = tested_text name one.verdict one.below in
+    let begun_is : AppendsPrefix m e shown = subst (AppendsPrefix m e) one.text_is begun in
     let named : map asked_in (before.verdicts ++ this ∷ []) ≡ names ++ (name, again) ∷ [] = search (rules, map_push) in
-    let whole : verdicts_text before.verdicts ++ text ≡ verdicts_text (before.verdicts ++ this ∷ []) ++ [] =
+    let whole : verdicts_text before.verdicts ++ shown ≡ verdicts_text (before.verdicts ++ this ∷ []) ++ [] =
     flat_map_more (λ (v : Judged). tested_text v.name v.verdict v.below) [] before.verdicts this
     ∙ sym (append-nil (verdicts_text (before.verdicts ++ this ∷ []))) in
     record {
@@ -306,7 +274,7 @@ one-begun contents traces bytes_at unreadable names others all name again a old 
       right = All-push (λ (v : Judged). IsVerdictOn v.again traces (bytes_at v.name) (unreadable v.name) v.verdict v.below) before.verdicts this before.right one.right;
       last = [];
       last_is = inl refl;
-      grown = search (rules, after-prefix);
+      grown = subst (AppendsPrefix a e) whole (after-prefix a m e (verdicts_text before.verdicts) shown before.printed begun_is);
     }
 
 -- all files are tested, and the last line has begun
@@ -411,31 +379,41 @@ asked-at names i name again here =
     sym (append_assoc (tested_names (map string_bytes (take i names))) ((name, again) ∷ []) (others-at names (i + 1)))
     ∙ ap (λ (fs : List TestedName). fs ++ others-at names (i + 1)) (sym here) ∙ asked-cut names (i + 1)
 
--- ---- what is reported where the command ends
+-- ---- where the command ends
 
-ends-three : (why : Fault) → EndsTest why → status_of why ≡ 3
-ends-three why (inl is) = ap status_of is
-ends-three why (inr is) = ap status_of is
+abbrev Ended : AnswerValue → Type 0
+Ended told = (told.out ≡ []) × (told.status ≡ 3) × ((f : Fault) × EndsTest f × (told.err ≡ error_text f))
 
-pub reported-three : (why : Fault) (result : ℕ) → EndsTest why → (result ≡ status_of why) ⊎ (result ≡ 3) → result ≡ 3
-reported-three why result ends (inl is) = is ∙ ends-three why ends
-reported-three why result ends (inr is) = is
+of-memory : (told : AnswerValue) → told ≡ fault_value fault.Memory → Ended told
+of-memory told is = (
+  ap (λ (t : AnswerValue). t.out) is,
+  ap (λ (t : AnswerValue). t.status) is,
+  (fault.Memory, inl refl, ap (λ (t : AnswerValue). t.err) is),
+)
 
-pub reported-ends : (why : Fault) (result : ℕ) (a b : Option (List ℕ)) → EndsTest why
-    → (reported : Fault) × IsReportedOf why reported × (status_of reported ≡ result) × AppendsPrefix a b (error_text reported)
-    → (f : Fault) × EndsTest f × AppendsPrefix a b (error_text f)
-reported-ends why result a b ends (reported, inl is, status, grown) = (reported, subst EndsTest (sym is) ends, grown)
-reported-ends why result a b ends (reported, inr (inl is), status, grown) = (reported, inl is, grown)
-reported-ends why result a b ends (reported, inr (inr is), status, grown) = (reported, inr is, grown)
+of-unwritable : (told : AnswerValue) → told ≡ fault_value fault.Unwritable → Ended told
+of-unwritable told is = (
+  ap (λ (t : AnswerValue). t.out) is,
+  ap (λ (t : AnswerValue). t.status) is,
+  (fault.Unwritable, inr refl, ap (λ (t : AnswerValue). t.err) is),
+)
 
--- what is reported leaves the output
-pub reported-left : {O : Type 0} (contents : O → Option (List ℕ)) (why : Fault) (middle new : O) → EndsTest why → LeavesOutput contents why middle new
-    → new ≡ middle
-reported-left contents why middle new (inl is) h = subst (λ (f : Fault). LeavesOutput contents f middle new) is h
-reported-left contents why middle new (inr is) h = subst (λ (f : Fault). LeavesOutput contents f middle new) is h
+ended : (why : Fault) (told : AnswerValue) → EndsTest why → (told ≡ fault_value why) ⊎ (told ≡ fault_value fault.Memory) → Ended told
+ended why told (inl memory) (inl is) = of-memory told (is ∙ ap fault_value memory)
+ended why told (inr unwritable) (inl is) = of-unwritable told (is ∙ ap fault_value unwritable)
+ended why told ends (inr is) = of-memory told is
 
-pub left-begun : {O : Type 0} (contents : O → Option (List ℕ)) (traces : Bool) (bytes_at : List ℕ → Option (List ℕ)) (unreadable : List ℕ → Bool)
-    (names : List (List ℕ)) (a : Option (List ℕ)) (why : Fault) (middle new : O) → EndsTest why → LeavesOutput contents why middle new
-    → TestsPrefix traces bytes_at unreadable names a (contents middle) → TestsPrefix traces bytes_at unreadable names a (contents new)
-left-begun {O = O} contents traces bytes_at unreadable names a why middle new ends left begun =
-    subst (λ (o : O). TestsPrefix traces bytes_at unreadable names a (contents o)) (sym (reported-left contents why middle new ends left)) begun
+-- such a fault is printed: the output is as it was
+pub ends-printed : {O E : Type 0} (printed : O → Option (List ℕ)) (reported : E → Option (List ℕ)) (why : Fault) (out out_after : O) (err err_after : E)
+    (status : ℕ) → EndsTest why
+    → (told : AnswerValue) × ((told ≡ fault_value why) ⊎ (told ≡ fault_value fault.Memory)) × IsPrinted printed reported told out out_after err err_after status
+    → (out_after ≡ out) × (status ≡ 3) × ((f : Fault) × EndsTest f × AppendsPrefix (reported err) (reported err_after) (error_text f))
+ends-printed printed reported why out out_after err err_after status ends (told, of, p) =
+    let e = ended why told ends of in (
+      p.unwritten e.0,
+      elim p.ends [ inl whole ↦ whole.0 ∙ e.1 | inr cut ↦ cut.0 ],
+      elim p.ends [
+        | inl whole ↦ (e.2.0, e.2.1, subst (AppendsPrefix (reported err) (reported err_after)) e.2.2 whole.2)
+        | inr cut ↦ (fault.Unwritable, inr refl, cut.1)
+      ],
+    )

@@ -1,6 +1,5 @@
 -- What `compare` prints of a log and of a vector file, and its exit status.
 use Rattle.std.specs.Prelude.{⊤, ◌≡◌, ◌⊎◌, ◌<◌, ◌≤◌, ℕ, ◌-◌, Bool, true, false, List, [], ◌++◌, Option, Some, IfSome, IsTrue, codes, decimal, flat_map, length, map, string_bytes}
-use Rattle.std.specs.Io.KnownBytes.{Appends}
 use Rattle.noise_compare.specs.Cut.{cut_text, whole_lines}
 use Rattle.noise_compare.specs.Findings.{IsReport}
 use Rattle.noise_compare.specs.Known.{AreKnown}
@@ -15,21 +14,20 @@ use Rattle.noise_documents.specs.Comparison.{AreFactsOf}
 use Rattle.noise_json.specs.Json.{members_in}
 use Rattle.noise_json.specs.declared.object.Object.{Object}
 use Rattle.noise_lines.specs.Faults.{status_of}
-use Rattle.noise_lines.specs.Prefixes.{AppendsPrefix}
-use Rattle.noise_lines.specs.Reported.{error_text, fault_line}
+use Rattle.noise_lines.specs.Reported.{fault_line}
 use Rattle.noise_lines.specs.Verdicts.{named_fault}
-use Rattle.noise_lines.specs.declared.faults.Fault.{Fault}
 use Rattle.noise_lines.specs.declared.faults.Fault.TheVariants.{TooLong, Unreadable}
 use Rattle.noise_vectors.specs.VectorFile.{IsVectorFile}
 use Rattle.noise_vectors.specs.VectorText.{file_text}
 use Rattle.noise_vectors.specs.declared.vector.AllowedEvents.TheVariants.{Any}
 use Rattle.noise_vectors.specs.declared.vector.VectorFile.{VectorFile}
 use Rattle.noise_words.specs.declared.orders.Compared.{Compared}
+use Rattle.noise_tool.specs.Answers.{AnswerValue, IsLine, IsOutput, TellsFault}
 use Rattle.noise_tool.specs.FileFacts.{AreFactsOfText}
-use Rattle.noise_tool.specs.Selection.{all_lines}
+use Rattle.noise_run.specs.Selection.{all_lines}
 use Rattle.noise_tool.specs.Performing.{IsRunFault}
 use Rattle.noise_tool.specs.Testing.{EndsTest, is_input}
-use Rattle.noise_tool.specs.Tracing.{HasTraces}
+use Rattle.noise_run.specs.Tracing.{HasTraces}
 use Rattle.noise_tool.specs.declared.comparison.Comparison.{Comparison}
 use Rattle.noise_tool.specs.declared.comparison.Comparison.TheVariants.{Made, Unread, Wrong}
 use Rattle.noise_tool.specs.declared.comparison.ComparedFile.{ComparedFile}
@@ -105,27 +103,6 @@ abbrev pub IfUnread : Comparison → (ComparedFile → Type 0) → Type 0
 IfUnread (Unread which) P = P which
 IfUnread _ P = ⊤
 
--- the log and the file were compared, where their texts are known: the output grew by the report on them, and the
--- status is that of what was found
-pub record IsCompared (all : Bool) (log file : Option (List ℕ)) (before after : Option (List ℕ)) (status : ℕ) : Type 0 where
-  pub report : LogReport
-  pub compares : IfSome log (λ l. IfSome file (λ f. Compares all l f report))
-  pub printed : Appends before after report.text.items
-  pub status_is : status ≡ finding_status report.finding
-
--- the same of the files of these names, and the error output is as it was
-abbrev pub ComparesFiles : {E : Type 0} → Compared → (List ℕ → Option (List ℕ)) → Option (List ℕ) → Option (List ℕ)
-    → E → E → ℕ → Type 0
-ComparesFiles names bytes_at before after err err_after status =
-    IsCompared names.all (bytes_at (string_bytes names.log)) (bytes_at (string_bytes names.file)) before after status
-    × (err_after ≡ err)
-
--- the output grew by a prefix of the report on them
-pub record ComparesPrefix (all : Bool) (log file : Option (List ℕ)) (before after : Option (List ℕ)) : Type 0 where
-  pub report : LogReport
-  pub compares : IfSome log (λ l. IfSome file (λ f. Compares all l f report))
-  pub grown : AppendsPrefix before after report.text.items
-
 -- ---- a log that isn't compared
 
 -- the log and the file are both standard input, which is read once
@@ -154,36 +131,41 @@ uncompared_line names NoLine = named_fault (string_bytes names.log) (codes "no l
 uncompared_line names (WrongLine number) =
     named_fault (string_bytes names.log) (codes "line " ++ (decimal number ++ codes " trace"))
 
--- the log or the file is wrong, and the error output grew by a prefix of the line that says why
-pub record IsNotCompared (names : Compared) (log file : Option (List ℕ)) (before after : Option (List ℕ)) : Type 0 where
-  pub why : Uncompared
-  pub is_why : IsUncompared names log file why
-  pub grown : AppendsPrefix before after (uncompared_line names why)
-
 -- ---- a file that can't be read
 
 abbrev pub compared_name : Compared → ComparedFile → List ℕ
 compared_name names Log = string_bytes names.log
 compared_name names Vector = string_bytes names.file
 
--- the line that says why a comparison ends with status 3: memory runs out or a write is refused; or one of the files
--- can't be read, where it may be that it can't, and the line has its name
-abbrev pub IsCompareStop : (List ℕ → Bool) → Compared → List ℕ → Type 0
-IsCompareStop unreadable names text =
-    ((fault : Fault) × EndsTest fault × (text ≡ error_text fault))
+-- ---- the answer
+
+-- the log and the file are compared, where their texts are known
+pub record IsCompared (all : Bool) (log file : Option (List ℕ)) (told : AnswerValue) : Type 0 where
+  pub report : LogReport
+  pub compares : IfSome log (λ l. IfSome file (λ f. Compares all l f report))
+  pub out : told.out ≡ report.text.items
+  pub alone : IsOutput told (finding_status report.finding)
+
+-- the log or the file is wrong
+abbrev pub IsNotCompared : Compared → Option (List ℕ) → Option (List ℕ) → AnswerValue → Type 0
+IsNotCompared names log file told =
+    (why : Uncompared) × IsUncompared names log file why × IsLine told (uncompared_line names why) 2
+
+-- memory runs out, or one of the files can't be read, where it may be that it can't, and the line has its name
+abbrev pub StopsComparing : Compared → (List ℕ → Bool) → AnswerValue → Type 0
+StopsComparing names unreadable told =
+    TellsFault EndsTest told
     ⊎ ((which : ComparedFile) × IsTrue (unreadable (compared_name names which))
-    × (text ≡ named_fault (compared_name names which) (fault_line Unreadable)))
+    × IsLine told (named_fault (compared_name names which) (fault_line Unreadable)) 3)
 
--- the error output grew by a prefix of it
-pub record StopsComparing (names : Compared) (unreadable : List ℕ → Bool)
-    (before after : Option (List ℕ)) : Type 0 where
-  pub text : List ℕ
-  pub why : IsCompareStop unreadable names text
-  pub grown : AppendsPrefix before after text
+-- Where standard input is named twice nothing is compared, and the line says so, or memory runs out.
+abbrev pub IsRefusedTwice : Compared → AnswerValue → Type 0
+IsRefusedTwice names told =
+    NamesInputTwice names → IsLine told (uncompared_line names NamedTwice) 2 ⊎ TellsFault EndsTest told
 
--- ---- standard input named twice
-
--- Nothing is compared. At status 2 the error output grew by a prefix of the line that standard input is named twice.
-pub record IsRefusedTwice (names : Compared) (before after : Option (List ℕ)) (status : ℕ) : Type 0 where
-  pub none : 2 ≤ status
-  pub grown : status ≡ 2 → AppendsPrefix before after (uncompared_line names NamedTwice)
+pub record IsCompareAnswer (names : Compared) (bytes_at : List ℕ → Option (List ℕ)) (unreadable : List ℕ → Bool)
+    (told : AnswerValue) : Type 0 where
+  pub compared : IsCompared names.all (bytes_at (string_bytes names.log)) (bytes_at (string_bytes names.file)) told
+      ⊎ IsNotCompared names (bytes_at (string_bytes names.log)) (bytes_at (string_bytes names.file)) told
+      ⊎ StopsComparing names unreadable told
+  pub twice : IsRefusedTwice names told

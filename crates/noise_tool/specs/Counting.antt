@@ -19,8 +19,8 @@ use Rattle.noise_explain.specs.declared.run_counts.Act.TheVariants as act
 use Rattle.noise_explain.specs.declared.run_counts.RunCounts.{RunCounts}
 use Rattle.noise_vectors.specs.declared.vector.FileDatagrams.{FileDatagrams}
 use Rattle.noise_vectors.specs.declared.vector.VectorFile.{VectorFile}
-use Rattle.noise_tool.specs.Ends.{IsPlanOf, sides_of_file}
-use Rattle.noise_tool.specs.Running.{are_ready, datagrams_of_version, gone_over}
+use Rattle.noise_run.specs.Ends.{IsPlanOf, sides_of_file}
+use Rattle.noise_run.specs.Running.{are_ready, datagrams_of_version, gone_over}
 
 -- what a party did by its note, if that is counted
 abbrev pub counted_act : Note → Option Act

@@ -1,20 +1,18 @@
 -- What `explain` prints of files, and its exit status.
-use Rattle.std.specs.Prelude.{◌≡◌, ◌⊎◌, ◌<◌, ℕ, Bool, true, false, List, ◌++◌, Option, IfSome, IsFalse, IsTrue, flat_map, fold, length, map, nat_le, if◌then◌else◌}
-use Rattle.std.specs.List.{All, Contains}
-use Rattle.std.specs.Io.KnownBytes.{Appends}
+use Rattle.std.specs.Prelude.{◌≡◌, ◌⊎◌, ◌<◌, ◌≤◌, ℕ, Bool, true, false, List, ◌∷◌, ◌++◌, Option, IfSome, IsFalse, IsTrue, flat_map, fold, length, map, nat_le, if◌then◌else◌}
+use Rattle.std.specs.List.{All}
 use Rattle.noise_explain.specs.Explained.{IsExplained, SaysLong}
 use Rattle.noise_explain.specs.Fixed.{IsFixed}
 use Rattle.noise_explain.specs.Shown.{unread_head}
 use Rattle.noise_explain.specs.declared.explanation.Explained.{Explained}
 use Rattle.noise_explain.specs.VectorExplained.{ReportsFault, ExplainsLine, ReportsVector, is_vector_text}
-use Rattle.noise_lines.specs.Prefixes.{AppendsPrefix}
-use Rattle.noise_lines.specs.Reported.{error_text}
 use Rattle.noise_lines.specs.declared.faults.Fault.{Fault}
 use Rattle.noise_lines.specs.declared.faults.Fault.TheVariants.{Line, Unreadable}
-use Rattle.noise_tool.specs.Ends.{IsStartFault}
+use Rattle.noise_tool.specs.Answers.{AnswerValue, IsOutput, TellsFault}
+use Rattle.noise_run.specs.Ends.{IsStartFault}
 use Rattle.noise_tool.specs.PatternNames.{NamesText}
 use Rattle.noise_tool.specs.Performing.{IsUnread}
-use Rattle.noise_tool.specs.Running.{IsRunOf}
+use Rattle.noise_run.specs.Running.{IsRunOf}
 use Rattle.noise_tool.specs.Testing.{EndsTest}
 use Rattle.noise_vectors.specs.VectorFile.{IsVectorFile}
 use Rattle.noise_vectors.specs.VectorText.{file_text}
@@ -105,42 +103,34 @@ pub record AreSaid (fixes : Bool) (bytes_at : List ℕ → Option (List ℕ)) (u
   pub named : map (λ s. s.name) said ≡ names
   pub right : All (λ s. IsExplainedAt fixes bytes_at unreadable s.name s.explained) said
 
--- the files of these names are explained, in order
-pub record HasExplained (fixes : Bool) (bytes_at : List ℕ → Option (List ℕ)) (unreadable : List ℕ → Bool)
-    (names : List (List ℕ)) (before after : Option (List ℕ)) (status : ℕ) : Type 0 where
+-- ---- the answer
+
+-- what is said of all files, with the greatest of the statuses
+pub record ExplainsAll (fixes : Bool) (bytes_at : List ℕ → Option (List ℕ)) (unreadable : List ℕ → Bool)
+    (names : List (List ℕ)) (told : AnswerValue) : Type 0 where
   pub said : List Said
   pub are : AreSaid fixes bytes_at unreadable names said
-  pub printed : Appends before after (said_text said)
-  pub status_is : status ≡ worst_of said
+  pub few : worst_of said ≤ 2
+  pub out : told.out ≡ said_text said
+  pub alone : IsOutput told (worst_of said)
 
--- and the error output is as it was
-abbrev pub ExplainsFiles : {E : Type 0} → Bool → (List ℕ → Option (List ℕ)) → (List ℕ → Bool) → List (List ℕ)
-    → Option (List ℕ) → Option (List ℕ) → E → E → ℕ → Type 0
-ExplainsFiles fixes bytes_at unreadable names before after err err_after status =
-    HasExplained fixes bytes_at unreadable names before after status × (err_after ≡ err)
-
--- the output grew by a prefix of what is said of the first of these files
-pub record ExplainsPrefix (fixes : Bool) (bytes_at : List ℕ → Option (List ℕ)) (unreadable : List ℕ → Bool)
-    (names : List (List ℕ)) (before after : Option (List ℕ)) : Type 0 where
+-- what is said of the files before one that can't be read, where it may be that it can't and its name is that of no
+-- pattern; the line has its name
+pub record ExplainsFirst (fixes : Bool) (bytes_at : List ℕ → Option (List ℕ)) (unreadable : List ℕ → Bool)
+    (names : List (List ℕ)) (told : AnswerValue) : Type 0 where
   pub first : List (List ℕ)
+  pub name : List ℕ
   pub others : List (List ℕ)
-  pub names_are : first ++ others ≡ names
+  pub names_are : first ++ name ∷ others ≡ names
   pub said : List Said
   pub are : AreSaid fixes bytes_at unreadable first said
-  pub grown : AppendsPrefix before after (said_text said)
+  pub unread : IsUnreadName unreadable name
+  pub out : told.out ≡ said_text said
+  pub err : told.err ≡ unread_head name Unreadable
+  pub status : told.status ≡ 3
 
--- ---- where the command ends before its work is done
-
--- the line that says why: memory runs out or a write is refused; or a file of these can't be read, where it may be that
--- it can't and its name is that of no pattern, and the line has its name
-abbrev pub IsStop : (List ℕ → Bool) → List (List ℕ) → List ℕ → Type 0
-IsStop unreadable names text =
-    ((fault : Fault) × EndsTest fault × (text ≡ error_text fault))
-    ⊎ ((name : List ℕ) × Contains names name × IsUnreadName unreadable name × (text ≡ unread_head name Unreadable))
-
--- the error output grew by a prefix of such a line
-pub record StopsExplaining (unreadable : List ℕ → Bool) (names : List (List ℕ)) (before after : Option (List ℕ))
-    : Type 0 where
-  pub text : List ℕ
-  pub why : IsStop unreadable names text
-  pub grown : AppendsPrefix before after text
+-- or memory runs out
+abbrev pub IsExplainAnswer : Bool → (List ℕ → Option (List ℕ)) → (List ℕ → Bool) → List (List ℕ) → AnswerValue → Type 0
+IsExplainAnswer fixes bytes_at unreadable names told =
+    ExplainsAll fixes bytes_at unreadable names told ⊎ ExplainsFirst fixes bytes_at unreadable names told
+    ⊎ TellsFault EndsTest told

@@ -1,7 +1,6 @@
 -- Pattern names as words of the command line: what stands in a protocol name between `Noise_` and the names of the
 -- algorithms (Noise, 8).
-use Rattle.std.specs.Prelude.{◌≡◌, ◌⊎◌, ℕ, List, ◌++◌, Option, Some}
-use Rattle.std.specs.Io.KnownBytes.{Appends}
+use Rattle.std.specs.Prelude.{◌≡◌, ◌⊎◌, ℕ, List, ◌++◌, Some}
 use Rattle.noise_names.specs.Names.{Section, Names, prefix, suffix}
 use Rattle.noise_names.specs.Fundamental.{fundamental_of}
 use Rattle.noise_names.specs.Plan.{Plan}
@@ -27,10 +26,10 @@ StandsFor word bytes =
     (NamesFundamental (whole_name word) × (bytes ≡ whole_name word))
     ⊎ ((NamesFundamental (whole_name word) → ⊥) × (bytes ≡ word))
 
--- the output grew by what `show` prints of the protocol name that a word stands for
-abbrev pub HasShown : List ℕ → Option (List ℕ) → Option (List ℕ) → Type 0
-HasShown word before after = (bytes : List ℕ) × StandsFor word bytes
-    × (p : Plan) × NamesPattern bytes p × Appends before after (show_text p)
+-- what `show` prints of the protocol name that a word stands for
+abbrev pub IsShownText : List ℕ → List ℕ → Type 0
+IsShownText word text =
+    (bytes : List ℕ) × StandsFor word bytes × (p : Plan) × NamesPattern bytes p × (text ≡ show_text p)
 
 -- why there is nothing to show
 abbrev pub IsShownFault : List ℕ → Fault → Type 0

@@ -1,24 +1,22 @@
--- What a command has done that ends with status 0, and why it ends with another.
+-- What a command on at most one file answers, and what the words of a command line ask for.
 use Rattle.std.specs.Prelude.{⊤, ◌≡◌, ◌≢◌, ◌⊎◌, ◌<◌, ◌≤◌, ℕ, Bool, true, false, List, [], length, Option, None, Some, IfSome, IsTrue, option_and_then, string_bytes, if◌then◌else◌}
-use Rattle.std.specs.Io.KnownBytes.{Appends}
 use Rattle.noise_names.specs.Plan.{Plan}
 use Rattle.noise_names.specs.Text.{Spells}
 use Rattle.noise_names.specs.Validity.{IsValid}
-use Rattle.noise_lines.specs.Verdicts.{IsMet, ReportsUnmet}
-use Rattle.noise_tool.specs.Conversion.{MeetsItself}
-use Rattle.noise_tool.specs.Ends.{IsStartFault}
+use Rattle.noise_lines.specs.Verdicts.{IsMet}
+use Rattle.noise_run.specs.Conversion.{MeetsItself}
+use Rattle.noise_run.specs.Ends.{IsStartFault}
 use Rattle.noise_lines.specs.Faults.{of_vector, status_of}
 use Rattle.noise_lines.specs.Output.{IsCheckFault, check_text, list_text}
 use Rattle.noise_lines.specs.Lines.{lines_text}
-use Rattle.noise_lines.specs.Prefixes.{AppendsPrefix}
-use Rattle.noise_lines.specs.Reported.{LeavesOther, ReportsRule, error_text}
-use Rattle.noise_tool.specs.PatternNames.{HasShown, IsShownFault, NamesText}
-use Rattle.noise_tool.specs.Running.{IsRunOf, expected_in}
-use Rattle.noise_tool.specs.Templating.{HasTemplated, IsTemplateFault, ReadsShortPattern}
-use Rattle.noise_tool.specs.Selection.{selection_of}
-use Rattle.noise_tool.specs.Tracing.{IsTraceOf}
+use Rattle.noise_lines.specs.Reported.{error_text}
+use Rattle.noise_tool.specs.Answers.{AnswerValue, IsOutput, TellsFault}
+use Rattle.noise_tool.specs.PatternNames.{IsShownFault, IsShownText, NamesText}
+use Rattle.noise_run.specs.Running.{IsRunOf, expected_in}
+use Rattle.noise_tool.specs.Templating.{IsTemplateFault, IsTemplated, ReadsShortPattern}
+use Rattle.noise_run.specs.Selection.{selection_of}
+use Rattle.noise_run.specs.Tracing.{IsTraceOf}
 use Rattle.noise_lines.specs.Converted.{converted_text}
-use Rattle.noise_names.specs.Lists.{bytes_of}
 use Rattle.noise_vectors.specs.Expectations.{IsFirstUnmet}
 use Rattle.noise_vectors.specs.VectorFile.{IsAllowedFile, IsReadFault, IsVectorFile}
 use Rattle.noise_vectors.specs.WrongLine.{IsReported}
@@ -26,7 +24,6 @@ use Rattle.noise_vectors.specs.VectorText.{file_text}
 use Rattle.noise_explain.specs.Template.{names_protocol}
 use Rattle.noise_lines.specs.declared.faults.Fault.{Fault}
 use Rattle.noise_lines.specs.declared.faults.Fault.TheVariants.{TooLong, Unmet}
-use Rattle.noise_tool.specs.declared.run.Outcome.{Outcome}
 use Rattle.noise_words.specs.declared.orders.Chosen.{Chosen}
 use Rattle.noise_words.specs.declared.orders.Chosen.TheVariants.{List as Listing, Show, Check, Template, Talk, Replay, Convert, Trace}
 use Rattle.noise_words.specs.declared.orders.Order.{Order}
@@ -50,17 +47,17 @@ Printing = VectorFile → List (List ℕ) → List (List ℕ) → Type 0
 abbrev pub IsPlain : VectorFile → List (List ℕ) → List (List ℕ) → Type 0
 IsPlain file lines printed = IsRunOf file lines × (printed ≡ lines)
 
--- A right vector file has this text, and the output grew by what is printed of its run, whose lines come to this.
-pub record HasPrinted (Prints : Printing) (ComeTo : VectorFile → List (List ℕ) → Type 0) (text : List ℕ)
-    (before after : Option (List ℕ)) : Type 0 where
-  pub file : VectorFile
-  pub right : IsVectorFile file
-  pub text_is : text ≡ file_text file
-  pub lines : List (List ℕ)
-  pub printed : List (List ℕ)
-  pub run : Prints file lines printed
-  pub grown : Appends before after (lines_text printed)
-  pub come_to : ComeTo file lines
+-- A right vector file has these bytes, this text is printed of its run, and the lines of the run come to this.
+pub record IsRunText (Prints : Printing) (ComeTo : VectorFile → List (List ℕ) → Type 0) (bytes text : List ℕ) : Type 0
+  where
+    pub file : VectorFile
+    pub right : IsVectorFile file
+    pub bytes_are : bytes ≡ file_text file
+    pub lines : List (List ℕ)
+    pub printed : List (List ℕ)
+    pub run : Prints file lines printed
+    pub text_is : text ≡ lines_text printed
+    pub come_to : ComeTo file lines
 
 -- the lines are those that the file expects, if it expects any
 abbrev pub AreMet : VectorFile → List (List ℕ) → Type 0
@@ -70,12 +67,6 @@ AreMet file lines = IsMet (expected_in file.version) lines
 abbrev pub DifferAt : ℕ → VectorFile → List (List ℕ) → Type 0
 DifferAt number file lines =
     (expected_in file.version ≢ []) × IsFirstUnmet lines (expected_in file.version) number
-
-abbrev pub HasRun : Printing → List ℕ → Option (List ℕ) → Option (List ℕ) → Type 0
-HasRun Prints text before after = HasPrinted Prints AreMet text before after
-
-abbrev pub HasUnmet : Printing → List ℕ → Option (List ℕ) → Option (List ℕ) → ℕ → Type 0
-HasUnmet Prints text before after number = HasPrinted Prints (DifferAt number) text before after
 
 -- A right vector file of version 1 has this text, and this is the one of version 2 that expects the lines of its run,
 -- and meets them.
@@ -90,26 +81,24 @@ pub record Converts (text converted : List ℕ) : Type 0 where
   pub short : length converted ≤ 4194304
   pub converted_is : converted ≡ converted_text file lines
 
--- the output grew by that
-abbrev pub HasConverted : List ℕ → Option (List ℕ) → Option (List ℕ) → Type 0
-HasConverted text before after = (converted : List ℕ) × Converts text converted × Appends before after converted
+-- what a command prints with status 0, by the bytes of its file, where they are known
+abbrev pub IsDone : Chosen → Option (List ℕ) → List ℕ → Type 0
+IsDone Listing file text = text ≡ list_text
+IsDone (Show name) file text = IsShownText (string_bytes name) text
+IsDone (Check path) file text = IfSome file (λ bytes. (p : Plan) × Spells bytes p × IsValid p × (text ≡ check_text p))
+IsDone (Template word) file text = IsTemplated (string_bytes word) file text
+IsDone (Talk path) file text = IfSome file (λ bytes. IsRunText IsPlain AreMet bytes text)
+IsDone (Replay path) file text = IfSome file (λ bytes. IsRunText IsPlain AreMet bytes text)
+IsDone (Convert path) file text = IfSome file (λ bytes. Converts bytes text)
+IsDone (Trace traced) file text = IfSome file (λ bytes. IsRunText (IsTraceOf (selection_of traced)) AreMet bytes text)
 
--- what is printed of a file's run, of its bytes and of the output's before and after, each where they are known
-abbrev pub RunsFile : Printing → Option (List ℕ) → Option (List ℕ) → Option (List ℕ) → Type 0
-RunsFile Prints file before after = IfSome file (λ text. HasRun Prints text before after)
-
--- of the file's bytes, and of the output's before and after, each where they are known: the text of the command stands
--- after what was there before
-abbrev pub IsDone : Chosen → Option (List ℕ) → Option (List ℕ) → Option (List ℕ) → Type 0
-IsDone Listing file before after = Appends before after list_text
-IsDone (Show name) file before after = HasShown (string_bytes name) before after
-IsDone (Check path) file before after =
-    IfSome file (λ text. (p : Plan) × Spells text p × IsValid p × Appends before after (check_text p))
-IsDone (Template word) file before after = HasTemplated (string_bytes word) file before after
-IsDone (Talk path) file before after = RunsFile IsPlain file before after
-IsDone (Replay path) file before after = RunsFile IsPlain file before after
-IsDone (Convert path) file before after = IfSome file (λ text. HasConverted text before after)
-IsDone (Trace traced) file before after = RunsFile (IsTraceOf (selection_of traced)) file before after
+-- and with status 1, where the line of this number isn't as expected
+abbrev pub IsUnmet : Chosen → Option (List ℕ) → ℕ → List ℕ → Type 0
+IsUnmet (Talk path) file number text = IfSome file (λ bytes. IsRunText IsPlain (DifferAt number) bytes text)
+IsUnmet (Replay path) file number text = IfSome file (λ bytes. IsRunText IsPlain (DifferAt number) bytes text)
+IsUnmet (Trace traced) file number text =
+    IfSome file (λ bytes. IsRunText (IsTraceOf (selection_of traced)) (DifferAt number) bytes text)
+IsUnmet _ file number text = ⊥
 
 -- the bytes of a file, where they are known, are at most 4194304
 abbrev pub IsShortFile : Option (List ℕ) → Type 0
@@ -144,54 +133,34 @@ IsUnread allowed text fault =
 abbrev pub IsRunFault : AllowedEvents → List ℕ → Fault → Type 0
 IsRunFault allowed text fault = IsTooLong text fault ⊎ IsUnread allowed text fault ⊎ HasNoEnds text fault
 
--- these lines were printed of an outcome, and this is its first line that differs from what is expected
-abbrev pub IsUnlike : List (List ℕ) → Outcome → Option (List ℕ) → Option (List ℕ) → Fault → Type 0
-IsUnlike printed outcome before after fault = Appends before after (lines_text printed)
-    × ReportsUnmet (bytes_of outcome.expected.items) (bytes_of outcome.lines.items) fault
-
--- the lines of the run aren't those that are expected
-abbrev pub IsUnmet : Printing → List ℕ → Option (List ℕ) → Option (List ℕ) → Fault → Type 0
-IsUnmet Prints text before after (Unmet number) = HasUnmet Prints text before after number
-IsUnmet Prints text before after fault = ⊥
-
--- why a file of what is allowed isn't run, or its lines aren't those that it expects
-abbrev pub IsNotMet : Printing → AllowedEvents → Option (List ℕ) → Option (List ℕ) → Option (List ℕ) → Fault → Type 0
-IsNotMet Prints allowed file before after fault =
-    IfSome file (λ text. IsRunFault allowed text fault ⊎ IsUnmet Prints text before after fault)
-
 -- the converted text of a right vector file of version 1 has too many bytes
 abbrev pub IsTooLongConverted : List ℕ → Fault → Type 0
 IsTooLongConverted text fault =
     (fault ≡ TooLong) × (file : VectorFile) × IsVectorFile file × (file.version ≡ One) × (text ≡ file_text file)
     × (lines : List (List ℕ)) × IsRunOf file lines × (4194304 < length (converted_text file lines))
 
--- why a command ends before its work is done, where the fault is in what it was given; the file's bytes and the
--- output's, before and after, each where they are known
-abbrev pub IsFault : Chosen → Option (List ℕ) → Option (List ℕ) → Option (List ℕ) → Fault → Type 0
-IsFault Listing file before after fault = ⊥
-IsFault (Show name) file before after fault = IsShownFault (string_bytes name) fault
-IsFault (Check path) file before after fault = IfSome file (λ text. IsTooLong text fault ⊎ IsCheckFault text fault)
-IsFault (Template word) file before after fault = IsTemplateFault (string_bytes word) file fault
-IsFault (Talk path) file before after fault = IsNotMet IsPlain SayOnly file before after fault
-IsFault (Replay path) file before after fault = IsNotMet IsPlain Any file before after fault
-IsFault (Convert path) file before after fault =
-    IfSome file (λ text. IsRunFault VersionOne text fault ⊎ IsTooLongConverted text fault)
-IsFault (Trace traced) file before after fault =
-    IsNotMet (IsTraceOf (selection_of traced)) Any file before after fault
+-- why a command ends before its work is done, where the fault is in what it was given, by the bytes of its file, where
+-- they are known
+abbrev pub IsFault : Chosen → Option (List ℕ) → Fault → Type 0
+IsFault Listing file fault = ⊥
+IsFault (Show name) file fault = IsShownFault (string_bytes name) fault
+IsFault (Check path) file fault = IfSome file (λ text. IsTooLong text fault ⊎ IsCheckFault text fault)
+IsFault (Template word) file fault = IsTemplateFault (string_bytes word) file fault
+IsFault (Talk path) file fault = IfSome file (λ text. IsRunFault SayOnly text fault)
+IsFault (Replay path) file fault = IfSome file (λ text. IsRunFault Any text fault)
+IsFault (Convert path) file fault = IfSome file (λ text. IsRunFault VersionOne text fault ⊎ IsTooLongConverted text fault)
+IsFault (Trace traced) file fault = IfSome file (λ text. IsRunFault Any text fault)
 
--- after this fault alone the output has the lines of a run
-abbrev pub IsOfLines : Fault → Type 0
-IsOfLines (Unmet number) = ⊤
-IsOfLines fault = ⊥
+-- a text of status 0, or one of status 1 whose line of this number isn't as expected
+abbrev pub GivesText : (List ℕ → Type 0) → (ℕ → List ℕ → Type 0) → AnswerValue → Type 0
+GivesText Met Differs told =
+    (Met told.out × IsOutput told 0)
+    ⊎ ((number : ℕ) × Differs number told.out × (told.err ≡ error_text (Unmet number)) × (told.status ≡ 1))
 
--- why a command ends with this status, and what it has written of that
-abbrev pub IsStopped : {O E : Type 0} → (O → Option (List ℕ)) → (E → Option (List ℕ)) → Chosen → Option (List ℕ)
-    → O → O → E → E → ℕ → Type 0
-IsStopped printed reported chosen file out out_after err err_after status =
-    (fault : Fault) × (status_of fault ≡ status) × IsFault chosen file (printed out) (printed out_after) fault
-    × (IsOfLines fault ⊎ LeavesOther fault out out_after err err_after)
-    × ReportsRule fault (printed out) (printed out_after)
-    × AppendsPrefix (reported err) (reported err_after) (error_text fault)
+-- what a command answers, by the bytes of its file, where they are known; at status 0 and 1 they are short
+pub record IsAnswerOn (chosen : Chosen) (known : Option (List ℕ)) (told : AnswerValue) : Type 0 where
+  pub long : (2 ≤ told.status) ⊎ ReadsShort chosen known
+  pub is : GivesText (IsDone chosen known) (IsUnmet chosen known) told ⊎ TellsFault (IsFault chosen known) told
 
 -- ---- the file that a command reads
 
@@ -244,68 +213,43 @@ pub record IsLongFile (chosen : Chosen) (known : Option (List ℕ)) : Type 0 whe
   pub word_is : file_of chosen ≡ Some word
   pub long : IfSome known (λ bytes. 4194304 < length bytes)
 
--- it may be that the file can't be read, and its name is that of no pattern that the command takes
-pub record IsUnreadFile (unreadable : List ℕ → Bool) (chosen : Chosen) : Type 0 where
-  pub word : List ℕ
-  pub word_is : file_of chosen ≡ Some word
-  pub no_file : IsTrue (unreadable word)
-  pub no_pattern : takes_pattern chosen ≡ true → (text : List ℕ) → NamesText word text → ⊥
+-- what a command answers: on the bytes that it is asked for, or a fault that is outside the program
+abbrev pub IsCommandAnswer : (List ℕ → Option (List ℕ)) → (List ℕ → Bool) → Chosen → AnswerValue → Type 0
+IsCommandAnswer bytes_at unreadable chosen told =
+    TellsFault (λ why. status_of why ≡ 3) told
+    ⊎ OfAsked bytes_at unreadable chosen (λ known. IsAnswerOn chosen known told)
 
 -- ---- what the words of a command line ask for
 
 -- of a command on at most one file
 abbrev pub IfCommand : Order → (Chosen → Type 0) → Type 0
 IfCommand (Command chosen) P = P chosen
-IfCommand (Test asked) P = ⊤
-IfCommand (Explain files) P = ⊤
-IfCommand (Compare names) P = ⊤
-IfCommand (Document asked) P = ⊤
-IfCommand (Fill names) P = ⊤
+IfCommand _ P = ⊤
 
 -- of `test`
 abbrev pub IfTest : Order → (Tested → Type 0) → Type 0
-IfTest (Command chosen) P = ⊤
 IfTest (Test asked) P = P asked
-IfTest (Explain files) P = ⊤
-IfTest (Compare names) P = ⊤
-IfTest (Document asked) P = ⊤
-IfTest (Fill names) P = ⊤
+IfTest _ P = ⊤
 
 -- of `explain`
 abbrev pub IfExplain : Order → (Explained → Type 0) → Type 0
-IfExplain (Command chosen) P = ⊤
-IfExplain (Test asked) P = ⊤
 IfExplain (Explain asked) P = P asked
-IfExplain (Compare names) P = ⊤
-IfExplain (Document asked) P = ⊤
-IfExplain (Fill names) P = ⊤
+IfExplain _ P = ⊤
 
 -- of `compare`
 abbrev pub IfCompare : Order → (Compared → Type 0) → Type 0
-IfCompare (Command chosen) P = ⊤
-IfCompare (Test asked) P = ⊤
-IfCompare (Explain files) P = ⊤
 IfCompare (Compare names) P = P names
-IfCompare (Document asked) P = ⊤
-IfCompare (Fill names) P = ⊤
+IfCompare _ P = ⊤
 
 -- of a command that writes a document
 abbrev pub IfDocument : Order → (Documented → Type 0) → Type 0
-IfDocument (Command chosen) P = ⊤
-IfDocument (Test asked) P = ⊤
-IfDocument (Explain files) P = ⊤
-IfDocument (Compare names) P = ⊤
 IfDocument (Document asked) P = P asked
-IfDocument (Fill names) P = ⊤
+IfDocument _ P = ⊤
 
 -- of `template` with a file of values
 abbrev pub IfFill : Order → (Filled → Type 0) → Type 0
-IfFill (Command chosen) P = ⊤
-IfFill (Test asked) P = ⊤
-IfFill (Explain files) P = ⊤
-IfFill (Compare names) P = ⊤
-IfFill (Document asked) P = ⊤
 IfFill (Fill names) P = P names
+IfFill _ P = ⊤
 
 -- At status 2 the output is as it was. `explain` prints there, and so does what writes a document; `test` has no such
 -- status.

@@ -4,7 +4,7 @@ use Rattle.noise_names.specs.declared.token.Role.{Role}
 use Rattle.noise_names.specs.Plan.{Plan}
 use Rattle.noise_explain.specs.Template.{IsTemplateText}
 use Rattle.noise_explain.specs.declared.values.Given.{Given}
-use Rattle.noise_tool.specs.Ends.{IsFilePattern, setup_of}
+use Rattle.noise_run.specs.Ends.{IsFilePattern, setup_of}
 
 -- the file of a template is of its pattern, and nothing is wrong with either setup
 pub record Starts (given : List Given) (p : Plan) (text : List ℕ) (template : IsTemplateText given p text) : Type 0

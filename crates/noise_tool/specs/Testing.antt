@@ -19,14 +19,13 @@ use Rattle.noise_vectors.specs.VectorText.{file_text}
 use Rattle.noise_vectors.specs.declared.vector.AllowedEvents.TheVariants.{Any}
 use Rattle.noise_vectors.specs.declared.vector.VectorFile.{VectorFile}
 use Rattle.noise_lines.specs.TracedLines.{traces_of}
-use Rattle.noise_tool.specs.Ends.{IsFilePattern}
-use Rattle.noise_tool.specs.Selection.{all_lines}
+use Rattle.noise_run.specs.Ends.{IsFilePattern}
+use Rattle.noise_run.specs.Selection.{all_lines}
 use Rattle.noise_tool.specs.Performing.{IsRunFault}
-use Rattle.noise_tool.specs.Running.{IsRunOf, expected_in}
-use Rattle.noise_tool.specs.TracedText.{front_if}
-use Rattle.noise_tool.specs.Tracing.{HasTraces, IsTraceTo}
+use Rattle.noise_run.specs.Running.{IsRunOf, expected_in}
+use Rattle.noise_run.specs.Tracing.{HasTraces, IsTraceTo}
 use Rattle.noise_tool.specs.declared.testing.TestedRun.{TestedRun}
-use Rattle.noise_tool.specs.declared.tracing.Traced.{Traced}
+use Rattle.noise_run.specs.declared.tracing.Traced.{Traced}
 use Rattle.noise_words.specs.declared.orders.Tested.{Tested}
 use Rattle.noise_lines.specs.declared.verdict.Difference.{Difference}
 use Rattle.noise_lines.specs.declared.verdict.Verdict.{Verdict}
@@ -150,11 +149,6 @@ abbrev pub tested_text : List ℕ → Verdict → List (List ℕ) → List ℕ
 tested_text name (Differs d) below = verdict_text name (Differs d) ++ lines_text below
 tested_text name verdict below = verdict_text name verdict
 
--- the lines that follow: these of the piece, and the front of this trace
-abbrev pub below_of : Bool → Verdict → List (List ℕ) → Traced → List (List ℕ)
-below_of traces (Differs d) piece t = piece ++ front_if traces t d.number
-below_of traces verdict piece t = []
-
 -- the name of a file, whether it is standard input again, the verdict on it, and the lines that follow
 pub record Judged : Type 0 where
   pub name : List ℕ
@@ -196,13 +190,13 @@ IsVerdictOn false traces known unreadable verdict below =
     ((verdict ≡ CannotRun Unreadable) × IsTrue unreadable)
     ⊎ (IsOfFile verdict × IfSome known (λ text. IsVerdict traces text verdict below))
 
--- one file is tested: the output grew by the text of its verdict, and the lines that follow
-pub record HasTested (again traces : Bool) (known : Option (List ℕ)) (unreadable : Bool) (name : List ℕ)
-    (before after : Option (List ℕ)) (met : Bool) : Type 0 where
+-- the text of the verdict on one file, with the lines that follow, and whether it passed
+pub record IsTestedFile (again traces : Bool) (known : Option (List ℕ)) (unreadable : Bool) (name text : List ℕ)
+    (met : Bool) : Type 0 where
   pub verdict : Verdict
   pub below : List (List ℕ)
   pub right : IsVerdictOn again traces known unreadable verdict below
-  pub printed : Appends before after (tested_text name verdict below)
+  pub text_is : text ≡ tested_text name verdict below
   pub met_is : met ≡ is_met verdict
 
 -- these files are tested, in order: the output grew by the texts of their verdicts
@@ -237,14 +231,6 @@ TestsFiles given bytes_at unreadable before after err err_after status =
 -- memory ran out, or the output wasn't written
 abbrev pub EndsTest : Fault → Type 0
 EndsTest fault = (fault ≡ Memory) ⊎ (fault ≡ Unwritable)
-
--- one file is tested, and the output grew by a prefix of the text of its verdict, and of the lines that follow
-pub record HasBegunTest (again traces : Bool) (known : Option (List ℕ)) (unreadable : Bool) (name : List ℕ)
-    (before after : Option (List ℕ)) : Type 0 where
-  pub verdict : Verdict
-  pub below : List (List ℕ)
-  pub right : IsVerdictOn again traces known unreadable verdict below
-  pub grown : AppendsPrefix before after (tested_text name verdict below)
 
 -- The output grew by a prefix of what is printed of the files of these names: the texts of the verdicts on the first of
 -- them, and after those of all files the last line.

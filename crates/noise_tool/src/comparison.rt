@@ -1,35 +1,34 @@
 //! The command `compare`: a key schedule that was logged is compared with that of a vector file.
 
-ghost use Rattle.std.specs.Prelude.{◌≡◌, ◌⊎◌, ◌++◌, ◌≤◌, ℕ, List, true, IfErr, IfOk, IfSome, IsTrue, MatchResult, OnOk, map, string_bytes};
-ghost use Rattle.std.specs.Io.KnownBytes.{Appends};
+ghost use Rattle.std.specs.Prelude.{◌≡◌, ◌++◌, ◌≤◌, ℕ, List, true, IfErr, IfOk, IfSome, IsTrue, map, string_bytes};
 ghost use Rattle.noise_compare.specs.Cut.{cut_text};
 ghost use Rattle.noise_compare.specs.Lines.{words_in, line_words};
 ghost use Rattle.noise_compare.specs.Plain.{skipped_text};
 ghost use Rattle.noise_lines.specs.Faults.{status_of};
-ghost use Rattle.noise_lines.specs.Prefixes.{AppendsPrefix};
 ghost use Rattle.noise_lines.specs.Reported.{fault_line};
 ghost use Rattle.noise_lines.specs.Verdicts.{named_fault};
-ghost use Rattle.noise_lines.specs.declared.faults.Fault.TheVariants.{Unreadable, Unwritable};
+ghost use Rattle.noise_lines.specs.declared.faults.Fault.TheVariants.{Unreadable};
 ghost use Rattle.noise_lines.specs.TracedLines.{traces_of};
 ghost use Rattle.noise_names.specs.Lists.{bytes_of};
-ghost use Rattle.noise_tool.specs.Comparing.{Compares, ComparesPrefix, HasFacts, IfFacts, IfMade, IfUnread, IfWrong, IsCompared, IsListed, IsNotCompared, IsRefusedTwice, IsUncompared, IsWrongLog, NamesInputTwice, StopsComparing, compared_name, finding_status, schedule_of, uncompared_line};
+ghost use Rattle.noise_tool.specs.Comparing.{Compares, HasFacts, IfFacts, IfMade, IfUnread, IfWrong, IsCompareAnswer, IsListed, IsUncompared, IsWrongLog, NamesInputTwice, compared_name, finding_status, schedule_of, uncompared_line};
+ghost use Rattle.noise_tool.specs.Answers.{IsSilent, answer_value};
 ghost use Rattle.noise_tool.specs.FileFacts.{AreFactsOfText};
 ghost use Rattle.noise_tool.specs.Testing.{EndsTest, RunsTo};
 ghost use Rattle.noise_tool.specs.declared.comparison.Comparison.TheVariants.{Wrong};
 ghost use Rattle.noise_tool.specs.declared.comparison.Uncompared.TheVariants.{NamedTwice, WrongFile};
 
-use crate::testing::{FilesByName, is_input, trace_named};
-use crate::tracing::Traced;
+use crate::answers::Answer;
+use crate::testing::{FilesByName, is_input, run_named};
 use noise_compare::{
     Facts, Finding, Line, LogFault, LogReport, compare_lines, known_lines, plain_text, push_cut,
     push_schedule, push_skipped, read_log, whole_lines, written_lines,
 };
 use noise_documents::found_facts;
 use noise_json::Object;
-use noise_lines::{Fault, Verdict, flush, named_fault, report_fault, verdict_lines, write};
+use noise_lines::{Fault, Verdict, named_fault, verdict_lines};
+use noise_run::Traced;
 use noise_words::Compared;
 use std::alloc::{AllocError, Global};
-use std::io::Write;
 
 /// What comes of a log and a vector file.
 #[derive(Drop)]
@@ -67,70 +66,43 @@ pub enum Uncompared {
     WrongLine(usize),
 }
 
-/// Compares the log of a key schedule with the key schedule of a vector file, as `trace` prints it, and writes the
-/// first difference, and the mistakes that give its values or what these show. What it writes are secrets. The exit
-/// status is 0 where all lines of the log agree; 1 where one differs, or the log ends before a step of its party's
-/// handshake; 2 where the log or the file is wrong, which is written to `err`; 3 where a file can't be read, which `err`
-/// says with its name, the output can't be written, or memory runs out.
-pub fn compare_log<F: FilesByName, O: Write, E: Write>(
+/// Compares the log of a key schedule with the key schedule of a vector file, as `trace` prints it: the first
+/// difference, and the mistakes that give its values or what these show. These lines are secrets. The exit status is 0
+/// where all lines of the log agree; 1 where one differs, or the log ends before a step of its party's handshake; 2
+/// where the log or the file is wrong, which is told on the error output; 3 where a file can't be read, which is told
+/// there with its name, the output can't be written, or memory runs out.
+pub fn compare_log<F: FilesByName>(
     alloc: Global,
     names: &Compared,
     files: &F,
-    out: &mut O,
-    err: &mut E,
-) -> u8
-    ensures status { result ≤ 3 }
-    ensures compared { (2 ≤ result) ⊎ IsCompared names.now.all (F.bytes_at files.now (string_bytes names.now.log))
-        (F.bytes_at files.now (string_bytes names.now.file)) (O.contents out.old) (O.contents out.new) result }
-    ensures quiet { (2 ≤ result) ⊎ (err.new ≡ err.old) }
-    ensures fault { result ≡ 2 → IsNotCompared names.now (F.bytes_at files.now (string_bytes names.now.log))
-        (F.bytes_at files.now (string_bytes names.now.file)) (E.contents err.old) (E.contents err.new) }
-    ensures twice { NamesInputTwice names.now
-        → IsRefusedTwice names.now (E.contents err.old) (E.contents err.new) result }
-    ensures unwritten { result ≡ 2 → out.new ≡ out.old }
-    ensures outside { result ≡ 3 → StopsComparing names.now (F.unreadable files.now) (E.contents err.old)
-        (E.contents err.new) }
-    ensures prefix { (out.new ≡ out.old) ⊎ ComparesPrefix names.now.all (F.bytes_at files.now (string_bytes names.now.log))
-        (F.bytes_at files.now (string_bytes names.now.file)) (O.contents out.old) (O.contents out.new) }
+) -> Result<Answer, Fault>
+    ensures made { IfOk result (λ answer. IsCompareAnswer names.now (F.bytes_at files.now) (F.unreadable files.now)
+        (answer_value answer)) }
+    ensures fault { IfErr result EndsTest }
+    ensures silent { IfOk result IsSilent }
 {
-    match compare_named(alloc, names, files) {
-        Ok(Comparison::Made(report, _)) => match print_report(&report, out) {
-            Ok(status) => status,
-            Err(fault) => report_fault(alloc, fault, out, err),
-        },
-        Ok(Comparison::Wrong(why)) => match uncompared_line(alloc, names, why) {
-            Ok(line) => {
-                let _ = write(&line, err);
-                2
-            }
-            Err(_) => report_fault(alloc, Fault::Memory, out, err),
-        },
-        Ok(Comparison::Unread(which)) => match unread_line(alloc, names, which) {
-            Ok(line) => {
-                let _ = write(&line, err);
-                3
-            }
-            Err(_) => report_fault(alloc, Fault::Memory, out, err),
-        },
-        Err(fault) => report_fault(alloc, fault, out, err),
+    match compare_named(alloc, names, files)? {
+        Comparison::Made(report, _) => {
+            let status = finding_status(report.finding);
+            Ok(Answer::output(alloc, report.text, status))
+        }
+        Comparison::Wrong(why) => Ok(Answer::refusal(
+            alloc,
+            uncompared_line(alloc, names, why)?,
+            2,
+        )),
+        Comparison::Unread(which) => Ok(Answer::refusal(
+            alloc,
+            unread_line(alloc, names, which)?,
+            3,
+        )),
     }
-}
-
-// Writes a report, and gives the status.
-fn print_report<O: Write>(report: &LogReport, out: &mut O) -> Result<u8, Fault>
-    ensures printed { IfOk result (λ status. Appends (O.contents out.old) (O.contents out.new) report.now.text.items
-        × (status ≡ finding_status report.now.finding)) }
-    ensures prefix { AppendsPrefix (O.contents out.old) (O.contents out.new) report.now.text.items }
-    ensures fault { IfErr result (λ fault. fault ≡ Unwritable) }
-{
-    write(&report.text, out)?;
-    flush(out)?;
-    Ok(finding_status(report.finding))
 }
 
 /// The status for what was found.
 pub(crate) fn finding_status(finding: Finding) -> u8
-    ensures { result ≡ finding_status finding }
+    ensures status { result ≡ finding_status finding }
+    ensures few { result ≤ 1 }
 {
     match finding {
         Finding::Agrees => 0,
@@ -168,7 +140,7 @@ pub(crate) fn compare_named<F: FilesByName>(
         Err(Fault::Unreadable) => return Ok(Comparison::Unread(ComparedFile::Log)),
         Err(fault) => return Err(fault),
     };
-    match trace_named(alloc, file_name, files) {
+    match run_named(alloc, file_name, true, files) {
         Ok(run) => compare_traced(alloc, names.all, &log, &run.facts, &run.traced),
         Err(Fault::Unreadable) => Ok(Comparison::Unread(ComparedFile::Vector)),
         Err(fault) => wrong_file(fault),

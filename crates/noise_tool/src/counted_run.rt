@@ -11,15 +11,14 @@ ghost use Rattle.noise_events.specs.DatagramEvents.{datagram_events_of};
 ghost use Rattle.noise_explain.specs.RunCounts.{CountsRun};
 ghost use Rattle.noise_session.specs.Datagrams.{DatagramState};
 ghost use Rattle.noise_tool.specs.Counting.{AreDatagramNotes, IsCountOf, acts_in, datagram_acts_in};
-ghost use Rattle.noise_tool.specs.Ends.{FileDuelMatches, IsStartFault};
-ghost use Rattle.noise_tool.specs.Running.{AreLast, IsRunOf, datagrams_of_version};
+ghost use Rattle.noise_run.specs.Ends.{FileDuelMatches, IsStartFault};
+ghost use Rattle.noise_run.specs.Running.{AreLast, IsRunOf, datagrams_of_version};
 
-use crate::ends::make_ends;
-use crate::report::cause_word;
 use noise_duel::{DatagramDuel, DatagramEntry, DatagramReport, Duel, Entry, Report};
 use noise_explain::{Act, RunCounts};
 use noise_lines::Fault;
 use noise_names::Role;
+use noise_run::{cause_word, make_ends};
 use noise_session::laws::end_is_reported;
 use noise_session::{End, Stage};
 use noise_vectors::{FileDatagrams, FileKeys, VectorFile, Version};

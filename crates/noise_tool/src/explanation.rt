@@ -1,97 +1,54 @@
 //! The command `explain`: what is wrong with pattern texts and vector files, in sentences, or what follows from the
 //! tokens of their patterns.
 
-ghost use Rattle.std.specs.Prelude.{◌≡◌, ◌⊎◌, ◌≤◌, ℕ, List, IfErr, IfNone, IfOk, IfSome, map, string_bytes};
-ghost use Rattle.noise_explain.specs.Shown.{unread_head};
-ghost use Rattle.noise_lines.specs.Prefixes.{AppendsPrefix};
-ghost use Rattle.noise_lines.specs.declared.faults.Fault.TheVariants.{Unreadable};
-ghost use Rattle.noise_tool.specs.Explaining.{ExplainsFiles, ExplainsPrefix, IsExplainedAt, IsExplainedPattern, IsExplainedRun, IsExplainedText, IsExplainedVector, IsUnreadName, SaysNamed, StopsExplaining, worse};
+ghost use Rattle.std.specs.Prelude.{◌≡◌, ◌≤◌, ℕ, List, IfErr, IfNone, IfOk, IfSome, map, string_bytes};
+ghost use Rattle.noise_tool.specs.Answers.{answer_value};
+ghost use Rattle.noise_tool.specs.Explaining.{IsExplainAnswer, IsExplainedAt, IsExplainedPattern, IsExplainedRun, IsExplainedText, IsExplainedVector, IsUnreadName, SaysNamed, worse};
 ghost use Rattle.noise_tool.specs.PatternNames.{NamesText};
 ghost use Rattle.noise_tool.specs.Testing.{EndsTest};
 
+use crate::answers::Answer;
 use crate::counted_run::counted_run;
 use crate::pattern_names::pattern_text;
+use crate::printing::text_of;
 use crate::testing::FilesByName;
 use noise_explain::{
     Explained, explain, explain_line, explain_long, explain_start, explain_vector, fixed,
     is_vector_text, pattern_in, unread_head,
 };
-use noise_lines::{Fault, flush, report_fault, write};
+use noise_lines::Fault;
 use noise_vectors::{AllowedEvents, VectorFault, VectorFile, read_vector};
 use std::alloc::{AllocError, Global};
-use std::io::Write;
 
 /// Explains the file of each name, one after the other. The exit status is the greatest of theirs: 0 of a right file, 1
 /// of a pattern that breaks a rule or of parties that can't be made, 2 of a wrong text. Where a file can't be read and
-/// its name is that of a pattern, this pattern is explained. Where it can't be read, which `err` says with its name, the
-/// output can't be written or memory runs out, the command ends with 3.
+/// its name is that of a pattern, this pattern is explained. Where it can't be read, which is told with its name after
+/// what is said of the files before, the output can't be written or memory runs out, the status is 3.
 ///
 /// Where `fixes` is true, the text of a pattern is printed with all changes that correct it, and nothing is said of it;
 /// the status is 0 if it is valid then. Of a vector file the same is said as else.
-pub fn explain_files<F: FilesByName, O: Write, E: Write>(
+pub fn explain_files<F: FilesByName>(
     alloc: Global,
     names: &[String],
     fixes: bool,
     files: &F,
-    out: &mut O,
-    err: &mut E,
-) -> u8
-    ensures status { result ≤ 3 }
-    ensures explained { (result ≡ 3) ⊎ ExplainsFiles fixes (F.bytes_at files.now) (F.unreadable files.now)
-        (map string_bytes names.now) (O.contents out.old) (O.contents out.new) err.old err.new result }
-    ensures outside { (result ≤ 2) ⊎ StopsExplaining (F.unreadable files.now) (map string_bytes names.now)
-        (E.contents err.old) (E.contents err.new) }
-    ensures prefix { ExplainsPrefix fixes (F.bytes_at files.now) (F.unreadable files.now) (map string_bytes names.now)
-        (O.contents out.old) (O.contents out.new) }
-{
-    match explain_each(alloc, names, fixes, files, out, err) {
-        Ok(status) => status,
-        Err(fault) => report_fault(alloc, fault, out, err),
-    }
-}
-
-fn explain_each<F: FilesByName, O: Write, E: Write>(
-    alloc: Global,
-    names: &[String],
-    fixes: bool,
-    files: &F,
-    out: &mut O,
-    err: &mut E,
-) -> Result<u8, Fault>
-    ensures status { IfOk result (λ status. status ≤ 3) }
-    ensures explained { IfOk result (λ status. (status ≡ 3)
-        ⊎ ExplainsFiles fixes (F.bytes_at files.now) (F.unreadable files.now)
-        (map string_bytes names.now) (O.contents out.old) (O.contents out.new) err.old err.new status) }
-    ensures outside { IfOk result (λ status. (status ≤ 2) ⊎ StopsExplaining (F.unreadable files.now)
-        (map string_bytes names.now) (E.contents err.old) (E.contents err.new)) }
-    ensures prefix { ExplainsPrefix fixes (F.bytes_at files.now) (F.unreadable files.now) (map string_bytes names.now)
-        (O.contents out.old) (O.contents out.new) }
+) -> Result<Answer, Fault>
+    ensures made { IfOk result (λ answer. IsExplainAnswer fixes (F.bytes_at files.now) (F.unreadable files.now)
+        (map string_bytes names.now) (answer_value answer)) }
     ensures fault { IfErr result EndsTest }
-    ensures quiet { IfErr result (λ _. err.new ≡ err.old) }
 {
     let mut status = 0;
+    let mut text = Vec::new(alloc);
     for name in names {
         let Some(explained) = explain_named(alloc, name.as_str(), fixes, files)? else {
-            return write_unread(alloc, name.as_str(), err);
+            let out = text_of(alloc, text);
+            let err = unread_head(alloc, name.as_str(), Fault::Unreadable)?;
+            return Ok(Answer::new(out, err, 3));
         };
-        write(&explained.text, out)?;
+        text.extend_from_slice(&explained.text)?;
         status = worse(status, explained.status);
     }
-    flush(out)?;
-    Ok(status)
-}
-
-// Writes that the file of this name can't be read, and gives the exit status. A refused write leaves the status.
-fn write_unread<E: Write>(alloc: Global, name: &str, err: &mut E) -> Result<u8, Fault>
-    ensures status { IfOk result (λ status. status ≡ 3) }
-    ensures written { IfOk result
-        (λ _. AppendsPrefix (E.contents err.old) (E.contents err.new) (unread_head name.now Unreadable)) }
-    ensures fault { IfErr result EndsTest }
-    ensures quiet { IfErr result (λ _. err.new ≡ err.old) }
-{
-    let line = unread_head(alloc, name, Fault::Unreadable)?;
-    let _ = write(&line, err);
-    Ok(3)
+    Ok(Answer::output(alloc, text, status))
 }
 
 fn worse(first: u8, second: u8) -> u8

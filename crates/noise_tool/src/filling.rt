@@ -1,102 +1,41 @@
 //! The command `template` with a file of values: they stand in the vector file in the place of its placeholders.
 
-ghost use Rattle.std.specs.Prelude.{◌≡◌, ◌⊎◌, ◌<◌, ◌≤◌, IfErr, IfOk, IfSome, OnOk, Some, length, string_bytes};
-ghost use Rattle.std.specs.Io.KnownBytes.{Appends};
+ghost use Rattle.std.specs.Prelude.{◌≡◌, ◌⊎◌, ◌<◌, IfErr, IfOk, IfSome, Some, length, string_bytes};
 ghost use Rattle.noise_lines.specs.Faults.{status_of};
-ghost use Rattle.noise_lines.specs.Prefixes.{AppendsPrefix};
-ghost use Rattle.noise_lines.specs.declared.faults.Fault.TheVariants.{Memory, TooLong, Unwritable};
+ghost use Rattle.noise_lines.specs.declared.faults.Fault.TheVariants.{Memory, TooLong};
 ghost use Rattle.noise_names.specs.Validity.{IsValid};
-ghost use Rattle.noise_tool.specs.Filling.{FillsFiles, FillsPrefix, IfMade, IfRefused, IsFillRefused, IsFilledBy, IsFilledText, IsRefusal, IsUnreadKeys, IsWordFault, IsWordPattern, IsWordText, IsWrongKeys, StopsFilling};
+ghost use Rattle.noise_tool.specs.Answers.{IsOutput, IsSilent, answer_value};
+ghost use Rattle.noise_tool.specs.Filling.{IsFillAnswer, IsFilledBy, IsUnreadKeys, IsWordFault, IsWordPattern, IsWordText, IsWrongKeys};
 
+use crate::answers::Answer;
 use crate::pattern_names::pattern_text;
 use crate::testing::{FilesByName, is_input};
 use noise_explain::{KeyFileFault, names_protocol, read_given, template, wrong_line_text};
 use noise_lines::{
-    Fault, Verdict, flush, named_fault, named_valid_pattern, report_fault, spelled_valid_pattern,
-    verdict_lines, write,
+    Fault, Verdict, named_fault, named_valid_pattern, spelled_valid_pattern, verdict_lines,
 };
 use noise_names::ValidPattern;
 use noise_words::Filled;
 use std::alloc::Global;
-use std::io::Write;
 
-/// What comes of a pattern and a file of values.
-#[derive(Drop)]
-pub enum Filling {
-    /// The text of the vector file.
-    Made(Vec<u8>),
-    /// The values are refused.
-    Refused(Refusal),
-}
-
-/// That a file of values is refused.
-#[derive(Drop)]
-pub struct Refusal {
-    /// The line that says why.
-    pub line: Vec<u8>,
-    /// The exit status.
-    pub status: u8,
-}
-
-/// Prints the vector file of a pattern with the values of a file, and gives the exit status: 0 without a fault; that of
-/// `template` where the pattern has one; 2 where the file of values is wrong or too long; 3 where it can't be read, the
-/// output can't be written, or memory runs out. What is wrong with the file of values is written to `err` with its name.
-pub fn fill_template<F: FilesByName, O: Write, E: Write>(
+/// The vector file of a pattern with the values of a file. The exit status is 0 without a fault; that of `template`
+/// where the pattern has one; 2 where the file of values is wrong or too long; 3 where it can't be read, the output
+/// can't be written, or memory runs out. What is wrong with the file of values is told with its name.
+pub fn fill_template<F: FilesByName>(
     alloc: Global,
     names: &Filled,
     files: &F,
-    out: &mut O,
-    err: &mut E,
-) -> u8
-    ensures status { result ≤ 3 }
-    ensures filled { result ≡ 0 → FillsFiles names.now (F.bytes_at files.now) (F.unreadable files.now)
-        (O.contents out.old) (O.contents out.new) }
-    ensures fault { 1 ≤ result → (result ≡ 3) ⊎ IsFillRefused names.now (F.bytes_at files.now)
-        (F.unreadable files.now) (O.contents out.old) (O.contents out.new) (E.contents err.old) (E.contents err.new)
-        result }
-    ensures outside { result ≡ 3 → StopsFilling names.now (F.unreadable files.now) (E.contents err.old)
-        (E.contents err.new) }
-    ensures unwritten { result ≡ 2 → out.new ≡ out.old }
-    ensures quiet { result ≡ 0 → err.new ≡ err.old }
-    ensures prefix { (out.new ≡ out.old) ⊎ FillsPrefix names.now (F.bytes_at files.now) (F.unreadable files.now)
-        (O.contents out.old) (O.contents out.new) }
-{
-    match fill_named(alloc, names, files) {
-        Ok(Filling::Made(text)) => match print_whole(&text, out) {
-            Ok(()) => 0,
-            Err(fault) => report_fault(alloc, fault, out, err),
-        },
-        Ok(Filling::Refused(refusal)) => {
-            let _ = write(&refusal.line, err);
-            refusal.status
-        }
-        Err(fault) => report_fault(alloc, fault, out, err),
-    }
-}
-
-// Prints a text.
-fn print_whole<O: Write>(text: &[u8], out: &mut O) -> Result<(), Fault>
-    ensures printed { OnOk result (Appends (O.contents out.old) (O.contents out.new) text.now) }
-    ensures fault { IfErr result (λ fault. fault ≡ Unwritable) }
-    ensures prefix { AppendsPrefix (O.contents out.old) (O.contents out.new) text.now }
-{
-    write(text, out)?;
-    flush(out)
-}
-
-// What comes of the pattern and the file of values of these names.
-fn fill_named<F: FilesByName>(alloc: Global, names: &Filled, files: &F) -> Result<Filling, Fault>
-    ensures made { IfOk result (λ filling. IfMade filling (λ text. IsFilledText names.now (F.bytes_at files.now)
-        (F.unreadable files.now) text.items)) }
-    ensures refused { IfOk result (λ filling. IfRefused filling (IsRefusal names.now (F.bytes_at files.now)
-        (F.unreadable files.now))) }
+) -> Result<Answer, Fault>
+    ensures made { IfOk result (λ answer. IsFillAnswer names.now (F.bytes_at files.now) (F.unreadable files.now)
+        (answer_value answer)) }
     ensures fault { IfErr result (λ fault. (status_of fault ≡ 3)
         ⊎ IsWordFault (string_bytes names.now.pattern) (F.bytes_at files.now) (F.unreadable files.now) fault) }
+    ensures silent { IfOk result IsSilent }
 {
     let (word, keys) = (names.pattern.as_str(), names.keys.as_str());
     if is_input(word) && is_input(keys) {
         let line = verdict_lines(alloc, "-", &Verdict::NamedTwice)?;
-        return Ok(Filling::Refused(Refusal { line, status: 2 }));
+        return Ok(Answer::refusal(alloc, line, 2));
     }
     let pattern = word_pattern(alloc, word, files)?;
     match files.read(alloc, keys) {
@@ -106,18 +45,15 @@ fn fill_named<F: FilesByName>(alloc: Global, names: &Filled, files: &F) -> Resul
 }
 
 // That a file of values isn't read; memory that runs out is handed on.
-fn refuse_keys(alloc: Global, keys: &str, fault: Fault) -> Result<Filling, Fault>
-    ensures made { IfOk result (λ filling. IfMade filling (λ _. ⊥)) }
-    ensures refused { IfOk result (λ filling. IfRefused filling (IsUnreadKeys keys.now fault)) }
+fn refuse_keys(alloc: Global, keys: &str, fault: Fault) -> Result<Answer, Fault>
+    ensures refused { IfOk result (λ answer. IsUnreadKeys keys.now fault (answer_value answer)) }
     ensures fault { IfErr result (λ other. (status_of fault ≡ 3) ⊎ (fault ≡ TooLong) → status_of other ≡ 3) }
+    ensures silent { IfOk result IsSilent }
 {
     match fault {
         Fault::TooLong | Fault::Unreadable => {
             let line = verdict_lines(alloc, keys, &Verdict::CannotRun(fault))?;
-            Ok(Filling::Refused(Refusal {
-                line,
-                status: fault.status(),
-            }))
+            Ok(Answer::refusal(alloc, line, fault.status()))
         }
         other => Err(other),
     }
@@ -153,21 +89,22 @@ fn word_text<F: FilesByName>(alloc: Global, word: &str, files: &F) -> Result<Vec
     }
 }
 
-// What comes of a pattern and a file of values of this name and text.
-fn fill(alloc: Global, valid: &ValidPattern, keys: &str, text: &[u8]) -> Result<Filling, Fault>
-    ensures made { IfOk result (λ filling. IfMade filling (λ made. IsValid valid.now
-        × IsFilledBy valid.now (Some text.now) made.items)) }
-    ensures refused { IfOk result (λ filling. IfRefused filling (IsWrongKeys valid.now keys.now (Some text.now))) }
+// What is answered of a pattern and a file of values of this name and text.
+fn fill(alloc: Global, valid: &ValidPattern, keys: &str, text: &[u8]) -> Result<Answer, Fault>
+    ensures made { IfOk result (λ answer. (IsValid valid.now × IsFilledBy valid.now (Some text.now)
+        (answer_value answer).out × IsOutput (answer_value answer) 0)
+        ⊎ IsWrongKeys valid.now keys.now (Some text.now) (answer_value answer)) }
     ensures fault { IfErr result (λ fault. fault ≡ Memory) }
+    ensures silent { IfOk result IsSilent }
 {
     let pattern = valid.pattern();
     match read_given(alloc, pattern, text) {
-        Ok(given) => Ok(Filling::Made(template(alloc, pattern, &given)?)),
+        Ok(given) => Ok(Answer::output(alloc, template(alloc, pattern, &given)?, 0)),
         Err(KeyFileFault::Memory) => Err(Fault::Memory),
         Err(KeyFileFault::Line(number, why)) => {
             let why = wrong_line_text(alloc, pattern, number, why)?;
             let line = named_fault(alloc, keys, why.as_str())?;
-            Ok(Filling::Refused(Refusal { line, status: 2 }))
+            Ok(Answer::refusal(alloc, line, 2))
         }
     }
 }

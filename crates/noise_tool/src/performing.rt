@@ -1,37 +1,29 @@
 //! Doing what the command line asks for.
 
-ghost use Rattle.std.specs.Prelude.{◌≡◌, ◌⊎◌, ◌≤◌, [], ℕ, List, Some, true, IfErr, IfOk, OnOk, length, option_map, vec_len};
+ghost use Rattle.std.specs.Prelude.{◌≡◌, ◌⊎◌, ◌≤◌, List, Some, true, IfErr, IfOk, option_map, vec_len};
 ghost use Rattle.noise_lines.specs.Faults.{status_of};
-ghost use Rattle.std.specs.Io.KnownBytes.{Appends};
-ghost use Rattle.noise_names.specs.Lists.{bytes_of};
-ghost use Rattle.noise_vectors.specs.VectorFile.{IsVectorFile};
-ghost use Rattle.noise_vectors.specs.VectorText.{file_text};
 ghost use Rattle.noise_vectors.specs.declared.vector.AllowedEvents.TheVariants.{VersionOne};
-ghost use Rattle.noise_vectors.specs.declared.vector.Version.TheVariants.{One};
-ghost use Rattle.noise_tool.specs.Performing.{Converts, HasConverted, HasRun, IfCommand, IfCompare, IfDocument, IfExplain, IfFill, IfTest, IsDone, IsFault, IsKnownAs, IsLongFile, IsNotMet, IsOfLines, IsPlain, IsReadVector, IsRunFault, IsTooLongConverted, IsUnlike, IsUnreadFile, LeavesAtTwo, OfAsked, file_of, takes_pattern};
-ghost use Rattle.noise_tool.specs.Templating.{HasTemplated, IsTemplateFault};
+ghost use Rattle.noise_tool.specs.Answers.{IsSilent, answer_value, fault_value};
+ghost use Rattle.noise_tool.specs.Performing.{AreMet, Converts, DifferAt, GivesText, IfCommand, IfCompare, IfDocument, IfExplain, IfFill, IfTest, IsCommandAnswer, IsDone, IsFault, IsKnownAs, IsLongFile, IsPlain, IsReadVector, IsRunFault, IsRunText, IsTooLongConverted, IsUnmet, LeavesAtTwo, OfAsked, file_of, takes_pattern};
+ghost use Rattle.noise_tool.specs.Templating.{IsTemplateFault, IsTemplated};
 ghost use Rattle.noise_tool.specs.Outcomes.{CommandOutcome, CompareOutcome, DocumentOutcome, ExplainOutcome, FillOutcome, TestOutcome};
-ghost use Rattle.noise_tool.specs.Prefixes.{PrintsConvertedPrefix, PrintsPrefix, PrintsRunPrefix};
-ghost use Rattle.noise_lines.specs.Lines.{lines_text};
-ghost use Rattle.noise_lines.specs.Prefixes.{AppendsPrefix};
-ghost use Rattle.noise_lines.specs.Verdicts.{IsMet};
-ghost use Rattle.noise_lines.specs.declared.faults.Fault.{Fault};
-ghost use Rattle.noise_lines.specs.declared.faults.Fault.TheVariants.{TooLong, Unreadable};
-ghost use Rattle.noise_tool.specs.PatternNames.{HasShown, IsShownFault, NamesText};
+ghost use Rattle.noise_lines.specs.declared.faults.Fault.TheVariants.{TooLong};
+ghost use Rattle.noise_tool.specs.PatternNames.{NamesText};
 
-use crate::compared_document::write_compared;
+use crate::answers::Answer;
+use crate::compared_document::document_answer;
 use crate::comparison::compare_log;
 use crate::explanation::explain_files;
 use crate::filling::fill_template;
-use crate::laws::conversions_meet_themselves;
 use crate::pattern_names::{pattern_text, show_word};
-use crate::run::{Outcome, replay};
-use crate::testing::{FilesByName, test};
-use crate::trace_file::trace_chosen;
+use crate::printing::print;
+use crate::testing::{FilesByName, test, untraced};
+use crate::trace_file::{run_answer, trace_chosen};
 use noise_explain::{named_template, names_protocol, spelled_template};
-use noise_lines::{Fault, check, compare, convert, flush, list, report_fault, write, write_lines};
+use noise_lines::{Fault, check, convert, list};
+use noise_run::{conversions_meet_themselves, replay};
 use noise_vectors::{AllowedEvents, VectorFile, read_vector};
-use noise_words::{Chosen, Documented, Order};
+use noise_words::{Chosen, Order};
 use std::alloc::Global;
 use std::io::Write;
 
@@ -70,23 +62,32 @@ pub fn perform<F: FilesByName, O: Write, E: Write>(
     ensures quiet { result ≡ 0 → err.new ≡ err.old }
 {
     match order {
-        Order::Command(chosen) => match asked_text(alloc, chosen, files) {
-            Ok(text) => match run(alloc, chosen, &text, out) {
-                Ok(()) => 0,
-                Err(fault) => report_fault(alloc, fault, out, err),
-            },
-            Err(fault) => report_fault(alloc, fault, out, err),
-        },
+        Order::Command(chosen) => print(alloc, command_answer(alloc, chosen, files), out, err),
         Order::Test(asked) => test(alloc, &asked.files, asked.traces, files, out, err),
         Order::Explain(asked) => {
-            explain_files(alloc, &asked.files, asked.fixes, files, out, err)
+            let made = explain_files(alloc, &asked.files, asked.fixes, files);
+            print(alloc, made, out, err)
         }
-        Order::Compare(names) => compare_log(alloc, names, files, out, err),
-        Order::Document(Documented::Compare(names)) => {
-            write_compared(alloc, names, files, out, err)
-        }
-        Order::Fill(names) => fill_template(alloc, names, files, out, err),
+        Order::Compare(names) => print(alloc, compare_log(alloc, names, files), out, err),
+        Order::Document(asked) => print(alloc, document_answer(alloc, asked, files), out, err),
+        Order::Fill(names) => print(alloc, fill_template(alloc, names, files), out, err),
     }
+}
+
+// What a command on at most one file answers.
+fn command_answer<F: FilesByName>(
+    alloc: Global,
+    chosen: &Chosen,
+    files: &F,
+) -> Result<Answer, Fault>
+    ensures made { IfOk result (λ answer. IsCommandAnswer (F.bytes_at files.now) (F.unreadable files.now) chosen.now
+        (answer_value answer)) }
+    ensures fault { IfErr result (λ fault. IsCommandAnswer (F.bytes_at files.now) (F.unreadable files.now) chosen.now
+        (fault_value fault)) }
+    ensures silent { IfOk result IsSilent }
+{
+    let text = asked_text(alloc, chosen, files)?;
+    answer_on(alloc, chosen, &text)
 }
 
 // The bytes that a command is done on: those of the file that it names, if it names one, or of a pattern's text.
@@ -96,7 +97,6 @@ fn asked_text<F: FilesByName>(alloc: Global, chosen: &Chosen, files: &F) -> Resu
     ensures bound { IfOk result (λ text. vec_len text ≤ 4194304) }
     ensures fault { IfErr result (λ fault. (status_of fault ≡ 3) ⊎ ((fault ≡ TooLong)
         × OfAsked (F.bytes_at files.now) (F.unreadable files.now) chosen.now (IsLongFile chosen.now))) }
-    ensures unread { IfErr result (λ fault. fault ≡ Unreadable → IsUnreadFile (F.unreadable files.now) chosen.now) }
 {
     let Some(name) = asked_file(chosen) else {
         return Ok(Vec::new(alloc));
@@ -113,8 +113,6 @@ fn named_text(alloc: Global, chosen: &Chosen, name: &str) -> Result<Vec<u8>, Fau
     ensures text { IfOk result (λ text. (takes_pattern chosen.now ≡ true) × NamesText name.now text.items) }
     ensures bound { IfOk result (λ text. vec_len text ≤ 4194304) }
     ensures fault { IfErr result (λ fault. status_of fault ≡ 3) }
-    ensures unread { IfErr result (λ fault. fault ≡ Unreadable → takes_pattern chosen.now ≡ true
-        → (text : List ℕ) → NamesText name.now text → ⊥) }
 {
     if !takes_pattern(chosen) {
         return Err(Fault::Unreadable);
@@ -148,60 +146,40 @@ fn takes_pattern(chosen: &Chosen) -> bool
     matches!(chosen, Chosen::Check(_) | Chosen::Template(_))
 }
 
-// Does a command on these bytes: those of the file that it names, or of a pattern's text. `list`, `show` and `template`
-// of a protocol name read none of them.
-fn run<O: Write>(alloc: Global, chosen: &Chosen, text: &[u8], out: &mut O) -> Result<(), Fault>
-    requires short { length text.now ≤ 4194304 }
-    ensures done { OnOk result (IsDone chosen.now (Some text.now) (O.contents out.old) (O.contents out.new)) }
-    ensures fault { IfErr result (λ fault. (status_of fault ≡ 3)
-        ⊎ IsFault chosen.now (Some text.now) (O.contents out.old) (O.contents out.new) fault) }
-    ensures unwritten { IfErr result (λ fault. (status_of fault ≡ 3) ⊎ IsOfLines fault ⊎ (out.new ≡ out.old)) }
-    ensures prefix { (out.new ≡ out.old)
-        ⊎ PrintsPrefix chosen.now (Some text.now) (O.contents out.old) (O.contents out.new) }
+// What a command answers on these bytes: those of the file that it names, or of a pattern's text. `list`, `show` and
+// `template` of a protocol name read none of them.
+fn answer_on(alloc: Global, chosen: &Chosen, text: &[u8]) -> Result<Answer, Fault>
+    ensures made { IfOk result (λ answer. GivesText (IsDone chosen.now (Some text.now))
+        (IsUnmet chosen.now (Some text.now)) (answer_value answer)) }
+    ensures fault { IfErr result (λ fault. (status_of fault ≡ 3) ⊎ IsFault chosen.now (Some text.now) fault) }
+    ensures silent { IfOk result IsSilent }
 {
     match chosen {
-        Chosen::List => print(&list(alloc)?, out),
-        Chosen::Show(word) => print_shown(alloc, word.as_str(), out),
-        Chosen::Check(_) => print(&check(alloc, text)?, out),
-        Chosen::Template(word) => print_template(alloc, word.as_str(), text, out),
-        Chosen::Talk(_) => run_file(alloc, AllowedEvents::SayOnly, text, out),
-        Chosen::Replay(_) => run_file(alloc, AllowedEvents::Any, text, out),
-        Chosen::Convert(_) => convert_file(alloc, text, out),
-        Chosen::Trace(traced) => trace_chosen(alloc, traced, text, out),
+        Chosen::List => Ok(Answer::output(alloc, list(alloc)?, 0)),
+        Chosen::Show(word) => Ok(Answer::output(alloc, show_word(alloc, word.as_str())?, 0)),
+        Chosen::Check(_) => Ok(Answer::output(alloc, check(alloc, text)?, 0)),
+        Chosen::Template(word) => Ok(Answer::output(
+            alloc,
+            template_text(alloc, word.as_str(), text)?,
+            0,
+        )),
+        Chosen::Talk(_) => run_file(alloc, AllowedEvents::SayOnly, text),
+        Chosen::Replay(_) => run_file(alloc, AllowedEvents::Any, text),
+        Chosen::Convert(_) => Ok(Answer::output(alloc, converted_file(alloc, text)?, 0)),
+        Chosen::Trace(traced) => trace_chosen(alloc, traced, text),
     }
 }
 
-// Prints the pattern of the protocol name that a word stands for.
-fn print_shown<O: Write>(alloc: Global, word: &str, out: &mut O) -> Result<(), Fault>
-    ensures done { OnOk result (HasShown word.now (O.contents out.old) (O.contents out.new)) }
-    ensures fault { IfErr result (λ fault. (status_of fault ≡ 3) ⊎ IsShownFault word.now fault) }
-    ensures unwritten { IfErr result (λ fault. (status_of fault ≡ 3) ⊎ (out.new ≡ out.old)) }
-    ensures prefix { (out.new ≡ out.old) ⊎ ((text : List ℕ) × HasShown word.now (Some []) (Some text)
-        × AppendsPrefix (O.contents out.old) (O.contents out.new) text) }
-{
-    let text = show_word(alloc, word)?;
-    print(&text, out)
-}
-
-// Prints the template of the pattern that has this protocol name, or else of the one that the file spells.
-fn print_template<O: Write>(
-    alloc: Global,
-    word: &str,
-    text: &[u8],
-    out: &mut O,
-) -> Result<(), Fault>
-    ensures done { OnOk result (HasTemplated word.now (Some text.now) (O.contents out.old) (O.contents out.new)) }
-    ensures fault { IfErr result (λ fault. (status_of fault ≡ 3)
-        ⊎ IsTemplateFault word.now (Some text.now) fault) }
-    ensures unwritten { IfErr result (λ fault. (status_of fault ≡ 3) ⊎ (out.new ≡ out.old)) }
-    ensures prefix { (out.new ≡ out.old) ⊎ ((template : List ℕ)
-        × HasTemplated word.now (Some text.now) (Some []) (Some template)
-        × AppendsPrefix (O.contents out.old) (O.contents out.new) template) }
+// The template of the pattern that has this protocol name, or else of the one that the file spells.
+fn template_text(alloc: Global, word: &str, text: &[u8]) -> Result<Vec<u8>, Fault>
+    ensures made { IfOk result (λ template. IsTemplated word.now (Some text.now) template.items) }
+    ensures fault { IfErr result (λ fault. IsTemplateFault word.now (Some text.now) fault) }
 {
     if names_protocol(word) {
-        return print(&named_template(alloc, word.as_bytes())?, out);
+        named_template(alloc, word.as_bytes())
+    } else {
+        spelled_template(alloc, text)
     }
-    print(&spelled_template(alloc, text)?, out)
 }
 
 // What the text of a vector file of what is allowed says.
@@ -216,72 +194,26 @@ pub(crate) fn vector_of(
     Ok(read_vector(alloc, text, allowed)?)
 }
 
-// Runs two parties on a vector file, prints what they do, and compares it with what the file expects.
-fn run_file<O: Write>(
-    alloc: Global,
-    allowed: AllowedEvents,
-    text: &[u8],
-    out: &mut O,
-) -> Result<(), Fault>
-    ensures done { OnOk result (HasRun IsPlain text.now (O.contents out.old) (O.contents out.new)) }
-    ensures fault { IfErr result (λ fault. (status_of fault ≡ 3)
-        ⊎ IsNotMet IsPlain allowed (Some text.now) (O.contents out.old) (O.contents out.new) fault) }
-    ensures unwritten { IfErr result (λ fault. (status_of fault ≡ 3) ⊎ IsOfLines fault ⊎ (out.new ≡ out.old)) }
-    ensures prefix { (out.new ≡ out.old)
-        ⊎ PrintsRunPrefix IsPlain (Some text.now) (O.contents out.old) (O.contents out.new) }
+// The lines of two parties on a vector file, and whether they are what the file expects.
+fn run_file(alloc: Global, allowed: AllowedEvents, text: &[u8]) -> Result<Answer, Fault>
+    ensures made { IfOk result (λ answer. GivesText (IsRunText IsPlain AreMet text.now)
+        (λ number. IsRunText IsPlain (DifferAt number) text.now) (answer_value answer)) }
+    ensures fault { IfErr result (λ fault. (status_of fault ≡ 3) ⊎ IsRunFault allowed text.now fault) }
+    ensures silent { IfOk result IsSilent }
 {
     let vector = vector_of(alloc, allowed, text)?;
-    let outcome = replay(alloc, vector)?;
-    print_outcome(&outcome, out)
+    let traced = untraced(alloc, vector)?;
+    Ok(run_answer(alloc, traced)?)
 }
 
-// Prints the lines of a run, and compares them with those that are expected, if any are.
-fn print_outcome<O: Write>(outcome: &Outcome, out: &mut O) -> Result<(), Fault>
-    ensures printed { OnOk result (Appends (O.contents out.old) (O.contents out.new) (lines_text
-        (bytes_of outcome.now.lines.items))) }
-    ensures met { OnOk result (IsMet (bytes_of outcome.now.expected.items) (bytes_of outcome.now.lines.items)) }
-    ensures fault { IfErr result (λ fault. (status_of fault ≡ 3) ⊎ IsUnlike (bytes_of outcome.now.lines.items)
-        outcome.now (O.contents out.old) (O.contents out.new) fault) }
-    ensures prefix { AppendsPrefix (O.contents out.old) (O.contents out.new) (lines_text
-        (bytes_of outcome.now.lines.items)) }
-{
-    write_lines(&outcome.lines, out)?;
-    flush(out)?;
-    compare(&outcome.lines, &outcome.expected)
-}
-
-// Prints a version 1 vector file as one of version 2.
-fn convert_file<O: Write>(alloc: Global, text: &[u8], out: &mut O) -> Result<(), Fault>
-    ensures done { OnOk result (HasConverted text.now (O.contents out.old) (O.contents out.new)) }
-    ensures fault { IfErr result (λ fault. (status_of fault ≡ 3)
-        ⊎ IsRunFault VersionOne text.now fault ⊎ IsTooLongConverted text.now fault) }
-    ensures unwritten { IfErr result (λ fault. (status_of fault ≡ 3) ⊎ (out.new ≡ out.old)) }
-    ensures prefix { (out.new ≡ out.old)
-        ⊎ PrintsConvertedPrefix (Some text.now) (O.contents out.old) (O.contents out.new) }
-{
-    let vector = vector_of(alloc, AllowedEvents::VersionOne, text)?;
-    print(&convert_vector(alloc, text, vector)?, out)
-}
-
-// The text of version 2 of this file, which has this text.
-fn convert_vector(alloc: Global, text: &[u8], file: VectorFile) -> Result<Vec<u8>, Fault>
-    requires right { IsVectorFile file }
-    requires first { file.version ≡ One }
-    requires text { text.now ≡ file_text file }
+// A version 1 vector file as one of version 2.
+fn converted_file(alloc: Global, text: &[u8]) -> Result<Vec<u8>, Fault>
     ensures converted { IfOk result (λ converted. Converts text.now converted.items) }
     ensures fault { IfErr result
         (λ fault. (status_of fault ≡ 3) ⊎ IsRunFault VersionOne text.now fault ⊎ IsTooLongConverted text.now fault) }
 {
-    let outcome = replay(alloc, file)?;
+    let vector = vector_of(alloc, AllowedEvents::VersionOne, text)?;
+    let outcome = replay(alloc, vector)?;
     conversions_meet_themselves();
     convert(alloc, text, &outcome.lines)
-}
-
-fn print<O: Write>(text: &[u8], out: &mut O) -> Result<(), Fault>
-    ensures printed { OnOk result (Appends (O.contents out.old) (O.contents out.new) text.now) }
-    ensures fault { IfErr result (λ fault. status_of fault ≡ 3) }
-    ensures prefix { AppendsPrefix (O.contents out.old) (O.contents out.new) text.now }
-{
-    write(text, out)?;
-    flush(out)
 }

@@ -1,7 +1,6 @@
 //! The command `test`: vector files are run, and each run is compared with what its file expects.
 
-ghost use Rattle.std.specs.Prelude.{◌≡◌, ◌⊎◌, ◌<◌, ◌≤◌, ◌&&◌, ◌||◌, ℕ, Bool, List, Option, true, false, IfErr, IfOk, IfSome, IsTrue, OnOk, length, map, string_bytes, vec_len};
-ghost use Rattle.std.specs.Io.KnownBytes.{Appends};
+ghost use Rattle.std.specs.Prelude.{◌≡◌, ◌⊎◌, ◌<◌, ◌≤◌, ◌++◌, ◌&&◌, ◌||◌, ℕ, Bool, List, Option, true, false, IfErr, IfOk, IfSome, IsTrue, OnOk, length, map, string_bytes, vec_len};
 ghost use Rattle.noise_lines.specs.Faults.{status_of};
 ghost use Rattle.noise_lines.specs.Prefixes.{AppendsPrefix};
 ghost use Rattle.noise_lines.specs.Reported.{error_text};
@@ -9,30 +8,28 @@ ghost use Rattle.noise_lines.specs.declared.faults.Fault.{Fault};
 ghost use Rattle.noise_lines.specs.declared.faults.Fault.TheVariants.{TooLong, Unreadable};
 ghost use Rattle.noise_names.specs.Lists.{bytes_of};
 ghost use Rattle.noise_vectors.specs.declared.vector.AllowedEvents.TheVariants.{Any};
-ghost use Rattle.noise_tool.specs.Ends.{IsFilePattern, IsStartFault};
+ghost use Rattle.noise_run.specs.Ends.{IsFilePattern, IsStartFault};
 ghost use Rattle.noise_tool.specs.FileFacts.{AreFactsOfText};
 ghost use Rattle.noise_tool.specs.Performing.{IsRunFault};
-ghost use Rattle.noise_tool.specs.Running.{IsRunOf, expected_in};
-ghost use Rattle.noise_tool.specs.Testing.{ComesOf, EndsTest, HasBegunTest, HasTested, HaveTested, IsPatternOfText, IsPieceOf, IsTested, RunsTo, SayPiece, TestsPrefix, tested_names, below_of, is_input, listed, tally_line, tested_text, unexpected_lines};
-ghost use Rattle.noise_tool.specs.TracedText.{front_if};
+ghost use Rattle.noise_run.specs.Running.{IsRunOf, expected_in};
+ghost use Rattle.noise_tool.specs.Testing.{ComesOf, EndsTest, HaveTested, IsPatternOfText, IsTested, IsTestedFile, RunsTo, SayPiece, TestsPrefix, tested_names, is_input, listed, tally_line, unexpected_lines};
 ghost use Rattle.noise_lines.specs.Lines.{lines_text};
 ghost use Rattle.noise_lines.specs.Verdicts.{bytes_in, verdict_text};
 ghost use Rattle.noise_lines.specs.declared.verdict.Verdict.TheVariants.{CannotRun};
 ghost use Rattle.noise_vectors.specs.VectorFile.{IsVectorFile};
 ghost use Rattle.noise_vectors.specs.VectorText.{file_text};
+ghost use Rattle.noise_tool.specs.Answers.{printed_text};
+ghost use Rattle.noise_tool.specs.TracedText.{trace_lines};
 
-use crate::ends::valid_pattern;
+use crate::answers::Text;
 use crate::file_facts::facts_of;
-use crate::key_use_lines::ALL_LINES;
-use crate::run::replay;
-use crate::trace_file::write_front;
-use crate::tracing::{Traced, trace_text};
+use crate::printing::{print, text_of, write_text};
+use crate::trace_file::{trace_text, with_front};
 use noise_compare::Facts;
 use noise_explain::difference_line;
-use noise_lines::{
-    Difference, Fault, Verdict, flush, judge, report_fault, verdict_lines, write, write_lines,
-};
+use noise_lines::{Difference, Fault, Verdict, flush, judge, verdict_lines, write};
 use noise_names::{Pattern, ValidPattern};
+use noise_run::{ALL_LINES, Traced, replay, valid_pattern};
 use noise_vectors::{AllowedEvents, VectorFile, read_vector};
 use std::alloc::{AllocError, Global};
 use std::io::Write;
@@ -92,7 +89,7 @@ pub fn test<F: FilesByName, O: Write, E: Write>(
 {
     match test_all(alloc, names, traces, files, out) {
         Ok(status) => status,
-        Err(fault) => report_fault(alloc, fault, out, err),
+        Err(fault) => print(alloc, Err(fault), out, err),
     }
 }
 
@@ -117,7 +114,8 @@ fn test_all<F: FilesByName, O: Write>(
     Ok(if failed == 0 { 0 } else { 1 })
 }
 
-// Tests one file after the other, and counts those that passed, and those that failed.
+// Tests one file after the other, and counts those that passed, and those that failed. The text of each is written
+// before the next file is read.
 fn test_each<F: FilesByName, O: Write>(
     alloc: Global,
     names: &[String],
@@ -138,7 +136,9 @@ fn test_each<F: FilesByName, O: Write>(
         let name = name.as_str();
         let again = is_again(name, named);
         named = is_named(name, named);
-        if test_file(alloc, name, again, traces, files, out)? {
+        let (text, met) = tested_file(alloc, name, again, traces, files)?;
+        write_text(&text, out)?;
+        if met {
             passed += 1;
         } else {
             failed += 1;
@@ -168,176 +168,102 @@ fn is_named(name: &str, named: bool) -> bool
     named || is_input(name)
 }
 
-// Runs the file of this name, if it isn't standard input again, and writes what comes of it. Whether it passed.
-fn test_file<F: FilesByName, O: Write>(
+// Runs the file of this name, if it isn't standard input again: what is printed of it, and whether it passed.
+fn tested_file<F: FilesByName>(
     alloc: Global,
     name: &str,
     again: bool,
     traces: bool,
     files: &F,
-    out: &mut O,
-) -> Result<bool, Fault>
-    ensures tested { IfOk result (HasTested again traces (F.bytes_at files.now name.now)
-        (F.unreadable files.now name.now) name.now (O.contents out.old) (O.contents out.new)) }
-    ensures prefix { IfErr result (λ _. (out.new ≡ out.old) ⊎ HasBegunTest again traces
-        (F.bytes_at files.now name.now) (F.unreadable files.now name.now) name.now (O.contents out.old)
-        (O.contents out.new)) }
+) -> Result<(Text, bool), Fault>
+    ensures tested { IfOk result (λ tested. IsTestedFile again traces (F.bytes_at files.now name.now)
+        (F.unreadable files.now name.now) name.now (printed_text tested.0) tested.1) }
     ensures fault { IfErr result EndsTest }
 {
     if again {
-        return write_unrun(alloc, name, &Verdict::NamedTwice, out);
+        return Ok(unrun(alloc, name, &Verdict::NamedTwice)?);
     }
     match run_named(alloc, name, traces, files) {
-        Ok(run) => write_run(alloc, name, traces, &run, out),
-        Err(fault) => write_unrun(alloc, name, &fault_verdict(fault)?, out),
+        Ok(run) => Ok(tested_run(alloc, name, traces, run)?),
+        Err(fault) => Ok(unrun(alloc, name, &fault_verdict(fault)?)?),
     }
 }
 
-// Writes what a run comes to. Whether the file passed.
-fn write_run<O: Write>(
+// What is printed of a run, and whether the file passed.
+fn tested_run(
     alloc: Global,
     name: &str,
     traces: bool,
-    run: &TestedRun,
-    out: &mut O,
-) -> Result<bool, Fault>
-    ensures tested { (known : Option (List ℕ)) (unreadable : Bool) → ComesOf traces known run.now
-        → IfOk result (HasTested false traces known unreadable name.now (O.contents out.old) (O.contents out.new)) }
-    ensures prefix { (known : Option (List ℕ)) (unreadable : Bool) → ComesOf traces known run.now
-        → IfErr result (λ _. (out.new ≡ out.old) ⊎ HasBegunTest false traces known unreadable name.now
-        (O.contents out.old) (O.contents out.new)) }
-    ensures fault { IfErr result EndsTest }
+    run: TestedRun,
+) -> Result<(Text, bool), AllocError>
+    ensures { (known : Option (List ℕ)) (unreadable : Bool) → ComesOf traces known run
+        → IfOk result (λ tested. IsTestedFile false traces known unreadable name.now (printed_text tested.0) tested.1) }
 {
-    let outcome = &run.traced.outcome;
-    let verdict = judge(&outcome.lines, &outcome.expected)?;
-    let piece = piece_lines(alloc, &run.pattern, &verdict)?;
-    write_verdict(alloc, name, traces, &verdict, &piece, &run.traced, out)?;
-    Ok(verdict.is_met())
+    let TestedRun {
+        traced,
+        pattern,
+        ..
+    } = run;
+    let verdict = judge(&traced.outcome.lines, &traced.outcome.expected)?;
+    let text = verdict_lines(alloc, name, &verdict)?;
+    let Verdict::Differs(difference) = &verdict else {
+        return Ok((text_of(alloc, text), verdict.is_met()));
+    };
+    let line = piece_line(alloc, &pattern, difference)?;
+    let head = with_line(text, line)?;
+    Ok((
+        with_front(alloc, head, traces, traced, difference.number),
+        false,
+    ))
+}
+
+// A text with this line after it, if there is one.
+fn with_line(mut text: Vec<u8>, line: Option<Vec<u8>>) -> Result<Vec<u8>, AllocError>
+    ensures { IfOk result (λ more. more.items ≡ text.items ++ lines_text (listed (bytes_in line))) }
+{
+    let Some(line) = line else {
+        return Ok(text);
+    };
+    text.extend_from_slice(&line)?;
+    text.push(b'\n')?;
+    Ok(text)
 }
 
 // The line of the piece of a message at which the frame of a run differs, or of the part of a state, if one does.
-fn piece_lines(
-    alloc: Global,
-    pattern: &ValidPattern,
-    verdict: &Verdict,
-) -> Result<Vec<Vec<u8>>, AllocError>
-    ensures { IfOk result (λ lines. IsPieceOf pattern.now verdict.now (bytes_of lines.items)) }
-{
-    match verdict {
-        Verdict::Differs(difference) => difference_lines(alloc, pattern, difference),
-        Verdict::Met | Verdict::CannotRun(_) | Verdict::ExpectsNothing | Verdict::NamedTwice => {
-            Ok(Vec::new(alloc))
-        }
-    }
-}
-
-fn difference_lines(
+fn piece_line(
     alloc: Global,
     pattern: &ValidPattern,
     difference: &Difference,
-) -> Result<Vec<Vec<u8>>, AllocError>
-    ensures { IfOk result (λ lines. SayPiece pattern.now (bytes_in difference.now.expected)
-        (bytes_in difference.now.printed) (bytes_of lines.items)) }
+) -> Result<Option<Vec<u8>>, AllocError>
+    ensures { IfOk result (λ line. SayPiece pattern.now (bytes_in difference.now.expected)
+        (bytes_in difference.now.printed) (listed (bytes_in line))) }
 {
     let Some(printed) = &difference.printed else {
-        return Ok(Vec::new(alloc));
+        return Ok(None);
     };
-    let Some(expected) = &difference.expected else {
-        return unexpected_lines(alloc, printed);
-    };
-    let line = difference_line(alloc, pattern, expected, printed)?;
-    one_line(alloc, line)
+    match &difference.expected {
+        Some(expected) => difference_line(alloc, pattern, expected, printed),
+        None => unexpected_line(alloc, printed),
+    }
 }
 
 // What is said of a line of the run where no more are expected.
-fn unexpected_lines(alloc: Global, printed: &[u8]) -> Result<Vec<Vec<u8>>, AllocError>
-    ensures { IfOk result (λ lines. bytes_of lines.items ≡ unexpected_lines printed.now) }
+fn unexpected_line(alloc: Global, printed: &[u8]) -> Result<Option<Vec<u8>>, AllocError>
+    ensures { IfOk result (λ line. listed (bytes_in line) ≡ unexpected_lines printed.now) }
 {
-    let mut lines = Vec::new(alloc);
-    if printed.starts_with(b"state ".as_slice()) {
-        let text = b"all frames agree: the file doesn't expect this state".as_slice();
-        lines.push(Vec::from_slice(alloc, text)?)?;
+    if !printed.starts_with(b"state ".as_slice()) {
+        return Ok(None);
     }
-    Ok(lines)
+    let text = b"all frames agree: the file doesn't expect this state".as_slice();
+    Ok(Some(Vec::from_slice(alloc, text)?))
 }
 
-// This line, if there is one.
-fn one_line(alloc: Global, line: Option<Vec<u8>>) -> Result<Vec<Vec<u8>>, AllocError>
-    ensures { IfOk result (λ lines. bytes_of lines.items ≡ listed (bytes_in line)) }
-{
-    let mut lines = Vec::new(alloc);
-    if let Some(line) = line {
-        lines.push(line)?;
-    }
-    Ok(lines)
-}
-
-// Writes the verdict on a run, and where the run differs these lines of the piece, and the front of its trace if traces
-// are wanted.
-fn write_verdict<O: Write>(
-    alloc: Global,
-    name: &str,
-    traces: bool,
-    verdict: &Verdict,
-    piece: &[Vec<u8>],
-    traced: &Traced,
-    out: &mut O,
-) -> Result<(), Fault>
-    ensures written { OnOk result (Appends (O.contents out.old) (O.contents out.new)
-        (tested_text name.now verdict.now (below_of traces verdict.now (bytes_of piece.now) traced.now))) }
-    ensures prefix { IfErr result (λ _. AppendsPrefix (O.contents out.old) (O.contents out.new)
-        (tested_text name.now verdict.now (below_of traces verdict.now (bytes_of piece.now) traced.now))) }
-    ensures fault { IfErr result EndsTest }
+// What is printed of a file that isn't run, and that it failed.
+fn unrun(alloc: Global, name: &str, verdict: &Verdict) -> Result<(Text, bool), AllocError>
+    ensures { IfOk result (λ tested. (printed_text tested.0 ≡ verdict_text name.now verdict.now) × (tested.1 ≡ false)) }
 {
     let text = verdict_lines(alloc, name, verdict)?;
-    write(&text, out)?;
-    match verdict {
-        Verdict::Differs(difference) => {
-            write_lines(piece, out)?;
-            write_trace(traces, difference.number, traced, out)
-        }
-        Verdict::Met | Verdict::CannotRun(_) | Verdict::ExpectsNothing | Verdict::NamedTwice => Ok(
-            (),
-        ),
-    }
-}
-
-// Writes the front of a trace, if traces are wanted.
-fn write_trace<O: Write>(
-    traces: bool,
-    number: usize,
-    traced: &Traced,
-    out: &mut O,
-) -> Result<(), Fault>
-    ensures written { OnOk result (Appends (O.contents out.old) (O.contents out.new)
-        (lines_text (front_if traces traced.now number))) }
-    ensures prefix { IfErr result (λ _. AppendsPrefix (O.contents out.old) (O.contents out.new)
-        (lines_text (front_if traces traced.now number))) }
-    ensures fault { IfErr result EndsTest }
-{
-    if traces {
-        write_front(traced, number, out)
-    } else {
-        Ok(())
-    }
-}
-
-// Writes the verdict on a file that isn't run. Whether the file passed.
-fn write_unrun<O: Write>(
-    alloc: Global,
-    name: &str,
-    verdict: &Verdict,
-    out: &mut O,
-) -> Result<bool, Fault>
-    ensures tested { IfOk result (λ met. (met ≡ false)
-        × Appends (O.contents out.old) (O.contents out.new) (verdict_text name.now verdict.now)) }
-    ensures prefix { IfErr result (λ _. AppendsPrefix (O.contents out.old) (O.contents out.new)
-        (verdict_text name.now verdict.now)) }
-    ensures fault { IfErr result EndsTest }
-{
-    let text = verdict_lines(alloc, name, verdict)?;
-    write(&text, out)?;
-    Ok(false)
+    Ok((text_of(alloc, text), false))
 }
 
 // The verdict on a file that has this fault.
@@ -352,25 +278,8 @@ fn fault_verdict(fault: Fault) -> Result<Verdict, Fault>
     }
 }
 
-/// What comes of the run of the file of this name, with its trace.
-pub(crate) fn trace_named<F: FilesByName>(
-    alloc: Global,
-    name: &str,
-    files: &F,
-) -> Result<TestedRun, Fault>
-    ensures runs { IfOk result
-        (λ run. IfSome (F.bytes_at files.now name.now) (λ text. RunsTo true text run.traced)) }
-    ensures facts { IfOk result
-        (λ run. IfSome (F.bytes_at files.now name.now) (λ text. AreFactsOfText text run.facts)) }
-    ensures failed { IfErr result (λ fault. fault ≡ Unreadable → IsTrue (F.unreadable files.now name.now)) }
-    ensures fault { IfErr result (λ fault. (status_of fault ≡ 3)
-        ⊎ IfSome (F.bytes_at files.now name.now) (λ text. IsRunFault Any text fault)) }
-{
-    run_named(alloc, name, true, files)
-}
-
-// What comes of it, with its trace where traces are wanted, and its pattern.
-fn run_named<F: FilesByName>(
+/// What comes of the run of the file of this name, with its trace where traces are wanted, and its pattern.
+pub(crate) fn run_named<F: FilesByName>(
     alloc: Global,
     name: &str,
     traces: bool,
@@ -448,9 +357,10 @@ fn run_read(alloc: Global, text: &[u8], vector: VectorFile, traces: bool) -> Res
     }
 }
 
-// What comes of the run of a file, without a trace.
-fn untraced(alloc: Global, file: VectorFile) -> Result<Traced, Fault>
+/// What comes of the run of a file, without a trace.
+pub(crate) fn untraced(alloc: Global, file: VectorFile) -> Result<Traced, Fault>
     ensures lines { IfOk result (λ traced. IsRunOf file (bytes_of traced.outcome.lines.items)) }
+    ensures plain { IfOk result (λ traced. trace_lines traced ≡ bytes_of traced.outcome.lines.items) }
     ensures expected { IfOk result (λ traced. bytes_of traced.outcome.expected.items ≡ expected_in file.version) }
     ensures fault { IfErr result (λ fault. IsStartFault file fault) }
 {

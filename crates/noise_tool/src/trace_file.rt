@@ -1,48 +1,65 @@
-//! Printing the trace of a vector file.
+//! The answer of a run, with its trace.
 
-ghost use Rattle.std.specs.Prelude.{◌≡◌, ◌⊎◌, Some, IfErr, OnOk};
-ghost use Rattle.std.specs.Io.KnownBytes.{Appends};
+ghost use Rattle.std.specs.Prelude.{◌≡◌, ◌⊎◌, ◌≤◌, ◌++◌, [], IfErr, IfOk};
 ghost use Rattle.noise_lines.specs.Faults.{status_of};
 ghost use Rattle.noise_lines.specs.Lines.{lines_text};
-ghost use Rattle.noise_lines.specs.Prefixes.{AppendsPrefix};
-ghost use Rattle.noise_lines.specs.Verdicts.{IsMet};
-ghost use Rattle.noise_lines.specs.declared.faults.Fault.TheVariants.{Unwritable};
+ghost use Rattle.noise_lines.specs.TracedLines.{traces_of};
+ghost use Rattle.noise_lines.specs.declared.faults.Fault.TheVariants.{Unreadable};
 ghost use Rattle.noise_names.specs.Lists.{bytes_of};
+ghost use Rattle.noise_vectors.specs.VectorFile.{IsVectorFile};
+ghost use Rattle.noise_vectors.specs.VectorText.{file_text};
 ghost use Rattle.noise_vectors.specs.declared.vector.AllowedEvents.TheVariants.{Any};
-ghost use Rattle.noise_tool.specs.Performing.{HasRun, IsNotMet, IsOfLines, IsUnlike};
-ghost use Rattle.noise_tool.specs.Prefixes.{PrintsRunPrefix};
-ghost use Rattle.noise_tool.specs.Selection.{selection_of};
-ghost use Rattle.noise_tool.specs.TracedText.{front_lines, trace_lines};
-ghost use Rattle.noise_tool.specs.Tracing.{IsTraceOf};
+ghost use Rattle.noise_tool.specs.Answers.{IsSilent, answer_value, printed_text};
+ghost use Rattle.noise_tool.specs.Performing.{AreMet, DifferAt, GivesText, IsRunFault, IsRunText};
+ghost use Rattle.noise_run.specs.Selection.{selection_of};
+ghost use Rattle.noise_tool.specs.TracedText.{IsOfTrace, TellsUnmet, front_if};
+ghost use Rattle.noise_run.specs.Running.{expected_in};
+ghost use Rattle.noise_run.specs.Tracing.{HasTraces, IsTraceOf};
 
-use crate::key_use_lines::Selection;
+use crate::answers::{Answer, Text};
 use crate::performing::vector_of;
-use crate::tracing::{Traced, trace_text};
-use noise_lines::{Fault, compare, flush, write_traced, write_traced_to};
-use noise_vectors::AllowedEvents;
+use crate::printing::{line_of, text_of};
+use noise_lines::{Fault, compare};
+use noise_run::{Outcome, Selection, Traced, trace};
+use noise_vectors::{AllowedEvents, VectorFile, read_vector, vector_texts_are_unique};
 use noise_words::{Traced as ChosenTrace, TracedPart, TracedRole};
-use std::alloc::Global;
-use std::io::Write;
+use std::alloc::{AllocError, Global};
 
-/// Runs two parties on a vector file, prints what they do and the selected lines of their key schedules, and compares
-/// the lines of the run with what the file expects.
-pub(crate) fn trace_chosen<O: Write>(
+/// The lines of two parties on a vector file and the selected lines of their key schedules, and whether the lines of
+/// the run are what the file expects.
+pub(crate) fn trace_chosen(
     alloc: Global,
     chosen: &ChosenTrace,
     text: &[u8],
-    out: &mut O,
-) -> Result<(), Fault>
-    ensures done { OnOk result (HasRun (IsTraceOf (selection_of chosen.now)) text.now
-        (O.contents out.old) (O.contents out.new)) }
-    ensures fault { IfErr result (λ fault. (status_of fault ≡ 3) ⊎ IsNotMet (IsTraceOf (selection_of chosen.now))
-        Any (Some text.now) (O.contents out.old) (O.contents out.new) fault) }
-    ensures unwritten { IfErr result (λ fault. (status_of fault ≡ 3) ⊎ IsOfLines fault ⊎ (out.new ≡ out.old)) }
-    ensures prefix { (out.new ≡ out.old) ⊎ PrintsRunPrefix (IsTraceOf (selection_of chosen.now))
-        (Some text.now) (O.contents out.old) (O.contents out.new) }
+) -> Result<Answer, Fault>
+    ensures made { IfOk result (λ answer. GivesText (IsRunText (IsTraceOf (selection_of chosen.now)) AreMet text.now)
+        (λ number. IsRunText (IsTraceOf (selection_of chosen.now)) (DifferAt number) text.now) (answer_value answer)) }
+    ensures fault { IfErr result (λ fault. (status_of fault ≡ 3) ⊎ IsRunFault Any text.now fault) }
+    ensures silent { IfOk result IsSilent }
 {
     let vector = vector_of(alloc, AllowedEvents::Any, text)?;
     let traced = trace_text(alloc, selection(chosen), text, vector)?;
-    print_traced(&traced, out)
+    Ok(run_answer(alloc, traced)?)
+}
+
+/// Runs a file that was read of this text as `trace` does; its keys are read again.
+pub(crate) fn trace_text(
+    alloc: Global,
+    selection: Selection,
+    text: &[u8],
+    file: VectorFile,
+) -> Result<Traced, Fault>
+    requires right { IsVectorFile file }
+    requires text { text.now ≡ file_text file }
+    ensures lines { IfOk result (λ traced. HasTraces selection file (bytes_of traced.outcome.lines.items)
+        (bytes_of traced.start.items) (traces_of traced.traces.items)) }
+    ensures expected { IfOk result (λ traced. bytes_of traced.outcome.expected.items ≡ expected_in file.version) }
+    ensures read { IfErr result (λ fault. ¬ (fault ≡ Unreadable)) }
+    ensures fault { IfErr result (λ fault. (status_of fault ≡ 3) ⊎ IsRunFault Any text.now fault) }
+{
+    let again = read_vector(alloc, text, AllowedEvents::Any)?;
+    vector_texts_are_unique();
+    trace(alloc, selection, file, again)
 }
 
 // The lines that are asked for.
@@ -58,40 +75,71 @@ fn selection(chosen: &ChosenTrace) -> Selection
     }
 }
 
-// Prints the lines of a trace, and compares those of the run with what is expected, if any are.
-fn print_traced<O: Write>(traced: &Traced, out: &mut O) -> Result<(), Fault>
-    ensures printed { OnOk result (Appends (O.contents out.old) (O.contents out.new)
-        (lines_text (trace_lines traced.now))) }
-    ensures met { OnOk result
-        (IsMet (bytes_of traced.now.outcome.expected.items) (bytes_of traced.now.outcome.lines.items)) }
-    ensures fault { IfErr result (λ fault. (status_of fault ≡ 3) ⊎ IsUnlike (trace_lines traced.now)
-        traced.now.outcome (O.contents out.old) (O.contents out.new) fault) }
-    ensures prefix { AppendsPrefix (O.contents out.old) (O.contents out.new)
-        (lines_text (trace_lines traced.now)) }
+/// The lines of a trace, and whether those of the run are what is expected, if any are.
+pub(crate) fn run_answer(alloc: Global, traced: Traced) -> Result<Answer, AllocError>
+    ensures made { IfOk result (λ answer. IsOfTrace traced (answer_value answer)) }
+    ensures silent { IfOk result IsSilent }
 {
-    write_traced(&traced.start, &traced.outcome.lines, &traced.traces, out)?;
-    flush(out)?;
-    compare(&traced.outcome.lines, &traced.outcome.expected)
+    let Traced {
+        outcome,
+        start,
+        traces,
+    } = traced;
+    let Outcome { lines, expected } = outcome;
+    let (err, status) = line_of_unmet(alloc, &lines, &expected)?;
+    let head = Vec::new(alloc);
+    let out = Text {
+        head,
+        start,
+        lines,
+        traces,
+    };
+    Ok(Answer::new(out, err, status))
 }
 
-/// Writes the front of a trace: up to the line of the run of this number, from 1 on, and those that follow that one.
-/// Where there are fewer lines it is all.
-pub(crate) fn write_front<O: Write>(
-    traced: &Traced,
-    number: usize,
-    out: &mut O,
-) -> Result<(), Fault>
-    ensures written { OnOk result (Appends (O.contents out.old) (O.contents out.new)
-        (lines_text (front_lines traced.now number))) }
-    ensures prefix { AppendsPrefix (O.contents out.old) (O.contents out.new)
-        (lines_text (front_lines traced.now number)) }
-    ensures fault { IfErr result (λ fault. fault ≡ Unwritable) }
+// Whether the lines of a run are those that are expected: no line and status 0, or the line of the fault and 1.
+fn line_of_unmet(
+    alloc: Global,
+    lines: &[Vec<u8>],
+    expected: &[Vec<u8>],
+) -> Result<(Vec<u8>, u8), AllocError>
+    ensures told { IfOk result
+        (λ told. TellsUnmet (bytes_of expected.now) (bytes_of lines.now) told.0.items told.1) }
+    ensures few { IfOk result (λ told. told.1 ≤ 1) }
+    ensures quiet { IfOk result (λ told. told.1 ≡ 0 → told.0.items ≡ []) }
 {
-    write_traced_to(
-        number,
-        &traced.start,
-        &traced.outcome.lines,
-        &traced.traces,
-        out,
-    )
+    match compare(lines, expected) {
+        Ok(()) => Ok((Vec::new(alloc), 0)),
+        Err(fault) => Ok((line_of(alloc, fault)?, 1)),
+    }
+}
+
+/// A text, and after it, where a trace is wanted, its front: up to the line of the run of this number, from 1 on, and
+/// those that follow that one. Where there are fewer lines it is all.
+pub(crate) fn with_front(
+    alloc: Global,
+    head: Vec<u8>,
+    wanted: bool,
+    traced: Traced,
+    number: usize,
+) -> Text
+    ensures { printed_text result ≡ head.items ++ lines_text (front_if wanted traced number) }
+{
+    if !wanted {
+        return text_of(alloc, head);
+    }
+    let Traced {
+        outcome,
+        start,
+        mut traces,
+    } = traced;
+    let Outcome { mut lines, .. } = outcome;
+    lines.truncate(number);
+    traces.truncate(number);
+    Text {
+        head,
+        start,
+        lines,
+        traces,
+    }
 }

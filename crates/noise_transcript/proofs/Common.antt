@@ -13,9 +13,9 @@ pub use Rattle.noise_names.specs.declared.token.Role.TheVariants.{Initiator, Res
 pub use Rattle.noise_handshake.specs.Counterparts.{is_dh, shown_before}
 pub use Rattle.noise_lines.specs.Lines.{line_of, lines_text}
 pub use Rattle.noise_names.specs.Validity.{IsFirstFault, IsValid, is_among, occurs}
-pub use Rattle.noise_tool.specs.Ends.{HasSetupFault, IsFilePattern, IsFilePatternFault, IsStartFault, file_start, setup_of, sides_of_file}
-pub use Rattle.noise_tool.specs.Printed.{note_line, progress_words, state_line, state_lines}
-pub use Rattle.noise_tool.specs.Running.{AreLast, IsRunOf, datagrams_of_version, expected_in}
+pub use Rattle.noise_run.specs.Ends.{HasSetupFault, IsFilePattern, IsFilePatternFault, IsStartFault, file_start, setup_of, sides_of_file}
+pub use Rattle.noise_run.specs.Printed.{note_line, progress_words, state_line, state_lines}
+pub use Rattle.noise_run.specs.Running.{AreLast, IsRunOf, datagrams_of_version, expected_in}
 pub use Rattle.noise_vectors.specs.FileKeys.{agreement_of, public_of}
 pub use Rattle.noise_vectors.specs.SameFile.{SaySame, VectorTextsAreUnique, expected_of, held_datagrams, version_datagrams}
 pub use Rattle.noise_vectors.specs.VectorFile.{AreKeys, IsAllowed, IsAllowedFile, IsAllowedVersion, IsVectorFile}

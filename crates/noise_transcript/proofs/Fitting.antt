@@ -18,8 +18,8 @@ use Rattle.noise_vectors.specs.declared.vector.VectorFile.{VectorFile}
 use Rattle.noise_vectors.specs.declared.vector.Version.{Version}
 use Rattle.noise_vectors.specs.declared.vector.Version.TheVariants.{One, Two}
 use Rattle.noise_handshake.specs.Counterparts.{shown_before}
-use Rattle.noise_tool.specs.Ends.{IsFilePattern, setup_of}
-use Rattle.noise_tool.specs.Running.{datagrams_of_version}
+use Rattle.noise_run.specs.Ends.{IsFilePattern, setup_of}
+use Rattle.noise_run.specs.Running.{datagrams_of_version}
 use Rattle.noise_transcript.specs.Fitting.{HasFittingMessages, IsXor}
 use Rattle.noise_names.specs.Limits.{IsPattern}
 use Rattle.noise_keys.specs.declared.faults.SetupFault.{SetupFault}

@@ -10,11 +10,11 @@ use Rattle.noise_events.specs.DatagramEvents.{DatagramEvent, datagram_events_of}
 use Rattle.noise_events.specs.declared.window.Window.{Window}
 use Rattle.noise_vectors.specs.declared.vector.FileDatagrams.{FileDatagrams}
 use Rattle.noise_lines.specs.declared.faults.Fault.{Fault}
-use Rattle.noise_tool.specs.Performing.{HasUnmet, IsPlain, IsRunFault, IsUnmet}
+use Rattle.noise_tool.specs.Performing.{IsRunFault}
 use Rattle.noise_transcript.proofs.Names.{no-name-without, no-place-beyond, no-rule-broken}
 use Rattle.noise_transcript.proofs.Same.{datagrams-are}
 use Rattle.noise_names.specs.Lists.{heads, tails}
-use Rattle.noise_tool.specs.OnePattern.{pattern-once}
+use Rattle.noise_run.specs.OnePattern.{pattern-once}
 use Rattle.noise_events.specs.declared.event.Event.TheVariants as given
 use Rattle.noise_vectors.specs.declared.faults.VectorFault.TheVariants as vector
 use Rattle.noise_lines.specs.declared.faults.Fault.TheVariants as fault
@@ -105,21 +105,14 @@ fits-too f g p lines same right fits = record {
 
 -- ---- why there is no run
 
-unmet-of : (text : List ℕ) (before after : Option (List ℕ)) (why : Fault) → IsUnmet IsPlain text before after why
-    → (n : ℕ) × (why ≡ fault.Unmet n) × HasUnmet IsPlain text before after n
-unmet-of text before after (fault.Unmet n) h = (n, refl, h)
-unmet-of text before after _ h = absurd h
+-- memory, or a text that is too long
+abbrev pub IsLeft : VectorFile → Fault → Type 0
+IsLeft f why = (why ≡ fault.Memory) ⊎ ((why ≡ fault.TooLong) × (4194304 < length (file_text f)))
 
--- memory, a text that is too long, or lines that aren't those that the file expects
-abbrev pub IsLeft : VectorFile → Option (List ℕ) → Option (List ℕ) → Fault → Type 0
-IsLeft f before after why = (why ≡ fault.Memory) ⊎ ((why ≡ fault.TooLong) × (4194304 < length (file_text f)))
-    ⊎ ((n : ℕ) × (why ≡ fault.Unmet n) × HasUnmet IsPlain (file_text f) before after n)
-
-pub left-why : VectorTextsAreUnique → (f : VectorFile) (p : Plan) (lines : List (Role × List ℕ)) (before after : Option (List ℕ)) (why : Fault)
-    → HasFittingMessages f p lines → IsRunFault SayOnly (file_text f) why ⊎ IsUnmet IsPlain (file_text f) before after why → IsLeft f before after why
-left-why unique f p lines before after why fits (inl (inl long)) = inr (inl long)
-left-why unique f p lines before after why fits (inl (inr (inl (vector.Memory, e, h, reported)))) = inl e
-left-why unique f p lines before after why fits (inl (inr (inl (vector.Line n k, e, h, reported)))) = absurd (h f fits.right (allowed f p lines fits) refl)
-left-why unique f p lines before after why fits (inl (inr (inr (g, right, same, start)))) =
+pub left-why : VectorTextsAreUnique → (f : VectorFile) (p : Plan) (lines : List (Role × List ℕ)) (why : Fault)
+    → HasFittingMessages f p lines → IsRunFault SayOnly (file_text f) why → IsLeft f why
+left-why unique f p lines why fits (inl long) = inr long
+left-why unique f p lines why fits (inr (inl (vector.Memory, e, h, reported))) = inl e
+left-why unique f p lines why fits (inr (inl (vector.Line n k, e, h, reported))) = absurd (h f fits.right (allowed f p lines fits) refl)
+left-why unique f p lines why fits (inr (inr (g, right, same, start))) =
     inl (no-start-fault g p lines why (fits-too f g p lines (unique f g fits.right right same) right fits) start)
-left-why unique f p lines before after why fits (inr h) = inr (inr (unmet-of (file_text f) before after why h))

@@ -12,7 +12,7 @@ use Rattle.noise_duel.specs.Runs.{Run}
 use Rattle.noise_duel.specs.SetUpAlike.{AlikeAreParts, HaveOneMaterial, AreSetUpAlike, HasDhResults, material_of}
 use Rattle.noise_theorems.specs.Turns.{MessagesTakeTurns}
 use Rattle.noise_vectors.specs.declared.vector.FileDatagrams.{FileDatagrams}
-use Rattle.noise_tool.specs.Running.AreLast.{without}
+use Rattle.noise_run.specs.Running.AreLast.{without}
 use Rattle.noise_transcript.proofs.Exchange.{noted-lines, same-writers}
 use Rattle.noise_transcript.proofs.Reached.{both-there}
 use Rattle.noise_transcript.proofs.FileKeysAgree.{keys-agree, long-keys, xor-dh-results}

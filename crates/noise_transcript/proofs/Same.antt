@@ -1,7 +1,7 @@
 -- Files that say the same run alike.
 use Rattle.std.proofs.Common.{◌≡◌, ◌∙◌, refl, sym}
 use Rattle.noise_transcript.proofs.Common.{SaySame, version_datagrams, expected_of, held_datagrams, VectorFile, Version, One, Two, datagrams_of_version, expected_in}
-use Rattle.noise_tool.specs.OneRun.{RunAlike}
+use Rattle.noise_run.specs.OneRun.{RunAlike}
 
 pub datagrams-are : (v : Version) → version_datagrams v ≡ held_datagrams (datagrams_of_version v)
 datagrams-are One = refl

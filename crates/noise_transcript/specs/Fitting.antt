@@ -11,8 +11,8 @@ use Rattle.noise_vectors.specs.VectorFile.{IsVectorFile}
 use Rattle.noise_vectors.specs.declared.file_keys.FileKeys.{FileKeys}
 use Rattle.noise_vectors.specs.declared.file_keys.FileKeys.TheVariants.{Xor, Table}
 use Rattle.noise_vectors.specs.declared.vector.VectorFile.{VectorFile}
-use Rattle.noise_tool.specs.Ends.{IsFilePattern, setup_of}
-use Rattle.noise_tool.specs.Running.{datagrams_of_version}
+use Rattle.noise_run.specs.Ends.{IsFilePattern, setup_of}
+use Rattle.noise_run.specs.Running.{datagrams_of_version}
 
 -- keys whose DH is the xor of bytes
 abbrev pub IsXor : FileKeys → Type 0

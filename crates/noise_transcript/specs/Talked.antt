@@ -12,8 +12,8 @@ use Rattle.noise_vectors.specs.HexWord.{hex_of}
 use Rattle.noise_vectors.specs.VectorText.{role_word}
 use Rattle.noise_vectors.specs.declared.vector.VectorFile.{VectorFile}
 use Rattle.noise_lines.specs.Lines.{line_of}
-use Rattle.noise_tool.specs.Ends.{file_start}
-use Rattle.noise_tool.specs.Running.{IsRunOf}
+use Rattle.noise_run.specs.Ends.{file_start}
+use Rattle.noise_run.specs.Running.{IsRunOf}
 use Rattle.noise_transcript.specs.Fitting.{HasFittingMessages}
 
 -- a frame that a role wrote, with its number among the frames of the role

@@ -12,7 +12,7 @@ ghost use Rattle.noise_vectors.specs.VectorText.{file_text};
 ghost use Rattle.noise_vectors.specs.declared.file_keys.FileKeys.TheVariants.{Xor};
 ghost use Rattle.noise_vectors.specs.declared.vector.VectorFile.{VectorFile};
 ghost use Rattle.noise_lines.specs.Lines.{lines_text};
-ghost use Rattle.noise_tool.specs.Ends.{IsFilePattern};
+ghost use Rattle.noise_run.specs.Ends.{IsFilePattern};
 ghost use Rattle.noise_transcript.specs.Fitting.{HasFittingMessages};
 ghost use Rattle.noise_transcript.specs.Talked.{talked_lines};
 

@@ -9,7 +9,7 @@ ghost use Rattle.noise_vectors.specs.declared.vector.VectorFile.{VectorFile};
 ghost use Rattle.noise_lines.specs.Lines.{lines_text};
 ghost use Rattle.noise_lines.specs.Prefixes.{AppendsPrefix};
 ghost use Rattle.noise_lines.specs.Verdicts.{IsMet};
-ghost use Rattle.noise_tool.specs.Running.{expected_in};
+ghost use Rattle.noise_run.specs.Running.{expected_in};
 ghost use Rattle.noise_transcript.specs.Fitting.{HasFittingMessages};
 ghost use Rattle.noise_transcript.specs.Talked.{talked_lines};
 

@@ -1,7 +1,8 @@
 //! What the words of the command line ask for.
 
-ghost use Rattle.std.specs.Prelude.{◌≡◌, ◌≢◌, ◌⊎◌, ◌∷◌, [], IfOk, IfErr, Some, None, codes, fold, true, false, map, option_map, string_bytes};
-ghost use Rattle.clap.specs.Simple.{new_rule, with_subcommand};
+ghost use Rattle.std.specs.Prelude.{◌≡◌, ◌≢◌, ◌⊎◌, ◌++◌, ◌∷◌, [], IfOk, IfErr, Some, None, codes, fold, true, false, map, option_map, string_bytes};
+ghost use Rattle.clap.specs.Simple.{Shape, new_rule, with_subcommand};
+ghost use Rattle.clap.specs.Walk.{Rule};
 ghost use Rattle.clap.specs.Words.{all_of, app_of, first_of, found_of, kind_of, rows_of, rule_of, shape_of, subcommand_rows_of};
 ghost use Rattle.clap.specs.declared.builder.command.Command.TheViews.{out-Command};
 ghost use Rattle.noise_words.specs.CommandLine.{Nothing, asked, compare, explain, flag, noise, optional, order_of, rules_for, stated_by, stated_in, subcommand, template, test, trace, wanted, wanted_by, words_of};
@@ -73,7 +74,7 @@ fn command<'a>(alloc: Global) -> Result<Command<'a>, AllocError>
 fn with_explain<'a>(alloc: Global, whole: Command<'a>) -> Result<Command<'a>, AllocError>
     ensures { IfOk result (λ c. app_of c ≡ with_subcommand (app_of whole.entry) (subcommand explain)) }
 {
-    whole.subcommand(with_fix(alloc)?)
+    with_made(whole, with_fix(alloc))
 }
 
 // The subcommand of patterns that has a flag.
@@ -81,15 +82,14 @@ fn with_fix<'a>(alloc: Global) -> Result<Command<'a>, AllocError>
     ensures shape { IfOk result (λ c. shape_of c ≡ subcommand explain) }
     ensures local { IfOk result (λ c. (out-Command c).has_globals ≡ false) }
 {
-    let whole = with_value(alloc, &EXPLAIN)?;
-    whole.arg(flag_of(alloc, &FIXES))
+    with_argument(with_value(alloc, &EXPLAIN), flag_of(alloc, &FIXES))
 }
 
 // With the subcommand that has a second value that may be left out, too.
 fn with_template<'a>(alloc: Global, whole: Command<'a>) -> Result<Command<'a>, AllocError>
     ensures { IfOk result (λ c. app_of c ≡ with_subcommand (app_of whole.entry) (subcommand template)) }
 {
-    whole.subcommand(with_keys(alloc)?)
+    with_made(whole, with_keys(alloc))
 }
 
 // The subcommand that has a second value that may be left out.
@@ -97,8 +97,7 @@ fn with_keys<'a>(alloc: Global) -> Result<Command<'a>, AllocError>
     ensures shape { IfOk result (λ c. shape_of c ≡ subcommand template) }
     ensures local { IfOk result (λ c. (out-Command c).has_globals ≡ false) }
 {
-    let whole = with_value(alloc, &TEMPLATE)?;
-    whole.arg(keys_value(alloc))
+    with_argument(with_value(alloc, &TEMPLATE), keys_value(alloc))
 }
 
 // Its second value.
@@ -113,7 +112,7 @@ fn keys_value<'a>(alloc: Global) -> Arg<'a>
 fn with_test<'a>(alloc: Global, whole: Command<'a>) -> Result<Command<'a>, AllocError>
     ensures { IfOk result (λ c. app_of c ≡ with_subcommand (app_of whole.entry) (subcommand test)) }
 {
-    whole.subcommand(with_flag(alloc)?)
+    with_made(whole, with_flag(alloc))
 }
 
 // The subcommand that has a flag.
@@ -121,8 +120,7 @@ fn with_flag<'a>(alloc: Global) -> Result<Command<'a>, AllocError>
     ensures shape { IfOk result (λ c. shape_of c ≡ subcommand test) }
     ensures local { IfOk result (λ c. (out-Command c).has_globals ≡ false) }
 {
-    let whole = with_value(alloc, &TEST)?;
-    whole.arg(flag_of(alloc, &TRACES))
+    with_argument(with_value(alloc, &TEST), flag_of(alloc, &TRACES))
 }
 
 // The argument of a flag.
@@ -140,7 +138,7 @@ fn flag_of<'a>(alloc: Global, given: &Flag<'a>) -> Arg<'a>
 fn with_trace<'a>(alloc: Global, whole: Command<'a>) -> Result<Command<'a>, AllocError>
     ensures { IfOk result (λ c. app_of c ≡ with_subcommand (app_of whole.entry) (subcommand trace)) }
 {
-    whole.subcommand(with_options(alloc)?)
+    with_made(whole, with_options(alloc))
 }
 
 // The subcommand that has options and a flag.
@@ -148,17 +146,16 @@ fn with_options<'a>(alloc: Global) -> Result<Command<'a>, AllocError>
     ensures shape { IfOk result (λ c. shape_of c ≡ subcommand trace) }
     ensures local { IfOk result (λ c. (out-Command c).has_globals ≡ false) }
 {
-    let whole = with_value(alloc, &TRACE)?;
-    let whole = whole.arg(option_of(alloc, &ONLY))?;
-    let whole = whole.arg(option_of(alloc, &ROLE))?;
-    whole.arg(flag_of(alloc, &HEADING))
+    let part = with_argument(with_value(alloc, &TRACE), option_of(alloc, &ONLY));
+    let role = with_argument(part, option_of(alloc, &ROLE));
+    with_argument(role, flag_of(alloc, &HEADING))
 }
 
 // With the subcommand that has two values and two flags, too.
 fn with_compare<'a>(alloc: Global, whole: Command<'a>) -> Result<Command<'a>, AllocError>
     ensures { IfOk result (λ c. app_of c ≡ with_subcommand (app_of whole.entry) (subcommand compare)) }
 {
-    whole.subcommand(with_two(alloc)?)
+    with_made(whole, with_two(alloc))
 }
 
 // The subcommand that has two values and two flags.
@@ -166,10 +163,9 @@ fn with_two<'a>(alloc: Global) -> Result<Command<'a>, AllocError>
     ensures shape { IfOk result (λ c. shape_of c ≡ subcommand compare) }
     ensures local { IfOk result (λ c. (out-Command c).has_globals ≡ false) }
 {
-    let whole = with_value(alloc, &COMPARE)?;
-    let whole = whole.arg(second_value(alloc))?;
-    let whole = whole.arg(flag_of(alloc, &ALL))?;
-    whole.arg(flag_of(alloc, &JSON))
+    let second = with_argument(with_value(alloc, &COMPARE), second_value(alloc));
+    let all = with_argument(second, flag_of(alloc, &ALL));
+    with_argument(all, flag_of(alloc, &JSON))
 }
 
 // Its second value.
@@ -225,9 +221,21 @@ fn adding<'a>(
 {
     let mut whole = whole;
     for named in subcommands {
-        whole = whole.subcommand(with_value(alloc, named)?)?;
+        whole = with_made(whole, with_value(alloc, named))?;
     }
     Ok(whole)
+}
+
+// With a subcommand too, where memory was enough to make it.
+fn with_made<'a>(
+    whole: Command<'a>,
+    made: Result<Command<'a>, AllocError>,
+) -> Result<Command<'a>, AllocError>
+    requires { IfOk made (λ sub. (out-Command sub).has_globals ≡ false) }
+    ensures { (shape : Shape) → IfOk made.entry (λ sub. shape_of sub ≡ shape)
+        → IfOk result (λ c. app_of c ≡ with_subcommand (app_of whole.entry) shape) }
+{
+    whole.subcommand(made?)
 }
 
 // The command of this name, which has to have a value.
@@ -239,6 +247,20 @@ fn with_value<'a>(alloc: Global, named: &Subcommand<'a>) -> Result<Command<'a>, 
         .about(named.about)
         .after_help(named.example)
         .arg(value_of(alloc, named))
+}
+
+// With an argument too, where memory was enough to make it.
+fn with_argument<'a>(
+    made: Result<Command<'a>, AllocError>,
+    arg: Arg<'a>,
+) -> Result<Command<'a>, AllocError>
+    requires { arg.global ≡ false }
+    ensures shape { (shape : Shape) (rule : Rule) → rule_of arg.entry ≡ rule → IfOk made.entry (λ c. shape_of c ≡ shape)
+        → IfOk result (λ c. shape_of c ≡ record shape { rules = shape.rules ++ rule ∷ [] }) }
+    ensures local { IfOk made.entry (λ c. (out-Command c).has_globals ≡ false)
+        → IfOk result (λ c. (out-Command c).has_globals ≡ false) }
+{
+    made?.arg(arg)
 }
 
 // The value of this command.

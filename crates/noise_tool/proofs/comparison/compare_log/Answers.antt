@@ -1,24 +1,41 @@
-use Rattle.std.proofs.Common.{ap, inr}
-use Rattle.noise_tool.proofs.Common.{status_of}
-use Rattle.noise_tool.proofs.ComparingLemmas.{begun-left}
+use Rattle.std.proofs.Common.{◌≡◌, ◌∙◌, ap, sym, subst, inl, inr, List, ℕ}
+use Rattle.noise_tool.specs.Answers.{IsLine, answer_value}
+use Rattle.noise_tool.specs.Comparing.{uncompared_line}
+use Rattle.noise_tool.specs.declared.comparison.Uncompared.{Uncompared}
+use Rattle.noise_tool.specs.declared.comparison.Uncompared.TheVariants.{NamedTwice}
 use Rattle.noise_tool.proofs.comparison.compare_log.Goals as goal
 
-pub returns-in-Ok-clause-compared : goal.returns-in-Ok-clause-compared
-returns-in-Ok-clause-compared g c = inr (record {
-  report = c.in-Ok-Made.report;
-  compares = rw c.in-Ok-Made.field-0-is at c.in-Ok-Made.ensures.made;
-  printed = c.in-Ok.ensures.printed.0;
-  status_is = c.in-Ok.ensures.printed.1;
-})
+pub returns-in-Made-clause-made : goal.returns-in-Made-clause-made
+returns-in-Made-clause-made g c = record {
+  compared = inl (record {
+    report = c.in-Made.report;
+    compares = rw c.in-Made.is at c.in_ok-report.ensures.made;
+    out = c.output.ensures.out;
+    alone = (c.output.ensures.err, c.output.ensures.status ∙ c.finding_status-status.ensures.status);
+  });
+  twice = λ both. let bad = sym c.in-Made.is ∙ c.in_ok-report.ensures.twice both in absurd (cc bad);
+}
 
-pub returns-in-Ok-clause-prefix : goal.returns-in-Ok-clause-prefix
-returns-in-Ok-clause-prefix g c = inr (record {
-  report = c.in-Ok-Made.report;
-  compares = rw c.in-Ok-Made.field-0-is at c.in-Ok-Made.ensures.made;
-  grown = c.in-Ok.ensures.prefix;
-})
+pub returns-in-Wrong-clause-made : goal.returns-in-Wrong-clause-made
+returns-in-Wrong-clause-made g c =
+    let told = answer_value c.refusal.result in
+    let why = c.in-Wrong.why in
+    let line : IsLine told (uncompared_line c.args.names.now why) 2 =
+    (c.refusal.ensures.out, c.refusal.ensures.err ∙ c.in_ok-uncompared_line-in-Wrong.ensures, c.refusal.ensures.status) in
+    record {
+      compared = inr (inl (why, rw c.in-Wrong.is at c.in_ok-report.ensures.wrong, line));
+      twice = λ both.
+          let e = sym c.in-Wrong.is ∙ c.in_ok-report.ensures.twice both in
+          let same : why ≡ NamedTwice = cc e in
+          inl (subst (λ (w : Uncompared). IsLine told (uncompared_line c.args.names.now w) 2) same line);
+    }
 
-pub returns-in-Ok-Made-clause-prefix : goal.returns-in-Ok-Made-clause-prefix
-returns-in-Ok-Made-clause-prefix g c = inr (begun-left (g.O.Write.contents) c.args.names.now.all _ _ _ c.in-Err-print_report.fault c.print_report.new.out c.report_fault.new.out
-    c.in-Ok-Made.report (ap status_of c.in-Err-print_report.ensures.fault) c.report_fault.ensures.output (rw c.in-Ok-Made.field-0-is at c.in-Ok-Made.ensures.made)
-    c.in-Err-print_report.ensures.prefix)
+pub returns-clause-made : goal.returns-clause-made
+returns-clause-made g c = record {
+  compared = inr (inr (inr (
+    c.in-Unread.which,
+    rw c.in-Unread.is at c.in_ok-report.ensures.unread,
+    (c.refusal-in-Unread.ensures.out, c.refusal-in-Unread.ensures.err ∙ c.in_ok-unread_line-in-Unread.ensures, c.refusal-in-Unread.ensures.status),
+  )));
+  twice = λ both. let bad = sym c.in-Unread.is ∙ c.in_ok-report.ensures.twice both in absurd (cc bad);
+}

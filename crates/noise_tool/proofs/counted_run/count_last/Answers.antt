@@ -1,7 +1,7 @@
 use Rattle.std.proofs.Common.{rules, ◌≡◌, true, Some, None, Option, codes, ◌∷◌, [], subst, sym}
 use Rattle.noise_tool.proofs.Common.{AreLast, FileDatagrams, datagrams_of_version, state_lines}
 use Rattle.noise_session.specs.EndDatagrams.{is_datagram_ready}
-use Rattle.noise_tool.specs.Running.{datagram_run_lines, ready, unready, without}
+use Rattle.noise_run.specs.Running.{datagram_run_lines, ready, unready, without}
 use Rattle.noise_tool.specs.Counting as counting
 use Rattle.noise_tool.specs.Counting.{AreDatagramNotes}
 use Rattle.std.proofs.lemmas.List.{append-nil}

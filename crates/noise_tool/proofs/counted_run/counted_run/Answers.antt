@@ -1,7 +1,7 @@
 use Rattle.std.proofs.Common.{rules, ◌≡◌, ◌<◌, ◌^◌, [], arith, length, map, refl}
 use Rattle.noise_tool.proofs.Common.{events_of, notes_of, sides_of_file}
-use Rattle.noise_tool.specs.Printed.{note_line}
-use Rattle.noise_tool.specs.Running.{LeavesLines}
+use Rattle.noise_run.specs.Printed.{note_line}
+use Rattle.noise_run.specs.Running.{LeavesLines}
 use Rattle.std.proofs.lemmas.List.{length-map}
 use Rattle.noise_duel.specs.Entries.{note_of}
 use Rattle.noise_duel.specs.Notes.{Note}

@@ -1,24 +1,23 @@
-use Rattle.std.proofs.Common.{inr, refl}
-use Rattle.noise_tool.proofs.FillingLemmas.{word-prefix, word-reported}
-use Rattle.noise_tool.proofs.PrefixLemmas.{reported-itself}
+use Rattle.std.proofs.Common.{sym}
+use Rattle.noise_tool.proofs.Common.{err_from_is_err_and}
+use Rattle.noise_tool.proofs.FillingLemmas.{fill-known, unread-known}
 use Rattle.noise_tool.proofs.filling.fill_template.Goals as goal
 
-pub returns-in-Ok-Refused-clause-fault : goal.returns-in-Ok-Refused-clause-fault
-returns-in-Ok-Refused-clause-fault g c = λ some.
-    inr (inr (
-      c.in-Ok-Refused.refusal,
-      refl,
-      rw c.in-Ok-Refused.field-0-is at c.in-Ok-Refused.ensures.refused,
-      rw c.deref-in-Ok-Refused.ensures.value at c.write.ensures.prefix,
-    ))
+pub returns-in_err-pattern-clause-fault : goal.returns-in_err-pattern-clause-fault
+returns-in_err-pattern-clause-fault g c =
+    let q = err_from_is_err_and c.from_residual-in_err-pattern.result c.from_residual-in_err-pattern.ensures.1 in
+    rw (q.1, q.2) (rw c.as_str-word.ensures.value at c.in_err-pattern.ensures.fault)
 
-pub returns-clause-fault : goal.returns-clause-fault
-returns-clause-fault g c = λ some.
-    word-reported c.args.names.now (g.F.FilesByName.bytes_at c.args.files.now) (g.F.FilesByName.unreadable c.args.files.now) c.in-Err.fault
-    c.report_fault-in-Err.result _ _ _ _ c.in-Err.ensures.fault c.report_fault-in-Err.ensures.status c.report_fault-in-Err.ensures.rule
-    (reported-itself c.in-Err.fault c.report_fault-in-Err.result _ _ c.report_fault-in-Err.ensures.reported)
+pub returns-in-Ok-clause-made : goal.returns-in-Ok-clause-made
+returns-in-Ok-clause-made g c =
+    fill-known c.args.names.now (g.F.FilesByName.bytes_at c.args.files.now) (g.F.FilesByName.unreadable c.args.files.now) _
+    (rw c.as_str-word.ensures.value at c.in_ok-pattern.ensures.named) c.deref.result.now c.fill.result
+    (rw (sym c.deref.ensures.value, c.as_str-keys.ensures.value) at c.in-Ok.ensures.bytes)
+    (rw c.as_str-keys.ensures.value at c.fill.ensures.made)
 
-pub returns-clause-prefix : goal.returns-clause-prefix
-returns-clause-prefix g c =
-    word-prefix (g.O.Write.contents) c.args.names.now (g.F.FilesByName.bytes_at c.args.files.now) (g.F.FilesByName.unreadable c.args.files.now) c.args.out.now
-    c.report_fault-in-Err.new.out c.in-Err.fault c.in-Err.ensures.fault c.report_fault-in-Err.ensures.output
+pub returns-in-Err-clause-made : goal.returns-in-Err-clause-made
+returns-in-Err-clause-made g c =
+    unread-known c.args.names.now (g.F.FilesByName.bytes_at c.args.files.now) (g.F.FilesByName.unreadable c.args.files.now) _
+    (rw c.as_str-word.ensures.value at c.in_ok-pattern.ensures.named) c.in-Err.fault c.refuse_keys.result
+    (rw c.as_str-keys.ensures.value at c.in-Err.ensures.fault) (rw c.as_str-keys.ensures.value at c.in-Err.ensures.failed)
+    (rw c.as_str-keys.ensures.value at c.refuse_keys.ensures.refused)

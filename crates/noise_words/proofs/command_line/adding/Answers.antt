@@ -1,4 +1,4 @@
-use Rattle.std.proofs.Common.{◌∙◌, ap₂, sym}
+use Rattle.std.proofs.Common.{◌∙◌, ap₂, refl, sym}
 use Rattle.std.proofs.lemmas.List.Sums.{fold_more}
 use Rattle.clap.specs.Simple.{App, app_of, with_subcommand}
 use Rattle.noise_words.specs.CommandLine.{subcommand, wanted_by}
@@ -10,6 +10,6 @@ with_named app sub = with_subcommand app (subcommand (sub.name.now, wanted_by su
 
 pub loop-named-preserved : goal.loop-named-preserved
 loop-named-preserved c =
-    c.in_ok-whole.ensures.shape c.in_ok-with_value.ensures.local
-    ∙ ap₂ with_subcommand c.loop-named.invariant c.in_ok-with_value.ensures.shape
+    c.in_ok-whole.ensures _ c.with_value.ensures.shape
+    ∙ ap₂ with_subcommand c.loop-named.invariant refl
     ∙ sym (fold_more with_named (app_of c.args.whole) c.args.subcommands.now c.loop-named.named-index _ c.loop-named-test.true)

@@ -1,7 +1,0 @@
-use Rattle.std.proofs.Common.{◌≡◌, ℕ, List, IfOk, subst}
-use Rattle.noise_compare.specs.Keys.{rekey_explains}
-use Rattle.noise_compare.proofs.keys.rekey_by_nonce.Goals as goal
-
-pub returns : goal.returns
-returns c = subst (λ (n : List ℕ). IfOk c.rekey_explains.result (λ b. b ≡ rekey_explains c.args.at.now c.args.logged.now n))
-    c.nonce-next.ensures c.rekey_explains.ensures

@@ -1,0 +1,6 @@
+use Rattle.std.proofs.Common.{arith}
+use Rattle.std.proofs.lemmas.Grind.{common_steps}
+use Rattle.noise_compare.proofs.shown.shortest.Goals as goal
+
+pub loop-equation-preserved : goal.loop-equation-preserved
+loop-equation-preserved c = grind (arith, common_steps)

@@ -1,0 +1,16 @@
+pub mod Common
+pub mod ConversionLemmas
+pub mod EndLemmas
+pub mod OneRunLemmas
+pub mod KeyUseLemmas
+pub mod PrintedLemmas
+pub mod RunningLemmas
+pub mod TraceLineLemmas
+pub mod ReceivedLemmas
+pub mod EventLemmas
+pub mod SelectionLemmas
+pub mod FollowLemmas
+pub mod TracedRunLemmas
+pub mod LastTraceLemmas
+pub mod RoleLemmas
+pub mod TracedWhole

@@ -1,0 +1,13 @@
+pub mod Conversion
+pub mod Ends
+pub mod Selection
+pub mod KeyUseLines
+pub mod OnePattern
+pub mod OneRun
+pub mod Printed
+pub mod PrintedDatagrams
+pub mod PrintedTrace
+pub mod Running
+pub mod TracedEnds
+pub mod TracedEvents
+pub mod Tracing

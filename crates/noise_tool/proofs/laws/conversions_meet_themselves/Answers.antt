@@ -1,5 +1,0 @@
-use Rattle.noise_tool.proofs.ConversionLemmas.{conversions-meet}
-use Rattle.noise_tool.proofs.laws.conversions_meet_themselves.Goals as goal
-
-pub returns : goal.returns
-returns c = conversions-meet c.vector_texts_are_unique.ensures c.file_run_once.ensures

@@ -1,4 +1,0 @@
-use Rattle.noise_tool.proofs.report.entry_line.Goals as goal
-
-pub returns-in-WriteFault : goal.returns-in-WriteFault
-returns-in-WriteFault c d frames = rw c.in-WriteFault.is c.fault_line.ensures.text

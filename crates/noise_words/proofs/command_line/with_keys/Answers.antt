@@ -1,0 +1,4 @@
+use Rattle.noise_words.proofs.command_line.with_keys.Goals as goal
+
+pub returns-clause-shape : goal.returns-clause-shape
+returns-clause-shape c = c.with_argument.ensures.shape _ _ c.keys_value.ensures.rule c.with_value.ensures.shape
