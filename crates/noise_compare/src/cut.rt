@@ -3,7 +3,6 @@
 ghost use Rattle.std.specs.Prelude.{◌≡◌, ◌++◌, ◌==◌, IfOk, OnOk, length};
 ghost use Rattle.std.specs.List.{slice_split};
 ghost use Rattle.noise_compare.specs.Cut.{cut_line, cut_nonce_line, cut_text, has_cut_nonce, is_cut, is_whole_line, last_line, last_of, last_word, line_count, whole_lines, without_last};
-ghost use Rattle.noise_compare.specs.Plain.{plain_line};
 ghost use Rattle.noise_compare.specs.Reading.{is_wrong};
 
 use crate::line::{Line, parts};

@@ -1,9 +1,8 @@
 //! Mistakes of the start, and of steps that call MixHash.
 
-ghost use Rattle.std.specs.Prelude.{◌≡◌, ◌≤◌, ◌-◌, ◌++◌, Some, IfOk, length, map, replicate, take};
+ghost use Rattle.std.specs.Prelude.{◌≡◌, ◌++◌, IfOk, map};
 ghost use Rattle.std.specs.Char.{to_ascii_lowercase};
 ghost use Rattle.sha2.specs.Sha256.{sha256};
-ghost use Rattle.noise_compare.specs.States.{fits};
 ghost use Rattle.noise_compare.specs.Mixing.{first_hash, hash_explains, hash_state, hashed, length_in_front, length_in_front_explains, length_mixed, length_mixed_explains, name_explains, padded, redone, start_fits, with_hash, with_key};
 
 use crate::mistake::{HashMistake, NameMistake};

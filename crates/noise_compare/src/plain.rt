@@ -1,7 +1,6 @@
 //! The lines that people log, as `trace` prints them.
 
-ghost use Rattle.std.specs.Prelude.{◌≡◌, ◌≤◌, ◌==◌, ◌&&◌, ◌++◌, not, IfOk, OnOk, count_by, drop, length, map, slice_range};
-ghost use Rattle.std.specs.List.{filter, slice_split};
+ghost use Rattle.std.specs.Prelude.{◌≡◌, ◌≤◌, ◌++◌, IfOk, OnOk, drop, length};
 ghost use Rattle.noise_compare.specs.Plain.{add_word, bare_word, begins_schedule, begins_with, from_trace, is_none, is_written, place_or, skipped_line, skipped_text, plain_byte, plain_bytes, plain_line, plain_text, plain_word, plain_words, without, written_lines};
 
 use crate::line::parts;
