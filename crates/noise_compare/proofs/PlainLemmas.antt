@@ -1,5 +1,5 @@
 -- Where the last place of a line is at which a key schedule's line begins.
-use Rattle.std.proofs.Common.{◌≡◌, ℕ, zero, suc, ◌+◌, ◌<◌, List, [], ◌∷◌, arith, drop, length, refl}
+use Rattle.std.proofs.Common.{◌≡◌, ℕ, zero, suc, ◌<◌, List, [], ◌∷◌, arith, drop, length, refl}
 use Rattle.noise_compare.specs.Plain.{last_place_or, place_or}
 
 next_place : (text found : List ℕ) (i : ℕ) → i < length text

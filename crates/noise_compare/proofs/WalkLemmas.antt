@@ -1,6 +1,6 @@
 -- What a walk through a log says of the lines that are matched.
 use Rattle.std.proofs.Common.{◌≡◌, ◌∙◌, ◌<◌, ◌≤◌, ℕ, suc, refl, sym, ap, subst, Bool, true, false, not, List, [], ◌∷◌, Option, Some, None, get_or, length, take}
-use Rattle.std.specs.Prelude.{◌++◌, ◌&&◌, IfSome, drop, find, fold, if◌then◌else◌}
+use Rattle.std.specs.Prelude.{◌++◌, IfSome, drop, find, fold, if◌then◌else◌}
 use Rattle.std.specs.List.{All, filter}
 use Rattle.std.proofs.lemmas.List.Elements.{All-cons, All-head, All-nil, All-tail, filter-append}
 use Rattle.std.proofs.lemmas.List.Folds.{fold_stays}

@@ -10,7 +10,7 @@ use Rattle.noise_compare.specs.declared.state.Logged.{Logged}
 use Rattle.noise_compare.specs.Lines.{is_of_place, is_same_word, word_at, words_in}
 use Rattle.noise_compare.specs.Report.{ended, place_line, value_text}
 use Rattle.noise_compare.specs.Steps.{count_before}
-use Rattle.noise_compare.specs.Values.{AreLogged, has_bytes, is_text, items_of, kind_in, logged_word}
+use Rattle.noise_compare.specs.Values.{AreLogged, has_bytes, is_text, items_of, logged_word}
 use Rattle.noise_compare.specs.Words.{word_number}
 use Rattle.noise_compare.specs.States.{state_fits}
 use Rattle.std.specs.Option.{is_some}

@@ -2,7 +2,7 @@
 use Rattle.std.specs.Prelude.{ℕ, ◌-◌, ◌==◌, ◌&&◌, List, [], ◌++◌, Bool, not, codes, decimal, if◌then◌else◌, length, slice_get, take, unwrap_or}
 use Rattle.std.specs.List.{slice_split}
 use Rattle.noise_compare.specs.Lines.{is_of_schedule, line_words}
-use Rattle.noise_compare.specs.Plain.{plain_line, spaced}
+use Rattle.noise_compare.specs.Plain.{plain_bytes, plain_line}
 use Rattle.noise_compare.specs.Reading.{is_wrong}
 use Rattle.noise_compare.specs.Report.{ended}
 
@@ -25,7 +25,7 @@ is_cut text = is_wrong (plain_line (last_line text))
 
 -- what follows its last space: it may be a part of a word
 abbrev pub last_word : List ℕ → List ℕ
-last_word text = last_of (slice_split (λ b. b == 32) (spaced (last_line text)))
+last_word text = last_of (slice_split (λ b. b == 32) (plain_bytes (last_line text)))
 
 abbrev pub is_whole_line : List ℕ → Bool
 is_whole_line text = is_of_schedule (line_words text) && length (line_words text) == 12

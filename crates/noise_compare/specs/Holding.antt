@@ -30,7 +30,7 @@ use Rattle.noise_compare.specs.declared.equation.Derivation.TheVariants.{DigestF
 use Rattle.noise_compare.specs.declared.equation.RekeyNonce.{RekeyNonce}
 use Rattle.noise_compare.specs.declared.equation.RekeyNonce.TheVariants as nonce
 use Rattle.noise_compare.specs.declared.equation.Operation.{Operation}
-use Rattle.noise_compare.specs.declared.equation.Operation.TheVariants.{Same, Digest, DigestAfter, DigestBefore, MixedTwice, MixedFirst, MixedOutput, Code, CodeUnder, Expanded, ExpandedBy, Derived, Sealed, SealedAlone, SealedWith, SealedUnder, Renewed, RenewedWith, ButTag}
+use Rattle.noise_compare.specs.declared.equation.Operation.TheVariants.{Same, DigestAfter, DigestBefore, MixedTwice, MixedFirst, MixedOutput, Code, CodeUnder, Expanded, ExpandedBy, Derived, Sealed, SealedAlone, SealedWith, SealedUnder, Renewed, RenewedWith, ButTag}
 use Rattle.noise_compare.specs.declared.equation.Equation.{Equation}
 
 -- ---- what an operation takes

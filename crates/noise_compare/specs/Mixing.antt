@@ -20,8 +20,8 @@ abbrev pub padded : List ℕ → List ℕ
 padded text = take 32 text ++ replicate (32 - length text) 0
 
 -- the hash with which a handshake of this name begins (Noise 5.2)
-abbrev pub started : List ℕ → List ℕ
-started name = if nat_le (length name) 32 then padded name else sha256 name
+abbrev pub first_hash : List ℕ → List ℕ
+first_hash name = if nat_le (length name) 32 then padded name else sha256 name
 
 -- the hash and the chaining key are these, and all else is right
 abbrev pub start_fits : Situation → Logged → List ℕ → List ℕ → Bool
@@ -31,8 +31,8 @@ start_fits at logged hash chaining_key = has logged.bytes at.bytes.now && has lo
 unfoldable pub name_explains : NameMistake → Situation → Logged → Bool
 name_explains Hashed at logged = start_fits at logged (sha256 at.name.now) (sha256 at.name.now)
 name_explains Padded at logged = start_fits at logged (padded at.name.now) (padded at.name.now)
-name_explains LowerCase at logged =
-    start_fits at logged (started (map to_ascii_lowercase at.name.now)) (started (map to_ascii_lowercase at.name.now))
+name_explains LowerCase at logged = start_fits at logged (first_hash (map to_ascii_lowercase at.name.now))
+    (first_hash (map to_ascii_lowercase at.name.now))
 name_explains ChainingKeyOfZeros at logged = start_fits at logged at.right.hash (replicate 32 0)
 
 -- ---- MixHash

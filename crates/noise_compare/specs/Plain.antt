@@ -9,14 +9,14 @@ use Rattle.noise_compare.specs.Report.{ended}
 abbrev pub plain_byte : ℕ → ℕ
 plain_byte b = if b == 9 || b == 13 then 32 else (if nat_lt b 32 || nat_lt 126 b then 46 else to_ascii_lowercase b)
 
-abbrev pub spaced : List ℕ → List ℕ
-spaced text = map plain_byte text
+abbrev pub plain_bytes : List ℕ → List ℕ
+plain_bytes text = map plain_byte text
 
-abbrev pub begins : List ℕ → List ℕ → Bool
-begins text front = nat_le (length front) (length text) && bytes_eq (take (length front) text) front
+abbrev pub begins_with : List ℕ → List ℕ → Bool
+begins_with text front = nat_le (length front) (length text) && bytes_eq (take (length front) text) front
 
 abbrev pub without : List ℕ → List ℕ → List ℕ
-without word front = if begins word front then drop (length front) word else word
+without word front = if begins_with word front then drop (length front) word else word
 
 -- a word without `b'`, `0x` and quotes (39)
 abbrev pub bare_word : List ℕ → List ℕ
@@ -38,10 +38,10 @@ add_word line word = if length word == 0 then line
 
 -- a line of plain words, with single spaces
 abbrev pub plain_words : List ℕ → List ℕ
-plain_words text = fold add_word [] (slice_split (λ b. b == 32) (spaced text))
+plain_words text = fold add_word [] (slice_split (λ b. b == 32) (plain_bytes text))
 
 unfoldable pub begins_schedule : List ℕ → Bool
-begins_schedule text = begins text (codes "trace initiator ") || begins text (codes "trace responder ")
+begins_schedule text = begins_with text (codes "trace initiator ") || begins_with text (codes "trace responder ")
 
 -- this text, if it begins as a line of a key schedule, or else another
 abbrev pub place_or : List ℕ → List ℕ → List ℕ

@@ -1,5 +1,5 @@
 -- The step of a right line, by the facts of its run and the right lines before it.
-use Rattle.std.specs.Prelude.{◌≡◌, ◌⊎◌, ◌≤◌, ℕ, ◌-◌, ◌==◌, ◌++◌, Bool, not, List, [], Option, Some, None, codes, find, if◌then◌else◌, length, option_map, replicate, slice_get, take, unwrap_or}
+use Rattle.std.specs.Prelude.{◌≡◌, ◌⊎◌, ◌≤◌, ℕ, ◌-◌, ◌==◌, ◌++◌, Bool, List, [], Option, Some, None, codes, find, if◌then◌else◌, length, option_map, replicate, slice_get, take, unwrap_or}
 use Rattle.std.specs.Str.{bytes_eq}
 use Rattle.sha2.specs.Sha256.{sha256}
 use Rattle.noise_aead.specs.Sealing.{nonce_of, sealed}

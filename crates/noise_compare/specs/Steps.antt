@@ -13,8 +13,8 @@ abbrev pub is_alike : Line → Line → Bool
 is_alike line other = line.number == other.number && has_values other line
     && bytes_eq (word_at (words_in line) 3) (word_at (words_in other) 3)
 
-abbrev pub is_line : Line → Line → Bool
-is_line line other = is_of_place other line && is_of_place line other && is_alike line other
+abbrev pub is_same_line : Line → Line → Bool
+is_same_line line other = is_of_place other line && is_of_place line other && is_alike line other
 
 -- the state after a line, if it is of the party of another
 abbrev pub state_of_party : Line → Line → List State
@@ -26,7 +26,7 @@ states_in of lines = flat_map (λ line. state_of_party of line) lines
 
 -- how many lines stand before this one
 abbrev pub count_before : List Line → Line → ℕ
-count_before right expected = length (take_while (λ line. not (is_line line expected)) right)
+count_before right expected = length (take_while (λ line. not (is_same_line line expected)) right)
 
 -- the states after the lines of its party before this one
 abbrev pub states_before : List Line → Line → List State

@@ -1,8 +1,8 @@
 //! What is said of the likely mistakes.
 
-ghost use Rattle.std.specs.Prelude.{◌≡◌, ◌++◌, IfOk, OnOk, codes, map};
+ghost use Rattle.std.specs.Prelude.{◌≡◌, ◌++◌, IfOk, OnOk, map};
 ghost use Rattle.noise_compare.specs.Finding.{found_mistakes, said};
-ghost use Rattle.noise_compare.specs.Advice.{IsAdvice, advice_text, bytes_text, form_text, gap_text, has_known, has_other_bytes, has_state, hashed_text, is_hashed, is_known, is_known_number, unknown_text, wrong_text, lacks_state, lacks_value, mistakes_text, refusing_text, sentences};
+ghost use Rattle.noise_compare.specs.Advice.{advice_text, bytes_text, form_text, gap_text, has_known, has_other_bytes, has_state, hashed_text, is_hashed, is_known, is_known_number, unknown_text, wrong_text, lacks_state, lacks_value, mistakes_text, refusing_text, sentences};
 ghost use Rattle.noise_compare.specs.Report.{ended};
 ghost use Rattle.noise_compare.specs.Shown.{shown_text};
 

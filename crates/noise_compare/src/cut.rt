@@ -3,12 +3,11 @@
 ghost use Rattle.std.specs.Prelude.{◌≡◌, ◌++◌, ◌==◌, IfOk, OnOk, length};
 ghost use Rattle.std.specs.List.{slice_split};
 ghost use Rattle.noise_compare.specs.Cut.{cut_line, cut_nonce_line, cut_text, has_cut_nonce, is_cut, is_whole_line, last_line, last_of, last_word, line_count, whole_lines, without_last};
-ghost use Rattle.noise_compare.specs.Plain.{plain_line};
 ghost use Rattle.noise_compare.specs.Reading.{is_wrong};
 
 use crate::line::{Line, parts};
 use crate::log::WORDS;
-use crate::plain::{plain_line, spaced};
+use crate::plain::{plain_bytes, plain_line};
 use std::alloc::{AllocError, Global};
 
 /// A log without its last line, if that is cut off: it has no LF, begins as a line of a key schedule, and has more or
@@ -94,8 +93,8 @@ fn last_word_len(alloc: Global, text: &[u8]) -> Result<usize, AllocError>
     ensures { IfOk result (λ len. len ≡ length (last_word text.now)) }
 {
     let last = last_line(alloc, text)?;
-    let spaced = spaced(alloc, last)?;
-    let word = last_of(alloc, &spaced, b' ')?;
+    let plain = plain_bytes(alloc, last)?;
+    let word = last_of(alloc, &plain, b' ')?;
     Ok(word.len())
 }
 

@@ -4,7 +4,6 @@ ghost use Rattle.std.specs.Prelude.{◌≡◌, ◌≤◌, MatchOption, count_by,
 ghost use Rattle.noise_compare.specs.Differences.{Agrees, IsFirstDifference, IsUnmatched, beside, is_due, is_match, is_of_nonce, is_of_responder, is_step_of, is_whole, nearest, next_step};
 ghost use Rattle.noise_compare.specs.Lines.{is_of_place};
 ghost use Rattle.noise_compare.specs.Walk.{AreLeftAfter, AreLeftFrom, left_from};
-ghost use Rattle.noise_compare.specs.declared.difference.Rule.TheVariants.{ByValues};
 
 use crate::line::Line;
 

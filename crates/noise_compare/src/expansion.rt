@@ -1,7 +1,7 @@
 //! HMAC and HKDF in other forms.
 
 ghost use Rattle.std.specs.Prelude.{◌≡◌, ◌≤◌, ◌++◌, ◌∷◌, [], IfOk};
-ghost use Rattle.noise_compare.specs.Holding.{block, code_of, first_block, info_of, output_of, second_block, temporary_of};
+ghost use Rattle.noise_compare.specs.Holding.{block, code_of, info_of, output_of, temporary_of};
 
 use crate::equation::{Derivation, Expansion, Output};
 use crate::mixing::mixed;

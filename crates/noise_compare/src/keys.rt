@@ -2,7 +2,7 @@
 
 ghost use Rattle.std.specs.Prelude.{◌≡◌, IfOk};
 ghost use Rattle.noise_aead.specs.Sealing.{nonce_of};
-ghost use Rattle.noise_compare.specs.Keys.{fits_with_key, is_key, key_before_explains, key_explains, precedes, rekey_explains, split_explains};
+ghost use Rattle.noise_compare.specs.Keys.{earlier_hash_fits, fits_with_key, is_key, key_before_explains, key_explains, other_key_explains, precedes, rekey_explains, split_explains};
 
 use crate::mistake::KeyMistake;
 use crate::mixing::with_hash;
@@ -38,20 +38,8 @@ pub(crate) fn key_explains(
         KeyMistake::SplitInputs => {
             Ok(split_explains(at, logged, &[0; 32], &at.right.chaining_key))
         }
-        KeyMistake::Exchanged => Ok(
-            0 < at
-                .keys
-                .iter()
-                .filter(|key| fits_with_key(at, logged, *key) && !precedes(at, *key))
-                .count(),
-        ),
-        KeyMistake::EarlierHash => Ok(
-            0 < at
-                .hashes
-                .iter()
-                .filter(|hash| logged.fits(at.bytes, &with_hash(&at.right, **hash)))
-                .count(),
-        ),
+        KeyMistake::Exchanged => Ok(other_key_explains(at, logged)),
+        KeyMistake::EarlierHash => Ok(earlier_hash_fits(at, logged)),
         KeyMistake::NonceFromOne | KeyMistake::NonceRaised => {
             Ok(logged.fits(at.bytes, &with_nonce(&at.right, one_more(at.right.nonce))))
         }
@@ -83,6 +71,28 @@ fn split_explains(at: &Situation<'_>, logged: &Logged, key: &[u8; 32], input: &[
 {
     let (first, second) = expand2(key, input);
     fits_with_key(at, logged, &first) || fits_with_key(at, logged, &second)
+}
+
+// Whether another key of the transport gives them.
+fn other_key_explains(at: &Situation<'_>, logged: &Logged) -> bool
+    ensures { result ≡ other_key_explains at.now logged.now }
+{
+    0 < at
+        .keys
+        .iter()
+        .filter(|key| fits_with_key(at, logged, *key) && !precedes(at, *key))
+        .count()
+}
+
+// Whether the hash before some step gives them.
+fn earlier_hash_fits(at: &Situation<'_>, logged: &Logged) -> bool
+    ensures { result ≡ earlier_hash_fits at.now logged.now }
+{
+    0 < at
+        .hashes
+        .iter()
+        .filter(|hash| logged.fits(at.bytes, &with_hash(&at.right, **hash)))
+        .count()
 }
 
 // Whether the key before Rekey gives them.

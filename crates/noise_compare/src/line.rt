@@ -2,7 +2,6 @@
 
 ghost use Rattle.std.specs.Prelude.{◌≡◌, ◌==◌, IfOk, length, map};
 ghost use Rattle.std.specs.List.{slice_split};
-ghost use Rattle.std.specs.Str.{bytes_eq};
 ghost use Rattle.noise_compare.specs.Lines.{has_values, is_of_place, is_of_schedule, is_same_word, word_at, words_in, line_words};
 
 use crate::words::is_same_in_form;

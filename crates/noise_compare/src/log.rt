@@ -1,6 +1,6 @@
 //! Reading the lines of a log, and those of a key schedule.
 
-ghost use Rattle.std.specs.Prelude.{◌≡◌, ◌++◌, ℕ, false, None, IfErr, IfOk, OnOk, map};
+ghost use Rattle.std.specs.Prelude.{◌≡◌, ◌++◌, false, None, IfErr, IfOk, OnOk, map};
 ghost use Rattle.noise_compare.specs.Lines.{words_in, line_words};
 ghost use Rattle.noise_compare.specs.Reading.{IsLineFault, IsLogFault, first_wrong, is_wrong, schedule_line, schedule_lines, views};
 ghost use Rattle.noise_compare.specs.declared.log.LogFault.TheVariants.{Memory};

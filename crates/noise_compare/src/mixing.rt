@@ -1,10 +1,9 @@
 //! Mistakes of the start, and of steps that call MixHash.
 
-ghost use Rattle.std.specs.Prelude.{◌≡◌, ◌≤◌, ◌-◌, ◌++◌, Some, IfOk, length, map, replicate, take};
+ghost use Rattle.std.specs.Prelude.{◌≡◌, ◌++◌, IfOk, map};
 ghost use Rattle.std.specs.Char.{to_ascii_lowercase};
 ghost use Rattle.sha2.specs.Sha256.{sha256};
-ghost use Rattle.noise_compare.specs.States.{fits};
-ghost use Rattle.noise_compare.specs.Mixing.{hash_explains, hash_state, hashed, length_in_front, length_in_front_explains, length_mixed, length_mixed_explains, name_explains, padded, redone, start_fits, started, with_hash, with_key};
+ghost use Rattle.noise_compare.specs.Mixing.{first_hash, hash_explains, hash_state, hashed, length_in_front, length_in_front_explains, length_mixed, length_mixed_explains, name_explains, padded, redone, start_fits, with_hash, with_key};
 
 use crate::mistake::{HashMistake, NameMistake};
 use crate::state::{Logged, Situation, State, has, key_fits, nonce_fits};
@@ -33,7 +32,7 @@ pub(crate) fn name_explains(
         }
         NameMistake::LowerCase => {
             let name = lower_case(alloc, at.name)?;
-            let hash = started(alloc, &name)?;
+            let hash = first_hash(alloc, &name)?;
             Ok(start_fits(at, logged, &hash, &hash))
         }
         NameMistake::ChainingKeyOfZeros => { Ok(start_fits(at, logged, &at.right.hash, &[0; 32])) }
@@ -59,8 +58,8 @@ fn padded(alloc: Global, text: &[u8]) -> Result<Vec<u8>, AllocError>
     Ok(padded)
 }
 
-fn started(alloc: Global, name: &[u8]) -> Result<Vec<u8>, AllocError>
-    ensures { IfOk result (λ v. v.items ≡ started name.now) }
+fn first_hash(alloc: Global, name: &[u8]) -> Result<Vec<u8>, AllocError>
+    ensures { IfOk result (λ v. v.items ≡ first_hash name.now) }
 {
     if name.len() <= 32 {
         return padded(alloc, name);

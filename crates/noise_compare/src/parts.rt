@@ -1,10 +1,9 @@
 //! The step of a right line, with what comes before it.
 
 ghost use Rattle.std.specs.Prelude.{◌≡◌, ◌≤◌, ◌++◌, ℕ, List, Some, IfNone, IfOk, IfSome, find, length, option_copied, take, vec_len};
-ghost use Rattle.sha2.specs.Sha256.{sha256};
 ghost use Rattle.noise_aead.specs.Sealing.{sealed};
 ghost use Rattle.noise_compare.specs.Lines.{word_at, words_in};
-ghost use Rattle.noise_compare.specs.Situations.{IsOpened, IsSituation, IsTextOf, IsWholeText, agreed_state, data_of, gives_chaining_key, gives_hash, public_among, secret_among, secret_of, secrets_of};
+ghost use Rattle.noise_compare.specs.Situations.{IsOpened, IsTextOf, IsWholeText, agreed_state, data_of, gives_chaining_key, gives_hash, public_among, secret_among, secret_of, secrets_of};
 ghost use Rattle.noise_compare.specs.Steps.{hashes_in, last_state, states_before, transport_keys};
 ghost use Rattle.noise_compare.specs.Values.{kind_in, state_in, word_bytes};
 

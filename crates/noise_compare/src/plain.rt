@@ -1,8 +1,7 @@
 //! The lines that people log, as `trace` prints them.
 
-ghost use Rattle.std.specs.Prelude.{◌≡◌, ◌≤◌, ◌==◌, ◌&&◌, ◌++◌, not, IfOk, OnOk, count_by, drop, length, map, slice_range};
-ghost use Rattle.std.specs.List.{filter, slice_split};
-ghost use Rattle.noise_compare.specs.Plain.{add_word, bare_word, begins, begins_schedule, from_trace, is_none, is_written, place_or, skipped_line, skipped_text, plain_byte, plain_line, plain_text, plain_word, plain_words, spaced, without, written_lines};
+ghost use Rattle.std.specs.Prelude.{◌≡◌, ◌≤◌, ◌++◌, IfOk, OnOk, drop, length};
+ghost use Rattle.noise_compare.specs.Plain.{add_word, bare_word, begins_schedule, begins_with, from_trace, is_none, is_written, place_or, skipped_line, skipped_text, plain_byte, plain_bytes, plain_line, plain_text, plain_word, plain_words, without, written_lines};
 
 use crate::line::parts;
 use std::alloc::{AllocError, Global};
@@ -34,7 +33,7 @@ pub(crate) fn plain_line(alloc: Global, text: &[u8]) -> Result<Vec<u8>, AllocErr
 fn plain_words(alloc: Global, text: &[u8]) -> Result<Vec<u8>, AllocError>
     ensures { IfOk result (λ line. line.items ≡ plain_words text.now) }
 {
-    let text = spaced(alloc, text)?;
+    let text = plain_bytes(alloc, text)?;
     let words = parts(alloc, &text, b' ')?;
     let mut line = Vec::new(alloc);
     for word in words.iter() {
@@ -44,8 +43,8 @@ fn plain_words(alloc: Global, text: &[u8]) -> Result<Vec<u8>, AllocError>
 }
 
 /// The text in lower case, with spaces for tabs and carriage returns, and full stops for bytes that aren't printed.
-pub(crate) fn spaced(alloc: Global, text: &[u8]) -> Result<Vec<u8>, AllocError>
-    ensures { IfOk result (λ v. v.items ≡ spaced text.now) }
+pub(crate) fn plain_bytes(alloc: Global, text: &[u8]) -> Result<Vec<u8>, AllocError>
+    ensures { IfOk result (λ v. v.items ≡ plain_bytes text.now) }
 {
     text.iter().map(|b| plain_byte(*b)).collect(alloc)
 }
@@ -86,11 +85,11 @@ fn place_or<'a>(text: &'a [u8], i: usize, found: &'a [u8]) -> &'a [u8]
 fn begins_schedule(text: &[u8]) -> bool
     ensures { result ≡ begins_schedule text.now }
 {
-    begins(text, b"trace initiator ") || begins(text, b"trace responder ")
+    begins_with(text, b"trace initiator ") || begins_with(text, b"trace responder ")
 }
 
-fn begins(text: &[u8], front: &[u8]) -> bool
-    ensures { result ≡ begins text.now front.now }
+fn begins_with(text: &[u8], front: &[u8]) -> bool
+    ensures { result ≡ begins_with text.now front.now }
 {
     front.len() <= text.len() && &text[..front.len()] == front
 }
@@ -98,7 +97,7 @@ fn begins(text: &[u8], front: &[u8]) -> bool
 fn without<'a>(word: &'a [u8], front: &[u8]) -> &'a [u8]
     ensures { result.now ≡ without word.now front.now }
 {
-    if begins(word, front) {
+    if begins_with(word, front) {
         &word[front.len()..]
     } else {
         word

@@ -1,6 +1,6 @@
 //! What is said of a line of a log that doesn't agree, or before which a log ends.
 
-ghost use Rattle.std.specs.Prelude.{◌≡◌, ◌≤◌, ◌<◌, ◌++◌, None, Some, IfOk, OnOk, drop, find, length, option_copied};
+ghost use Rattle.std.specs.Prelude.{◌≡◌, ◌≤◌, ◌++◌, IfOk, OnOk, find, length, option_copied};
 ghost use Rattle.noise_compare.specs.Advice.{HasBytesAlone, IsAdvice, IsDropped, IsEndAdvice, IsNextAdvice, IsPlaceAdvice, dropped_advice, due_text, end_text, has_gap, is_dropped, is_due_for, keyed_text, keyless_text, lacking_line, lacking_lines, lacking_text, next_for, none_left_text, nonce_text, sealed_otherwise_text};
 ghost use Rattle.noise_compare.specs.Values.{is_text};
 

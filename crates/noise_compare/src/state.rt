@@ -1,7 +1,6 @@
 //! A step of a key schedule, as it is right and as it was logged.
 
 ghost use Rattle.std.specs.Prelude.{◌≡◌, ◌≤◌, length};
-ghost use Rattle.std.specs.Str.{bytes_eq};
 ghost use Rattle.noise_compare.specs.States.{fits, has, key_fits, nonce_fits, state_fits};
 
 /// A party's hash, chaining key, key and nonce.

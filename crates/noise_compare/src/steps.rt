@@ -1,8 +1,7 @@
 //! The step of a right line, among the right lines.
 
 ghost use Rattle.std.specs.Prelude.{◌≡◌, IfOk, OnOk, ◌++◌};
-ghost use Rattle.noise_compare.specs.Steps.{count_before, hashes_in, hashes_of, is_alike, is_line, is_of_key, key_of_line, last_state, one_key, states_before, states_in, state_of_party, transport_keys};
-ghost use Rattle.noise_compare.specs.Values.{word_key};
+ghost use Rattle.noise_compare.specs.Steps.{count_before, hashes_in, hashes_of, is_alike, is_of_key, is_same_line, key_of_line, last_state, one_key, states_before, states_in, state_of_party, transport_keys};
 
 use crate::line::Line;
 use crate::state::{Kind, State};
@@ -10,8 +9,8 @@ use crate::values::{key_in, kind_in, state_in};
 use std::alloc::{AllocError, Global};
 
 /// Whether a line is this one of the right lines.
-pub(crate) fn is_line(line: &Line<'_>, other: &Line<'_>) -> bool
-    ensures { result ≡ is_line line.now other.now }
+pub(crate) fn is_same_line(line: &Line<'_>, other: &Line<'_>) -> bool
+    ensures { result ≡ is_same_line line.now other.now }
 {
     line.is_of_place(other) && other.is_of_place(line) && is_alike(line, other)
 }
@@ -40,7 +39,7 @@ pub(crate) fn count_before(right: &[Line<'_>], expected: &Line<'_>) -> usize
 {
     right
         .iter()
-        .take_while(|line| !is_line(line, expected))
+        .take_while(|line| !is_same_line(line, expected))
         .count()
 }
 

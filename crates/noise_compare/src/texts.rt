@@ -2,8 +2,8 @@
 
 ghost use Rattle.std.specs.Prelude.{◌≡◌, ◌≤◌, ◌++◌, IfOk, length};
 ghost use Rattle.sha2.specs.Sha256.{sha256};
-ghost use Rattle.noise_aead.specs.Sealing.{nonce_of, sealed};
-ghost use Rattle.noise_compare.specs.Mixing.{hashed, with_hash};
+ghost use Rattle.noise_aead.specs.Sealing.{nonce_of};
+ghost use Rattle.noise_compare.specs.Mixing.{with_hash};
 ghost use Rattle.noise_compare.specs.States.{fits};
 ghost use Rattle.noise_compare.specs.Texts.{big_endian, big_endian_first_bytes, bytes_fit, earlier_hash_explains, first_bytes, hashed_before, nonce_fits_text, one_more, other_key_explains, raised, sealed_by_zero, sealed_fits, sealed_under, text_explains, text_state, without_steps_explains, without_tag, zero_fits};
 

@@ -1,7 +1,6 @@
 //! The values that the words of a line stand for.
 
 ghost use Rattle.std.specs.Prelude.{◌≡◌, IfOk};
-ghost use Rattle.noise_compare.specs.Lines.{word_at, words_in};
 ghost use Rattle.noise_compare.specs.Values.{AreLogged, agreement_or_text, has_bytes, is_none, is_text, items_of, kind_by, kind_in, logged_bytes, logged_if_any, logged_key, logged_word, start_kind, state_in, token_kind, transport_kind, word_array, word_bytes, word_key};
 
 use crate::line::Line;

@@ -1,6 +1,5 @@
-use Rattle.std.proofs.Common.{◌≡◌, ◌<◌, ◌∙◌, ℕ, Bool, true, false, List, Option, ap, length, option_copied, subst, sym}
+use Rattle.std.proofs.Common.{◌≡◌, ◌∙◌, ℕ, Bool, true, false, List, Option, ap, option_copied, subst, sym}
 use Rattle.noise_compare.specs.Differences.{IsFirstDifference, IsUnmatched, is_whole, rule_by}
-use Rattle.noise_compare.specs.declared.difference.Rule.{Rule}
 use Rattle.noise_compare.specs.declared.difference.Rule.TheVariants.{InTurn, ByValues}
 use Rattle.noise_compare.specs.declared.line.Line.{Line}
 use Rattle.noise_compare.proofs.WalkLemmas.{disagrees, same-line}

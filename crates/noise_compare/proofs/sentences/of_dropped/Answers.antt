@@ -1,4 +1,4 @@
-use Rattle.std.proofs.Common.{◌≡◌, ◌∙◌, ◌++◌, ℕ, Bool, List, [], ap, append_assoc, refl}
+use Rattle.std.proofs.Common.{◌≡◌, ◌∙◌, ◌++◌, ℕ, Bool, List, [], ap, append_assoc}
 use Rattle.noise_compare.specs.Advice.{dropped_advice}
 use Rattle.noise_compare.specs.Situations.{secrets_of}
 use Rattle.noise_compare.proofs.SituationLemmas.{same-text}
