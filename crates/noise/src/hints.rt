@@ -3,8 +3,8 @@
 use crate::seen::{Seen, Unread};
 use noise_explain::names_protocol;
 use noise_lines::{named_pattern, push_shown};
-use noise_names::{Pattern, ProtocolName};
-use noise_tool::{Chosen, Documented, Order};
+use noise_names::{NAME_PREFIX, Pattern, ProtocolName};
+use noise_tool::{Chosen, Documented, Order, whole_name};
 use std::alloc::{AllocError, Global};
 use std::io::ErrorKind;
 
@@ -135,18 +135,9 @@ fn exchanged_line(alloc: Global, log: &str, file: &str) -> Result<Vec<u8>, Alloc
     Ok(line)
 }
 
-// The name of the protocol with the pattern of this name.
-fn protocol_of(alloc: Global, name: &[u8]) -> Result<Vec<u8>, AllocError> {
-    let mut whole = Vec::new(alloc);
-    whole.extend_from_slice(b"Noise_".as_slice())?;
-    whole.extend_from_slice(name)?;
-    whole.extend_from_slice(b"_25519_ChaChaPoly_SHA256".as_slice())?;
-    Ok(whole)
-}
-
 // The pattern of this name, if there is one.
 fn pattern_of(alloc: Global, name: &[u8]) -> Result<Option<Pattern>, AllocError> {
-    Ok(pattern_in(&protocol_of(alloc, name)?))
+    Ok(pattern_in(&whole_name(alloc, name)?))
 }
 
 // The pattern in the name of a protocol, if there is one.
@@ -194,7 +185,7 @@ fn push_question(
 ) -> Result<(), AllocError> {
     line.extend_from_slice(b" Did you mean ".as_slice())?;
     if is_protocol {
-        line.extend_from_slice(&protocol_of(alloc, name)?)?;
+        line.extend_from_slice(&whole_name(alloc, name)?)?;
     } else {
         line.extend_from_slice(name)?;
     }
@@ -219,12 +210,12 @@ fn push_psks(
 
 // Whether a name begins as that of a protocol.
 fn begins_as_protocol(name: &[u8]) -> bool {
-    name.starts_with(b"Noise_".as_slice()) || name.starts_with(b"noise_".as_slice())
+    name.starts_with(NAME_PREFIX) || name.starts_with(b"noise_".as_slice())
 }
 
 // What stands between `Noise_` and the next low line, without a colon at its end.
 fn section_of(name: &[u8]) -> &[u8] {
-    let rest = if let Some(rest) = name.strip_prefix(b"Noise_") {
+    let rest = if let Some(rest) = name.strip_prefix(NAME_PREFIX) {
         rest
     } else if let Some(rest) = name.strip_prefix(b"noise_") {
         rest

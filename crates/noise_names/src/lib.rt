@@ -16,7 +16,7 @@ mod token;
 mod valid;
 
 pub use faults::{NameFault, PlaceFault, RuleFault, TextFault, TextFaultKind};
-pub use name::ProtocolName;
+pub use name::{NAME_PREFIX, NAME_SUFFIX, ProtocolName};
 pub use pattern::{Message, Pattern};
 pub use places::PskPlaces;
 pub use section::base_len;

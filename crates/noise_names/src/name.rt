@@ -9,11 +9,11 @@ use crate::{NameFault, PskPlaces};
 use arrayvec::ArrayVec;
 use std::marker::Model;
 
-// What every name begins with.
-const PREFIX: &[u8] = b"Noise_";
+/// What every protocol name begins with (Noise, 8).
+pub const NAME_PREFIX: &[u8] = b"Noise_";
 
-// What every name ends with: its algorithms.
-const SUFFIX: &[u8] = b"_25519_ChaChaPoly_SHA256";
+/// What the protocol names of this library end with: its algorithms (Noise, 8).
+pub const NAME_SUFFIX: &[u8] = b"_25519_ChaChaPoly_SHA256";
 
 /// A protocol name (Noise, 8): its base and psk places, which are all that differs among the names of this library.
 #[derive(Clone, Debug, Drop, PartialEq, Eq)]
@@ -84,10 +84,10 @@ impl ProtocolName {
         ensures bound { length (name_bytes self.now) ≤ 82 }
     {
         let mut out = ArrayVec::new();
-        out.try_extend_from_slice(PREFIX).unwrap();
+        out.try_extend_from_slice(NAME_PREFIX).unwrap();
         out.try_extend_from_slice(&self.base).unwrap();
         push_modifiers(&mut out, self.places.numbers());
-        out.try_extend_from_slice(SUFFIX).unwrap();
+        out.try_extend_from_slice(NAME_SUFFIX).unwrap();
         out
     }
 }
@@ -99,7 +99,7 @@ fn read_name(bytes: &[u8]) -> Result<ProtocolName, NameFault>
     if bytes.len() > 255 {
         return Err(NameFault::Length);
     }
-    let Some(after) = bytes.strip_prefix(PREFIX) else {
+    let Some(after) = bytes.strip_prefix(NAME_PREFIX) else {
         return Err(NameFault::Prefix);
     };
     let (section, algorithm) = after.split_at(section_len(after));
@@ -114,7 +114,7 @@ fn read_name(bytes: &[u8]) -> Result<ProtocolName, NameFault>
 fn is_algorithm(bytes: &[u8]) -> bool
     ensures { result ≡ bytes_eq bytes.now suffix }
 {
-    bytes == SUFFIX
+    bytes == NAME_SUFFIX
 }
 
 // How many bytes come before the first `_`.

@@ -23,5 +23,6 @@ pub use noise_run::{conversions_meet_themselves, entry_lines, file_run_once};
 pub use noise_words::{
     Chosen, Documented, LineFault, Order, Tested, chosen, line_status, next_commands,
 };
+pub use pattern_names::whole_name;
 pub use performing::perform;
 pub use testing::FilesByName;

@@ -7,7 +7,7 @@ ghost use Rattle.noise_names.specs.Plan.{Plan};
 ghost use Rattle.noise_tool.specs.PatternNames.{IsShownFault, NamesFundamental, NamesText, StandsFor, whole_name};
 
 use noise_lines::{Fault, named_pattern, show};
-use noise_names::{ProtocolName, fundamental};
+use noise_names::{NAME_PREFIX, NAME_SUFFIX, ProtocolName, fundamental};
 use std::alloc::{AllocError, Global};
 
 /// What `show` prints of the protocol name that a word stands for.
@@ -26,7 +26,7 @@ pub(crate) fn pattern_text(alloc: Global, word: &str) -> Result<Option<Vec<u8>>,
     ensures bound { IfOk result (λ found. IfSome found (λ text. vec_len text ≤ 4194304)) }
     ensures none { IfOk result (λ found. IfNone found ((text : List ℕ) → NamesText word.now text → ⊥)) }
 {
-    let whole = whole_name(alloc, word)?;
+    let whole = whole_name(alloc, word.as_bytes())?;
     let Ok(name) = ProtocolName::parse(&whole) else {
         return Ok(None);
     };
@@ -42,21 +42,21 @@ pub(crate) fn pattern_text(alloc: Global, word: &str) -> Result<Option<Vec<u8>>,
 fn protocol_name(alloc: Global, word: &str) -> Result<Vec<u8>, AllocError>
     ensures { IfOk result (λ bytes. StandsFor word.now bytes.items) }
 {
-    let whole = whole_name(alloc, word)?;
+    let whole = whole_name(alloc, word.as_bytes())?;
     if names_fundamental(&whole) {
         return Ok(whole);
     }
     Vec::from_slice(alloc, word.as_bytes())
 }
 
-// The protocol name with this pattern name.
-fn whole_name(alloc: Global, word: &str) -> Result<Vec<u8>, AllocError>
+/// The protocol name with this pattern name.
+pub fn whole_name(alloc: Global, word: &[u8]) -> Result<Vec<u8>, AllocError>
     ensures { IfOk result (λ bytes. bytes.items ≡ whole_name word.now) }
 {
     let mut bytes = Vec::new(alloc);
-    bytes.extend_from_slice(b"Noise_")?;
-    bytes.extend_from_slice(word.as_bytes())?;
-    bytes.extend_from_slice(b"_25519_ChaChaPoly_SHA256")?;
+    bytes.extend_from_slice(NAME_PREFIX)?;
+    bytes.extend_from_slice(word)?;
+    bytes.extend_from_slice(NAME_SUFFIX)?;
     Ok(bytes)
 }
 
