@@ -20,7 +20,7 @@ mod verdict;
 
 pub use checking::check;
 pub use conversion::convert;
-pub use fault_report::{fault_line, report_fault};
+pub use fault_report::fault_line;
 pub use faults::Fault;
 pub use input::read_file;
 pub use line::{Line, role_word, token_word};

@@ -17,7 +17,7 @@ pub use Rattle.noise_handshake.specs.Setup.{has_before, psks_of, setup_fault}
 pub use Rattle.noise_lines.specs.Faults.{of_vector, status_of}
 pub use Rattle.noise_lines.specs.Lines.{lines_text}
 pub use Rattle.noise_lines.specs.Prefixes.{AppendsPrefix}
-pub use Rattle.noise_lines.specs.Reported.{IsReportedOf, LeavesOther, LeavesOutput, ReportsRule, error_text, fault_line}
+pub use Rattle.noise_lines.specs.Reported.{error_text, fault_line}
 pub use Rattle.noise_lines.specs.TracedLines.{traces_of}
 pub use Rattle.noise_lines.specs.Verdicts.{IsJudged, IsMet, is_met, verdict_text}
 pub use Rattle.noise_lines.specs.declared.faults.Fault.{Fault}
