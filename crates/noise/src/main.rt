@@ -12,7 +12,7 @@ use hints::{VERSION_ONE, lines_below};
 use noise_lines::write;
 use noise_tool::{
     Fault, LineFault, NamedFiles, Order, System, chosen, line_status, next_commands, perform,
-    read_file, report_fault,
+    print, read_file,
 };
 use seen::{Seen, Watched};
 use std::alloc::Global;
@@ -192,7 +192,7 @@ impl Write for Errors<'_> {
 }
 
 fn ends_with(rt: &HostRuntime, fault: Fault) -> u8 {
-    report_fault(rt.alloc(), fault, &mut rt.stdout(), &mut rt.stderr())
+    print(rt.alloc(), Err(fault), &mut rt.stdout(), &mut rt.stderr())
 }
 
 // Help, where it is asked for, is no fault and goes to standard output.

@@ -1,7 +1,7 @@
 -- The text of a trace, written line by line.
-use Rattle.std.proofs.Common.{◌≡◌, ◌∙◌, refl, sym, ap, ap₂, ℕ, zero, suc, ◌+◌, List, [], ◌∷◌, ◌++◌, Option, Vec, drop, take, slice_get, append_assoc, add-one}
+use Rattle.std.proofs.Common.{◌≡◌, ◌∙◌, refl, sym, ap, ℕ, zero, suc, ◌+◌, List, [], ◌∷◌, ◌++◌, Option, Vec, drop, slice_get, append_assoc, add-one}
 use Rattle.std.specs.Global.{Global}
-use Rattle.noise_lines.proofs.Common.{unwrap_or, Appends, Appends-trans, take-map, lines_text, AppendsPrefix, bytes_of, traces_of, with_traces, with_traces_to}
+use Rattle.noise_lines.proofs.Common.{unwrap_or, Appends, Appends-trans, lines_text, AppendsPrefix, bytes_of, with_traces}
 use Rattle.noise_lines.proofs.PrefixLemmas.{prefix-after}
 
 pub prefix-more : (a b : Option (List ℕ)) (next more whole : List ℕ) → AppendsPrefix a b next → whole ≡ next ++ more → AppendsPrefix a b whole
@@ -82,10 +82,3 @@ line-here lines i x text here is =
     drop-bytes lines i ∙ ap bytes_of here
     ∙ ap (λ (t : List ℕ). t ∷ bytes_of (drop (i + 1) lines)) (sym is)
     ∙ ap (λ (ls : List (List ℕ)). text ∷ ls) (sym (drop-bytes lines (i + 1)))
-
--- the front, by the fronts of the two
-pub front-with_traces : (number : ℕ) (all lines : List (Vec ℕ Global)) (every traces : List (Vec (Vec ℕ Global) Global)) → lines ≡ take number all
-    → traces ≡ take number every → with_traces (bytes_of lines) (traces_of traces) ≡ with_traces_to number (bytes_of all) (traces_of every)
-front-with_traces number all lines every traces lines_are traces_are =
-    ap₂ with_traces (ap bytes_of lines_are ∙ sym (take-map (λ (v : Vec ℕ Global). v.items) number all))
-    (ap traces_of traces_are ∙ sym (take-map (λ (t : Vec (Vec ℕ Global) Global). bytes_of t.items) number every))

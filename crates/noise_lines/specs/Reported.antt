@@ -1,6 +1,5 @@
 -- The line that is reported of a fault, without its LF.
-use Rattle.std.specs.Prelude.{◌≡◌, ◌⊎◌, ℕ, List, [], ◌∷◌, ◌++◌, ⊤, Option, codes, decimal}
-use Rattle.std.specs.Io.KnownBytes.{Appends}
+use Rattle.std.specs.Prelude.{ℕ, List, [], ◌∷◌, ◌++◌, codes, decimal}
 use Rattle.noise_names.specs.declared.faults.NameFault.{NameFault}
 use Rattle.noise_names.specs.declared.faults.NameFault.TheVariants as name
 use Rattle.noise_names.specs.declared.faults.TextFaultKind.{TextFaultKind}
@@ -11,7 +10,6 @@ use Rattle.noise_vectors.specs.declared.faults.LineKind.{LineKind}
 use Rattle.noise_vectors.specs.declared.faults.LineKind.TheVariants as of_line
 use Rattle.noise_vectors.specs.VectorText.{role_word}
 use Rattle.noise_lines.specs.Lines.{line_of}
-use Rattle.noise_lines.specs.Prefixes.{AppendsPrefix}
 use Rattle.noise_lines.specs.declared.faults.Fault.{Fault}
 use Rattle.noise_lines.specs.declared.faults.Fault.TheVariants.{Rule, Place, Setup, Unmet, Name, UnknownPattern, Text, Line, TooLong, Unreadable, Unwritable, Memory}
 
@@ -72,28 +70,7 @@ fault_words Memory = codes "out of memory" ∷ []
 abbrev pub fault_line : Fault → List ℕ
 fault_line why = line_of (fault_words why)
 
--- a broken rule is reported on the output, after what it held
-abbrev pub ReportsRule : Fault → Option (List ℕ) → Option (List ℕ) → Type 0
-ReportsRule (Rule f) before after = Appends before after (fault_line (Rule f) ++ 10 ∷ [])
-ReportsRule fault before after = ⊤
-
--- A broken rule is reported on the output and leaves the error output as it was; any other fault is reported on the
--- error output and leaves the output as it was. Both are given before and after.
-abbrev pub LeavesOther : {O E : Type 0} → Fault → O → O → E → E → Type 0
-LeavesOther (Rule fault) out out_after err err_after = err_after ≡ err
-LeavesOther fault out out_after err err_after = out_after ≡ out
-
--- A prefix of a broken rule's line comes to the output; any other fault leaves it as it was.
-abbrev pub LeavesOutput : {O : Type 0} → (O → Option (List ℕ)) → Fault → O → O → Type 0
-LeavesOutput contents (Rule f) out out_after =
-    AppendsPrefix (contents out) (contents out_after) (fault_line (Rule f) ++ 10 ∷ [])
-LeavesOutput contents fault out out_after = out_after ≡ out
-
 -- what comes to the error output: the fault's line, and nothing of a broken rule, which is reported on the output
 abbrev pub error_text : Fault → List ℕ
 error_text (Rule f) = []
 error_text fault = fault_line fault ++ 10 ∷ []
-
--- this fault is reported, or what kept it from being reported
-abbrev pub IsReportedOf : Fault → Fault → Type 0
-IsReportedOf fault reported = (reported ≡ fault) ⊎ (reported ≡ Memory) ⊎ (reported ≡ Unwritable)

@@ -1,76 +1,16 @@
 //! The texts of faults.
 
-ghost use Rattle.std.specs.Prelude.{◌≡◌, ◌⊎◌, ◌∷◌, [], decimal, codes, IfOk, IsTrue, MatchResult, OnOk};
+ghost use Rattle.std.specs.Prelude.{◌≡◌, ◌∷◌, [], decimal, codes, IfOk, IsTrue};
 ghost use Rattle.std.specs.List.{join_with_byte};
-ghost use Rattle.noise_lines.specs.Faults.{status_of};
-ghost use Rattle.noise_lines.specs.Prefixes.{AppendsPrefix};
-ghost use Rattle.noise_lines.specs.Reported.{IsReportedOf, LeavesOther, LeavesOutput, error_text};
 ghost use Rattle.noise_lines.specs.PrintedWords.{is_printed};
 ghost use Rattle.noise_lines.specs.Reported as reported;
-ghost use Rattle.noise_lines.specs.declared.faults.Fault.TheVariants.{Memory, Unwritable};
 
 use crate::faults::Fault;
 use crate::line::{Line, role_word};
-use crate::output::{flush, write};
 use noise_keys::SetupFault;
 use noise_names::{NameFault, TextFaultKind};
 use noise_vectors::LineKind;
 use std::alloc::{AllocError, Global};
-use std::io::Write;
-
-/// Writes what the fault is, a broken rule to `out` and any other to `err`, and gives the exit status. Where memory for
-/// the text or a write to `out` is refused, that is the fault, and it is written to `err`. A refused write to `err`
-/// leaves the status; a prefix of the line was written.
-pub fn report_fault<O: Write, E: Write>(alloc: Global, fault: Fault, out: &mut O, err: &mut E) -> u8
-    ensures status { (result ≡ status_of fault) ⊎ (result ≡ 3) }
-    ensures other { (result ≡ 3) ⊎ LeavesOther fault out.old out.new err.old err.new }
-    ensures rule { (result ≡ 3) ⊎ reported.ReportsRule fault (O.contents out.old) (O.contents out.new) }
-    ensures output { LeavesOutput O.contents fault out.old out.new }
-    ensures reported { (reported : Fault) × IsReportedOf fault reported × (status_of reported ≡ result)
-        × AppendsPrefix (E.contents err.old) (E.contents err.new) (error_text reported) }
-{
-    match write_fault(alloc, fault, out, err) {
-        Ok(()) => fault.status(),
-        Err(other) => {
-            let _ = write(last_text(other), err);
-            other.status()
-        }
-    }
-}
-
-fn write_fault<O: Write, E: Write>(
-    alloc: Global,
-    fault: Fault,
-    out: &mut O,
-    err: &mut E,
-) -> Result<(), Fault>
-    ensures other { OnOk result (LeavesOther fault out.old out.new err.old err.new) }
-    ensures rule { OnOk result (reported.ReportsRule fault (O.contents out.old) (O.contents out.new)) }
-    ensures output { LeavesOutput O.contents fault out.old out.new }
-    ensures reported { MatchResult result (λ _. AppendsPrefix (E.contents err.old) (E.contents err.new)
-        (error_text fault))
-        (λ other. ((other ≡ Memory) ⊎ (other ≡ Unwritable)) × (err.new ≡ err.old)) }
-{
-    let line = fault_line(alloc, fault)?;
-    if let Fault::Rule(_) = fault {
-        line.write(out)?;
-        return flush(out);
-    }
-    match line.write(err) {
-        Err(Fault::Memory) => Err(Fault::Memory),
-        _ => Ok(()),
-    }
-}
-
-// A text that takes no memory.
-fn last_text(fault: Fault) -> &'static [u8]
-    ensures { (fault ≡ Memory) ⊎ (fault ≡ Unwritable) → result.now ≡ error_text fault }
-{
-    match fault {
-        Fault::Unwritable => b"cannot write\n",
-        _ => b"out of memory\n",
-    }
-}
 
 /// The line that says what the fault is.
 pub fn fault_line(alloc: Global, fault: Fault) -> Result<Line, AllocError>

@@ -20,7 +20,7 @@ mod verdict;
 
 pub use checking::check;
 pub use conversion::convert;
-pub use fault_report::{fault_line, report_fault};
+pub use fault_report::fault_line;
 pub use faults::Fault;
 pub use input::read_file;
 pub use line::{Line, role_word, token_word};
@@ -29,6 +29,6 @@ pub use named::named_pattern;
 pub use output::{flush, write, write_lines};
 pub use showing::show;
 pub use shown::push_shown;
-pub use traced_lines::{write_traced, write_traced_to};
+pub use traced_lines::write_traced;
 pub use valid::{named_valid_pattern, spelled_valid_pattern};
 pub use verdict::{Difference, Verdict, compare, judge, named_fault, verdict_lines};

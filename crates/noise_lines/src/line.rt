@@ -1,21 +1,15 @@
 //! Lines of output.
 
-ghost use Rattle.std.specs.Prelude.{◌≡◌, ◌⊎◌, ◌++◌, ◌∷◌, [], IfErr, IfOk, IsTrue, OnOk, decimal};
-ghost use Rattle.std.specs.Io.KnownBytes.{Appends};
-ghost use Rattle.noise_lines.specs.Prefixes.{AppendsPrefix};
+ghost use Rattle.std.specs.Prelude.{◌≡◌, ◌++◌, ◌∷◌, IfOk, IsTrue, decimal};
 ghost use Rattle.noise_lines.specs.PrintedWords.{is_printed};
-ghost use Rattle.noise_lines.specs.declared.faults.Fault.TheVariants.{Memory, Unwritable};
 ghost use Rattle.noise_names.specs.Text.{word_of};
 ghost use Rattle.noise_vectors.specs.HexWord.{hex_of};
 ghost use Rattle.noise_vectors.specs.VectorFile.{IsExpected};
 ghost use Rattle.noise_vectors.specs.VectorText as text;
 
-use crate::faults::Fault;
-use crate::output::write;
 use noise_names::{Role, Token};
 use noise_vectors::hex_word;
 use std::alloc::{AllocError, Global};
-use std::io::Write;
 
 /// A line of output, made word by word. It is at least one byte, and each one is printed.
 #[derive(Drop)]
@@ -71,18 +65,6 @@ impl Line {
         ensures printed { IsExpected result.items }
     {
         self.text
-    }
-
-    /// Writes the line, with an LF after it. Where a write is refused, a prefix of that was written; where memory is
-    /// refused, nothing.
-    pub fn write<W: Write>(self, out: &mut W) -> Result<(), Fault>
-        ensures written { OnOk result (Appends (W.contents out.old) (W.contents out.new) (self.text.items ++ 10 ∷ [])) }
-        ensures prefix { AppendsPrefix (W.contents out.old) (W.contents out.new) (self.text.items ++ 10 ∷ []) }
-        ensures fault { IfErr result (λ fault. ((fault ≡ Memory) × (out.new ≡ out.old)) ⊎ (fault ≡ Unwritable)) }
-    {
-        let Line { mut text, .. } = self;
-        text.push(b'\n').map_err(AllocError::from)?;
-        write(text.as_slice(), out)
     }
 }
 

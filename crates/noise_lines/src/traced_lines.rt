@@ -1,11 +1,11 @@
 //! Lines, each with those that follow it.
 
-ghost use Rattle.std.specs.Prelude.{◌≡◌, ◌∷◌, ◌++◌, [], IfErr, OnOk, slice_get, take, unwrap_or};
+ghost use Rattle.std.specs.Prelude.{◌≡◌, ◌∷◌, ◌++◌, [], IfErr, OnOk, slice_get, unwrap_or};
 ghost use Rattle.std.specs.Io.KnownBytes.{Appends};
 ghost use Rattle.noise_names.specs.Lists.{bytes_of};
 ghost use Rattle.noise_lines.specs.Lines.{lines_text};
 ghost use Rattle.noise_lines.specs.Prefixes.{AppendsPrefix};
-ghost use Rattle.noise_lines.specs.TracedLines.{traces_of, with_traces, with_traces_to};
+ghost use Rattle.noise_lines.specs.TracedLines.{traces_of, with_traces};
 ghost use Rattle.noise_lines.specs.declared.faults.Fault.TheVariants.{Unwritable};
 
 use crate::faults::Fault;
@@ -28,32 +28,6 @@ pub fn write_traced<O: Write>(
 {
     write_lines(start, out)?;
     write_each(lines, traces, out)
-}
-
-/// Writes the front of that: up to the line of this number, from 1 on, and those that follow that line. Where there are
-/// fewer lines it is all.
-pub fn write_traced_to<O: Write>(
-    number: usize,
-    start: &[Vec<u8>],
-    lines: &[Vec<u8>],
-    traces: &[Vec<Vec<u8>>],
-    out: &mut O,
-) -> Result<(), Fault>
-    ensures written { OnOk result (Appends (O.contents out.old) (O.contents out.new)
-        (lines_text (bytes_of start.now ++ with_traces_to number (bytes_of lines.now) (traces_of traces.now)))) }
-    ensures prefix { AppendsPrefix (O.contents out.old) (O.contents out.new)
-        (lines_text (bytes_of start.now ++ with_traces_to number (bytes_of lines.now) (traces_of traces.now))) }
-    ensures fault { IfErr result (λ fault. fault ≡ Unwritable) }
-{
-    write_traced(start, front(lines, number), front(traces, number), out)
-}
-
-// The first of these, so many, or all where there are fewer.
-fn front<T>(items: &[T], count: usize) -> &[T]
-    ensures { result.now ≡ take count items.now }
-{
-    let (first, _) = items.split_at(count.min(items.len()));
-    first
 }
 
 // Writes each of these lines, and those that follow it.

@@ -43,7 +43,7 @@ pub use Rattle.noise_vectors.specs.declared.file_keys.FileKeys.{FileKeys}
 pub use Rattle.noise_vectors.specs.declared.vector.FileDatagrams.{FileDatagrams}
 pub use Rattle.noise_vectors.specs.declared.vector.VectorFile.{VectorFile}
 pub use Rattle.noise_run.specs.Ends.{IsFilePattern, IsPlanOf, IsStartFault, file_start, setup_of, sides_of_file}
-pub use Rattle.noise_run.specs.KeyUseLines.{HasLaterNonce, key_use_lines, rekeyed_lines, transport_lines}
+pub use Rattle.noise_run.specs.KeyUseLines.{RenewsBeforeLastNonce, key_use_lines, rekeyed_lines, transport_lines}
 pub use Rattle.noise_run.specs.Printed.{frame_numbered, note_line, state_lines}
 pub use Rattle.noise_run.specs.PrintedTrace.{act_word, call_word, none_word, part_word, start_call_word, start_lines_from, start_word, state_key_word, step_lines_from, transport_call_word, transport_line}
 pub use Rattle.noise_run.specs.Running.{AreLast, IsRunOf, LeavesLines, are_ready, datagram_run_lines, datagrams_of_version, expected_in, gone_over, is_ready}

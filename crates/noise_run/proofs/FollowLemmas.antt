@@ -1,7 +1,7 @@
 -- The key schedule of an end after a message.
 use Rattle.std.proofs.Common.{rules, ◌≡◌, ◌∙◌, refl, sym, ap, subst, ℕ, Bool, true, false, List, [], Vec, Result, Err, IfOk, drop, length}
 use Rattle.std.specs.Prelude.{if◌then◌else◌}
-use Rattle.noise_run.proofs.Common.{Global, IfOk-weaker, drop_at, SendFault, EndState, ended_session, frame, StepValue, Judges, accepted, refused, opened, dropped, exhausted, Note, SideReads, SideWrites, writes_nothing, writes_handshake, writes_transport, accepts_handshake, accepts_transport, refuses_message, Side, bytes_of, FileKeys, HasLaterNonce, key_use_lines, ShowsEnd, TracedMatches, note_ends, Used, about, act_of, read_use, read_trace, written_frame, written_message, written_use, written_trace, Selection, TracedEnd}
+use Rattle.noise_run.proofs.Common.{Global, IfOk-weaker, drop_at, SendFault, EndState, ended_session, frame, StepValue, Judges, accepted, refused, opened, dropped, exhausted, Note, SideReads, SideWrites, writes_nothing, writes_handshake, writes_transport, accepts_handshake, accepts_transport, refuses_message, Side, bytes_of, FileKeys, RenewsBeforeLastNonce, key_use_lines, ShowsEnd, TracedMatches, note_ends, Used, about, act_of, read_use, read_trace, written_frame, written_message, written_use, written_trace, Selection, TracedEnd}
 use Rattle.byteorder.specs.Endian.{big_bytes}
 use Rattle.noise_session.specs.Faults.{ends}
 use Rattle.noise_session.specs.Sending.{Sends}
@@ -91,7 +91,7 @@ pub wrote-whole : {E : Type 0} (selection : Selection) (t u : TracedEnd) (end : 
     → (EndFollows pairs_of t.end s.state → noted ≡ note → message ≡ written_message s payload next note w
     → Used m (written_use s payload next note w) end next.state)
     → u.role ≡ t.role → u.psks ≡ t.psks → u.end ≡ end → u.partial.items ≡ (if note_ends noted then [] else t.partial.items)
-    → (HasLaterNonce m → IfOk result (λ lines. bytes_of lines.items ≡ key_use_lines selection given message m))
+    → (RenewsBeforeLastNonce m → IfOk result (λ lines. bytes_of lines.items ≡ key_use_lines selection given message m))
     → IfOk result (λ lines. (bytes_of lines.items ≡ written_trace selection t.role s payload next note w) × TracedMatches u next.state)
 wrote-whole selection t u end given message bytes m noted s payload next note w result matches reported framed cut abouts clause role psks ends partial made =
     let text : message ≡ written_message s payload next note w = cut ∙ ap (drop 2) framed ∙ written-text s payload next note w in

@@ -1,7 +1,7 @@
 -- What is shown of a message, by what the note of it says.
 use Rattle.std.proofs.Common.{rules, ◌≡◌, ◌≢◌, ◌∙◌, ◌⊎◌, inl, inr, ◌+◌, ◌==◌, ◌&&◌, refl, sym, ap, subst, arith, ℕ, Bool, true, false, List, [], length, Option, Some, None, Result, Err, IsTrue, Vec, nat_lt}
 use Rattle.std.specs.Prelude.{if◌then◌else◌}
-use Rattle.noise_run.proofs.Common.{Role, Responder, Plan, same_role, SendFault, EndState, ended_session, progress_of, is_open, refusal, StepValue, Judges, refused, dropped, exhausted, Global, Entry, note_of, Note, Wrote, WriteFault, SideReads, SideWrites, writes_nothing, writes_handshake, writes_transport, accepts_handshake, accepts_transport, refuses_message, Side, FileKeys, HasLaterNonce, Follow, Used, judged_use, read_use, unsent_use, written_message, written_use}
+use Rattle.noise_run.proofs.Common.{Role, Responder, Plan, same_role, SendFault, EndState, ended_session, progress_of, is_open, refusal, StepValue, Judges, refused, dropped, exhausted, Global, Entry, note_of, Note, Wrote, WriteFault, SideReads, SideWrites, writes_nothing, writes_handshake, writes_transport, accepts_handshake, accepts_transport, refuses_message, Side, FileKeys, RenewsBeforeLastNonce, Follow, Used, judged_use, read_use, unsent_use, written_message, written_use}
 use Rattle.noise_handshake.specs.declared.faults.Cause.{Cause}
 use Rattle.noise_handshake.specs.Matching.{after_message, after_own}
 use Rattle.noise_handshake.specs.Party.{Accepts, Refuses}
@@ -26,11 +26,11 @@ Trace = EndTrace FileKeys
 
 -- ---- nonces
 
-counted : (n : ℕ) (key : List ℕ) (renewed : Option (List ℕ)) → n ≢ last_nonce → HasLaterNonce (Transport n key renewed)
+counted : (n : ℕ) (key : List ℕ) (renewed : Option (List ℕ)) → n ≢ last_nonce → RenewsBeforeLastNonce (Transport n key renewed)
 counted n key None more = tt
 counted n key (Some next) more = more
 
-counted-passed : (r : SymmetricState) (writer : Role) (interval n : ℕ) → n ≢ last_nonce → HasLaterNonce (counted_use r writer interval n)
+counted-passed : (r : SymmetricState) (writer : Role) (interval n : ℕ) → n ≢ last_nonce → RenewsBeforeLastNonce (counted_use r writer interval n)
 counted-passed r writer interval n more = counted n (transport_key r writer interval n) (rekeyed_after r writer interval n) more
 
 -- the first of three faults
@@ -72,11 +72,11 @@ module _ (old new : Trace) (m : KeyUse) where
   wrote-shown message number handshake transport s payload next note (writes_nothing _ _ why after sends) follows reported is = absurd (cc reported)
   wrote-shown message number handshake transport s payload next note (writes_handshake _ text _ xs free w) follows reported is =
       let done = handshake s.state xs payload follows (subst (λ (z : List ℕ). Writes s.state.party payload xs z) (sym is) w) in
-      (done.0, subst HasLaterNonce (sym done.0) tt, done.1)
+      (done.0, subst RenewsBeforeLastNonce (sym done.0) tt, done.1)
   wrote-shown message number handshake transport s payload next note (writes_transport _ text _ free opens spelled) follows reported is =
       let done = transport s.state payload follows free opens in (
         done.0,
-        subst HasLaterNonce (sym done.0)
+        subst RenewsBeforeLastNonce (sym done.0)
             (counted-passed s.state.party.state s.state.party.role s.state.interval s.state.sent (sent-free s.state (length payload) free opens)),
         done.1,
       )
@@ -109,7 +109,7 @@ module _ (t : Trace) (closes : Closes t) where
       let same : fault.Agreement token ≡ fault.Agreement actual = cc in
       let here : use_value m ≡ stopped_use v actual lacks.lacks.before =
       subst (λ (k : ℕ). (l : LacksDhResult v.party k) → use_value m ≡ stopped_use v k l.lacks.before) (token-same token actual same) (clause v follows) lacks in
-      (here, subst HasLaterNonce (sym here) tt, closes v follows)
+      (here, subst RenewsBeforeLastNonce (sym here) tt, closes v follows)
   unsent-lacking m v payload next reported (sends_handshake _ _ text xs free w) token is follows clause = absurd (cc is)
   unsent-lacking m v payload next reported (sends_transport _ _ free opens) token is follows clause = absurd (cc is)
 
@@ -178,7 +178,7 @@ module _ (t : Trace) (closes : Closes t) (holds : Holds t) where
       let here : use_value m ≡ stopped_use v actual r.stops.carried =
       subst (λ (k : ℕ). (z : Refuses v.party message k why) → use_value m ≡ stopped_use v k z.stops.carried) (refused-token token actual cause why is)
       (clause v why follows) r in
-      (here, subst HasLaterNonce (sym here) tt, closes v follows)
+      (here, subst RenewsBeforeLastNonce (sym here) tt, closes v follows)
   judged-refused m v next message step _ token cause is follows clause = absurd (cc is)
 
   judged-exhausted : (v next : EndState) (message : List ℕ) (step : StepValue) (j : Judges v message step next) → Exhausted ≡ step → Follow t v

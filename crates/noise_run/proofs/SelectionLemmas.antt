@@ -1,6 +1,6 @@
 -- The lines that are kept.
 use Rattle.std.proofs.Common.{◌≡◌, ◌≢◌, ◌∙◌, ◌+◌, sym, ap, ap₂, ℕ, Bool, true, List, [], ◌∷◌, ◌++◌, Option, Some, None, codes, append_assoc}
-use Rattle.noise_run.proofs.Common.{selects_transport, if_selected, HasLaterNonce, rekeyed_lines, transport_lines, act_word, transport_call_word, transport_line, Selection}
+use Rattle.noise_run.proofs.Common.{selects_transport, if_selected, RenewsBeforeLastNonce, rekeyed_lines, transport_lines, act_word, transport_call_word, transport_line, Selection}
 use Rattle.noise_session.specs.Transport.{last_nonce}
 use Rattle.noise_trace.specs.KeyUses.KeyUseValue.{Transport}
 use Rattle.noise_run.specs.declared.trace_lines.About.{About}
@@ -9,7 +9,7 @@ abbrev Lines : Type 0
 Lines = List (List ℕ)
 
 -- a key that is rekeyed has a nonce to come
-pub counted-some : (nonce : ℕ) (key next : List ℕ) (renewed : Option (List ℕ)) → renewed ≡ Some next → HasLaterNonce (Transport nonce key renewed)
+pub counted-some : (nonce : ℕ) (key next : List ℕ) (renewed : Option (List ℕ)) → renewed ≡ Some next → RenewsBeforeLastNonce (Transport nonce key renewed)
     → nonce ≢ last_nonce
 counted-some nonce key next None is counted = absurd (cc is)
 counted-some nonce key next (Some other) is counted = counted

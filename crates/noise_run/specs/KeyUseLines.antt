@@ -34,7 +34,7 @@ key_use_lines selection about message (Message steps opening) =
     ++ selected_opening selection about.role opening
 key_use_lines selection about message (Transport nonce key renewed) = transport_lines selection about nonce key renewed
 
--- A key that is rekeyed after a message is that of a nonce that there is.
-abbrev pub HasLaterNonce : KeyUseValue → Type 0
-HasLaterNonce (Transport nonce key (Some next)) = nonce ≢ last_nonce
-HasLaterNonce _ = ⊤
+-- A key is renewed only after a message whose nonce isn't the last one: it is shown with the next nonce.
+abbrev pub RenewsBeforeLastNonce : KeyUseValue → Type 0
+RenewsBeforeLastNonce (Transport nonce key (Some next)) = nonce ≢ last_nonce
+RenewsBeforeLastNonce _ = ⊤

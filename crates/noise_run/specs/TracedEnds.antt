@@ -19,7 +19,7 @@ use Rattle.noise_names.specs.Lists.{bytes_of}
 use Rattle.noise_vectors.specs.declared.file_keys.FileKeys.{FileKeys}
 use Rattle.noise_vectors.specs.declared.vector.VectorFile.{VectorFile}
 use Rattle.noise_run.specs.Ends.{FileDuelMatches, IsPlanOf, sides_of_file}
-use Rattle.noise_run.specs.KeyUseLines.{HasLaterNonce}
+use Rattle.noise_run.specs.KeyUseLines.{RenewsBeforeLastNonce}
 use Rattle.noise_run.specs.Printed.{frame_numbered}
 use Rattle.noise_run.specs.Tracing.{run_traces, start_traces}
 use Rattle.noise_run.specs.declared.key_use_lines.Selection.{Selection}
@@ -34,7 +34,7 @@ Follow t v = EndFollows pairs_of t v
 
 -- a call used these keys as it was to, and leaves the key schedule of this state
 abbrev pub Used : KeyUseValue → KeyUseValue → EndTrace FileKeys → EndState → Type 0
-Used got due t v = (got ≡ due) × HasLaterNonce got × Follow t v
+Used got due t v = (got ≡ due) × RenewsBeforeLastNonce got × Follow t v
 
 -- It shows the end of this state.
 pub record ShowsEnd (t : TracedEnd) (v : EndState) : Type 0 where

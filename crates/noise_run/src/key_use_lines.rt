@@ -4,7 +4,7 @@ ghost use Rattle.std.specs.Prelude.{◌≡◌, OnOk, Some};
 ghost use Rattle.noise_trace.specs.KeyUses.{use_value};
 ghost use Rattle.noise_trace.specs.KeyUses.KeyUseValue.{Transport};
 ghost use Rattle.noise_run.specs.Printed.{Appended};
-ghost use Rattle.noise_run.specs.KeyUseLines.{HasLaterNonce, key_use_lines, selected_opening, transport_lines};
+ghost use Rattle.noise_run.specs.KeyUseLines.{RenewsBeforeLastNonce, key_use_lines, selected_opening, transport_lines};
 ghost use Rattle.noise_run.specs.Selection.{selects_handshake, selects_role, selects_transport};
 
 use crate::trace_lines::{
@@ -71,7 +71,7 @@ pub fn push_key_use(
     key_use: &KeyUse,
     lines: &mut Vec<Vec<u8>>,
 ) -> Result<(), AllocError>
-    ensures { HasLaterNonce (use_value key_use.now) → OnOk result
+    ensures { RenewsBeforeLastNonce (use_value key_use.now) → OnOk result
         (Appended lines.old lines.new (key_use_lines selection about message.now (use_value key_use.now))) }
 {
     match key_use {
@@ -126,7 +126,7 @@ fn push_transport(
     renewed: &Option<[u8; 32]>,
     lines: &mut Vec<Vec<u8>>,
 ) -> Result<(), AllocError>
-    ensures { HasLaterNonce (Transport nonce key.now renewed.now) → OnOk result
+    ensures { RenewsBeforeLastNonce (Transport nonce key.now renewed.now) → OnOk result
         (Appended lines.old lines.new (transport_lines selection about nonce key.now renewed.now)) }
 {
     if !selection.selects_transport(about.role) {

@@ -13,7 +13,7 @@ ghost use Rattle.noise_session.specs.Steps.{StepValue};
 ghost use Rattle.noise_trace.specs.KeyUses.{use_value, stopped_use};
 ghost use Rattle.noise_trace.specs.KeyUses.KeyUseValue.{Nothing};
 ghost use Rattle.noise_names.specs.Lists.{bytes_of};
-ghost use Rattle.noise_run.specs.KeyUseLines.{HasLaterNonce, key_use_lines};
+ghost use Rattle.noise_run.specs.KeyUseLines.{RenewsBeforeLastNonce, key_use_lines};
 ghost use Rattle.noise_run.specs.TracedEnds.{Follow, IsOfNoFrame, ShowsEnd, Used, note_ends};
 ghost use Rattle.noise_run.specs.TracedEvents.{TracesRead, TracesReads, TracesReceived, TracesWrite};
 ghost use Rattle.noise_run.specs.Tracing.{about, act_of, read_use, written_message, written_use};
@@ -165,7 +165,7 @@ fn lines_of_use(
     message: &[u8],
     key_use: &KeyUse,
 ) -> Result<Vec<Vec<u8>>, AllocError>
-    ensures { HasLaterNonce (use_value key_use.now) → IfOk result
+    ensures { RenewsBeforeLastNonce (use_value key_use.now) → IfOk result
         (λ lines. bytes_of lines.items ≡ key_use_lines selection about message.now (use_value key_use.now)) }
 {
     let mut lines = Vec::new(alloc);

@@ -1,11 +1,11 @@
 -- What is told of what comes of a command, and what comes of printing it.
-use Rattle.std.proofs.Common.{◌≡◌, ◌≤◌, ◌∙◌, refl, sym, ap, subst, inl, inr, ℕ, ◌==◌, ◌&&◌, Bool, true, false, List, [], ◌∷◌, ◌++◌, Vec, Option, Some, None, Result, Ok, Err, append_assoc, append-nil, arith, length, rules}
+use Rattle.std.proofs.Common.{◌≡◌, ◌≤◌, ◌∙◌, refl, sym, subst, inl, inr, ℕ, ◌==◌, ◌&&◌, Bool, true, false, List, [], ◌∷◌, ◌++◌, Vec, Option, Some, None, Result, Ok, Err, append_assoc, append-nil, arith, length, rules}
 use Rattle.std.specs.Prelude.{IfOk, OnOk}
 use Rattle.std.proofs.lemmas.Bool.{false≢true}
 use Rattle.std.proofs.lemmas.Bool.Decides.{Decides-eqb}
 use Rattle.noise_lines.specs.TracedLines.{with_traces}
 use Rattle.noise_tool.proofs.Common.{Global, Appends, AppendsPrefix, IfErr, Fault, Keeps, bytes_of, fault_line, lines_text, status_of}
-use Rattle.noise_tool.specs.Answers.{AnswerValue, IsPrinted, IsToldOf, Outcome, TellsFault, answer_value, fault_value, output_text, printed_text}
+use Rattle.noise_tool.specs.Answers.{AnswerValue, IsPrinted, IsToldOf, Outcome, TellsFault, answer_value, fault_value, printed_text}
 use Rattle.noise_names.specs.declared.faults.RuleFault.{RuleFault}
 use Rattle.noise_tool.specs.declared.answers.Answer.{Answer}
 use Rattle.noise_lines.specs.declared.faults.Fault.TheVariants as fault
@@ -111,16 +111,6 @@ outcome-told printed reported Is Ends (Ok answer) out out_after err err_after st
 outcome-told printed reported Is Ends (Err why) out out_after err err_after status give ok ends memory h =
     outcome-by printed reported Is (Err why) out out_after err err_after status tt (give (fault_value why) (why, ends, refl))
     (give (fault_value fault.Memory) (fault.Memory, memory, refl)) h
-
--- ---- status 2
-
-two-silent : (why : Fault) → status_of why ≡ 2 → output_text why ≡ []
-two-silent (fault.Rule f) two = absurd (omega (arith, two))
-two-silent _ two = refl
-
-pub fault-silent : (why : Fault) (told : AnswerValue) → told ≡ fault_value why → told.status ≡ 2 → told.out ≡ []
-fault-silent why told e two =
-    ap (λ (t : AnswerValue). t.out) e ∙ two-silent why (sym (ap (λ (t : AnswerValue). t.status) e) ∙ two)
 
 -- ---- what is told of a fault
 

@@ -18,11 +18,12 @@ mod trace_file;
 
 pub use laws::templates_start;
 pub use named_files::{NamedFiles, System};
-pub use noise_lines::{Difference, Fault, Verdict, read_file, report_fault};
+pub use noise_lines::{Difference, Fault, Verdict, read_file};
 pub use noise_run::{conversions_meet_themselves, entry_lines, file_run_once};
 pub use noise_words::{
     Chosen, Documented, LineFault, Order, Tested, chosen, line_status, next_commands,
 };
 pub use pattern_names::whole_name;
 pub use performing::perform;
+pub use printing::print;
 pub use testing::FilesByName;

@@ -97,12 +97,13 @@ commands =
     ∷ []
 
 -- a value that has to be there
-abbrev pub wanted : Text → Rule
-wanted value = record (new_rule value) { required = true }
+abbrev pub required_rule : Text → Rule
+required_rule value = record (new_rule value) { required = true }
 
 -- values, of which one has to be there
 abbrev pub several : Text → Rule
-several value = record (wanted value) { range = Some (record { start_inclusive = 1; end_inclusive = usize_max }) }
+several value =
+    record (required_rule value) { range = Some (record { start_inclusive = 1; end_inclusive = usize_max }) }
 
 -- an option with one value
 abbrev pub optional : Choice → Rule
@@ -114,11 +115,11 @@ flag name = record (new_rule name) { long = Some name; action = Some SetTrue }
 
 abbrev pub rules_for : Wants → List Rule
 rules_for Nothing = []
-rules_for (One value) = wanted value ∷ []
-rules_for (Two first second flags) = wanted first ∷ wanted second ∷ map flag flags
-rules_for (OneOrTwo first second) = wanted first ∷ new_rule second ∷ []
+rules_for (One value) = required_rule value ∷ []
+rules_for (Two first second flags) = required_rule first ∷ required_rule second ∷ map flag flags
+rules_for (OneOrTwo first second) = required_rule first ∷ new_rule second ∷ []
 rules_for (Several value flags) = several value ∷ map flag flags
-rules_for (OneWith value choices flags) = wanted value ∷ (map optional choices ++ map flag flags)
+rules_for (OneWith value choices flags) = required_rule value ∷ (map optional choices ++ map flag flags)
 
 abbrev pub subcommand : Text × Wants → Shape
 subcommand (name, wants) = record (new_shape name) { rules = rules_for wants }

@@ -5,7 +5,7 @@ ghost use Rattle.clap.specs.Simple.{Shape, new_rule, with_subcommand};
 ghost use Rattle.clap.specs.Walk.{Rule};
 ghost use Rattle.clap.specs.Words.{all_of, app_of, first_of, found_of, kind_of, rows_of, rule_of, shape_of, subcommand_rows_of};
 ghost use Rattle.clap.specs.declared.builder.command.Command.TheViews.{out-Command};
-ghost use Rattle.noise_words.specs.CommandLine.{Nothing, asked, compare, explain, flag, noise, optional, order_of, rules_for, stated_by, stated_in, subcommand, template, test, trace, wanted, wanted_by, words_of};
+ghost use Rattle.noise_words.specs.CommandLine.{Nothing, asked, compare, explain, flag, noise, optional, order_of, required_rule, rules_for, stated_by, stated_in, subcommand, template, test, trace, wanted_by, words_of};
 
 use crate::choices::{compared, explained, templated, tested, traced, wrong_choice};
 use crate::help::{
@@ -170,7 +170,7 @@ fn with_two<'a>(alloc: Global) -> Result<Command<'a>, AllocError>
 
 // Its second value.
 fn second_value<'a>(alloc: Global) -> Arg<'a>
-    ensures rule { rule_of result ≡ wanted (codes "FILE") }
+    ensures rule { rule_of result ≡ required_rule (codes "FILE") }
     ensures local { result.global ≡ false }
 {
     Arg::new(alloc, "FILE").required(true).help(

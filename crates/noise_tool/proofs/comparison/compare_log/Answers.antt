@@ -1,4 +1,4 @@
-use Rattle.std.proofs.Common.{◌≡◌, ◌∙◌, ap, sym, subst, inl, inr, List, ℕ}
+use Rattle.std.proofs.Common.{◌≡◌, ◌∙◌, sym, subst, inl, inr}
 use Rattle.noise_tool.specs.Answers.{IsLine, answer_value}
 use Rattle.noise_tool.specs.Comparing.{uncompared_line}
 use Rattle.noise_tool.specs.declared.comparison.Uncompared.{Uncompared}

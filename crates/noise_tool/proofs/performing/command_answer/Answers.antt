@@ -1,4 +1,4 @@
-use Rattle.std.proofs.Common.{arith, ◌≡◌, length}
+use Rattle.std.proofs.Common.{arith, ◌≡◌}
 use Rattle.noise_tool.proofs.Common.{err_from_is_err_and}
 use Rattle.noise_tool.proofs.AskedLemmas.{answer-asked, fault-asked, not-read}
 use Rattle.noise_tool.proofs.performing.command_answer.Goals as goal

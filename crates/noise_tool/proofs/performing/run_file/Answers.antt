@@ -1,4 +1,4 @@
-use Rattle.std.proofs.Common.{◌≡◌, inl, inr, refl}
+use Rattle.std.proofs.Common.{◌≡◌, inr}
 use Rattle.noise_tool.proofs.Common.{err_from_is_err_and, IsPlain}
 use Rattle.noise_tool.proofs.PerformingLemmas.{gives-run}
 use Rattle.noise_tool.proofs.performing.run_file.Goals as goal

@@ -1,7 +1,7 @@
 use Rattle.std.proofs.Common.{◌≡◌, refl, inl, inr, []}
 use Rattle.noise_lines.specs.declared.faults.Fault.TheVariants.{Memory}
 use Rattle.noise_tool.proofs.Common.{Appends-nil}
-use Rattle.noise_tool.proofs.AnswerLemmas.{fault-silent, whole-prefix}
+use Rattle.noise_tool.proofs.AnswerLemmas.{whole-prefix}
 use Rattle.noise_tool.specs.Answers.{answer_value, fault_value}
 use Rattle.noise_tool.proofs.printing.print.Goals as goal
 

@@ -1,5 +1,4 @@
-use Rattle.std.proofs.Common.{◌≡◌, ◌∙◌, refl, inl, inr, subst}
-use Rattle.noise_tool.proofs.Common.{AppendsPrefix}
+use Rattle.std.proofs.Common.{◌≡◌, ◌∙◌, refl, inl, inr}
 use Rattle.noise_tool.proofs.printing.print_answer.Goals as goal
 
 pub returns-in-Ok-clause-printed : goal.returns-in-Ok-clause-printed

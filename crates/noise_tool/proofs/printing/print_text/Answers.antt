@@ -1,6 +1,6 @@
-use Rattle.std.proofs.Common.{◌≡◌, ◌∙◌, sym, refl, []}
+use Rattle.std.proofs.Common.{◌≡◌, ◌∙◌, sym, []}
 use Rattle.noise_tool.proofs.AnswerLemmas.{kept-appends, nothing-is, ok-any, something-is, whole-prefix}
-use Rattle.noise_tool.proofs.Common.{Appends-nil, AppendsPrefix, Appends}
+use Rattle.noise_tool.proofs.Common.{Appends-nil}
 use Rattle.noise_tool.specs.Answers.{printed_text}
 use Rattle.noise_tool.proofs.printing.print_text.Goals as goal
 

@@ -1,6 +1,5 @@
-use Rattle.std.proofs.Common.{◌≡◌, subst}
+use Rattle.std.proofs.Common.{◌≡◌}
 use Rattle.noise_tool.proofs.AnswerLemmas.{after-prefix, more-prefix}
-use Rattle.noise_tool.proofs.Common.{Appends-trans}
 use Rattle.noise_tool.proofs.printing.write_text.Goals as goal
 
 pub returns-in_err-write-clause-prefix : goal.returns-in_err-write-clause-prefix

@@ -1,7 +1,5 @@
-use Rattle.std.proofs.Common.{◌≡◌, ◌⊎◌, inl, inr, sym, subst}
-use Rattle.noise_tool.proofs.Common.{TestsPrefix}
+use Rattle.std.proofs.Common.{◌≡◌, ◌⊎◌, inl, inr}
 use Rattle.noise_tool.proofs.TestingLemmas.{ends-printed, tested-begun}
-use Rattle.std.specs.Prelude.{map, string_bytes}
 use Rattle.noise_tool.proofs.testing.test.Goals as goal
 
 pub returns-in-Ok-clause-prefix : goal.returns-in-Ok-clause-prefix

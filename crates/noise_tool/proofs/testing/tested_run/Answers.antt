@@ -1,5 +1,5 @@
 use Rattle.std.proofs.Common.{◌≡◌, ◌∙◌, ap, sym, refl, List, ℕ, [], ◌++◌}
-use Rattle.noise_tool.proofs.Common.{bytes_of, lines_text, verdict_text}
+use Rattle.noise_tool.proofs.Common.{lines_text, verdict_text}
 use Rattle.noise_lines.specs.declared.verdict.Verdict.TheVariants.{Differs}
 use Rattle.noise_lines.specs.Verdicts.{bytes_in}
 use Rattle.noise_tool.specs.Testing.{listed}

@@ -1,4 +1,4 @@
-use Rattle.std.proofs.Common.{◌≡◌, ◌∙◌, sym, append-nil, rules, append_assoc}
+use Rattle.std.proofs.Common.{◌≡◌, ◌∙◌, append-nil, rules, append_assoc}
 use Rattle.noise_tool.proofs.testing.with_line.Goals as goal
 
 pub returns-in_default : goal.returns-in_default

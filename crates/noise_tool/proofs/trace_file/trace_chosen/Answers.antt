@@ -1,4 +1,4 @@
-use Rattle.std.proofs.Common.{◌≡◌, inr, refl}
+use Rattle.std.proofs.Common.{◌≡◌, refl}
 use Rattle.noise_tool.proofs.Common.{bytes_of, traces_of, selection_of, HasTraces, IsTraceOf, Selection, VectorFile}
 use Rattle.noise_tool.specs.TracedText.{trace_lines}
 use Rattle.noise_run.specs.declared.tracing.Traced.{Traced}
