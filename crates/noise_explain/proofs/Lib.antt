@@ -1,3 +1,4 @@
+pub mod AdviceLemmas
 pub mod CorrectionLemmas
 pub mod CountLemmas
 pub mod ExplainedLemmas

@@ -1,3 +1,4 @@
+pub mod AdviceFacts
 pub mod Corrections
 pub mod Explained
 pub mod FactLines
