@@ -12,3 +12,4 @@ pub mod RuleLemmas
 pub mod ShapeLemmas
 pub mod ValueLemmas
 pub mod WalkLemmas
+pub mod WordFaultLemmas

@@ -20,3 +20,4 @@ pub mod Template
 pub mod Values
 pub mod VectorColumns
 pub mod VectorExplained
+pub mod WordFaults

@@ -6,7 +6,7 @@ use crate::line_place::{is_after_datagrams, is_first_version, needed_role};
 use crate::line_shapes::shapes_of;
 use crate::shapes::Shape;
 use crate::text_advice::slip;
-use crate::word_sentences::word_reported;
+use crate::word_faults::word_fault;
 use noise_names::Role;
 use noise_vectors::LineKind;
 
@@ -43,7 +43,7 @@ fn place_reported(shapes: &[Shape], line: &[u8], at: usize) -> Sentences {
     let index = before.iter().filter(|b| **b == b' ').count();
     let word = word_from(line, at);
     match shapes.get(index).copied() {
-        Some(shape) if !word.is_empty() => word_reported(shape, word),
+        Some(shape) if !word.is_empty() => word_fault(shape, word).sentences(),
         _ if at >= line.len() => ("A word is missing at the end of the line.", "Write it after a space."),
         _ if word.is_empty() => ("One space stands between two words, and here is another one.", "Take it out."),
         _ => ("The line has a word too many.", "Leave it out."),
