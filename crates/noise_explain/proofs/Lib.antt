@@ -9,6 +9,7 @@ pub mod KeyLineLemmas
 pub mod PositionLemmas
 pub mod PushLemmas
 pub mod RuleLemmas
+pub mod SaidWordLemmas
 pub mod ShapeLemmas
 pub mod ValueLemmas
 pub mod WalkLemmas

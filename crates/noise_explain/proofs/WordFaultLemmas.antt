@@ -1,10 +1,10 @@
 -- What the tests of a wrong word say of it.
-use Rattle.std.proofs.Common.{arith, ◌≡◌, ◌≢◌, ℕ, zero, suc, ◌≤◌, ◌<◌, ◌+◌, ◌*◌, ◌/◌, ◌%◌, ◌^◌, ◌&&◌, ◌||◌, Bool, true, false, not, IsTrue, List, [], ◌∷◌, codes, decimal, length, get_or, nat_eq, refl, sym}
+use Rattle.std.proofs.Common.{arith, ◌≡◌, ◌≢◌, ℕ, ◌≤◌, ◌<◌, ◌*◌, ◌/◌, ◌%◌, ◌^◌, Bool, true, false, not, List, [], ◌∷◌, codes, decimal, length, get_or, nat_eq, refl, sym}
 use Rattle.std.specs.Char.{is_ascii_digit, is_ascii_hexdigit, is_ascii_uppercase}
 use Rattle.std.specs.Int.{IsInRange}
-use Rattle.std.specs.List.{All, AllPass, list_all, list_any, starts_with}
+use Rattle.std.specs.List.{AllPass, list_all, list_any, starts_with}
 use Rattle.std.specs.Str.Parse.{AllDigits, digits_value}
-use Rattle.std.proofs.lemmas.Bool.{and_parts, or_parts, eqb-true, ltb-true}
+use Rattle.std.proofs.lemmas.Bool.{and_parts, or_parts}
 use Rattle.std.proofs.lemmas.Bool.Decides.{nat_tests}
 use Rattle.std.proofs.lemmas.Fmt.{decimal-digits_value, decimal_digit}
 use Rattle.std.proofs.lemmas.List.Sums.{AllPass-from_list_all}
@@ -12,7 +12,6 @@ use Rattle.std.proofs.lemmas.Str.Parse.{numerals_by_value, tells_digits}
 use Rattle.hex.specs.Hex.{encode_lower, lower_digits}
 use Rattle.hex.proofs.HexLemmas.{length-encode_with}
 use Rattle.noise_vectors.specs.HexWord.{IsDigits, is_lower_digit}
-use Rattle.noise_vectors.specs.Words.{IsKey}
 use Rattle.noise_vectors.proofs.HexWordLemmas.{few-digits, spelled}
 use Rattle.noise_explain.specs.VectorColumns.{HasShape}
 use Rattle.noise_explain.specs.WordFaults.{AreDecimal, AreLower}
@@ -85,6 +84,10 @@ pub greater : (w : List ℕ) (most : ℕ) → most < 2 ^ 64 → 0 < length w →
     → ¬ HasShape (shapes.Number most) w → most < digits_value 10 w
 greater w most small some none digits wrong =
     let no : digits_value 10 w ≤ most → ⊥ = λ few.
-    wrong (digits_value 10 w, few, sym (decimal-digits_value (numerals_by_value (AllDigits 10) tells_digits) w (all-digits w digits) some
-    (λ e. absurd (not-led w none e)) (omega arith))) in
+    wrong (
+      digits_value 10 w,
+      few,
+      sym (decimal-digits_value (numerals_by_value (AllDigits 10) tells_digits) w (all-digits w digits) some
+          (λ e. absurd (not-led w none e)) (omega arith)),
+    ) in
     omega (arith, no)

@@ -1,5 +1,5 @@
 -- What the sentences on a wrong word of a vector file assert of it.
-use Rattle.std.specs.Prelude.{⊤, ◌≡◌, ◌≢◌, ◌⊎◌, ◌||◌, ℕ, ◌<◌, ◌≤◌, ◌/◌, ◌%◌, not, List, IsTrue, codes, length}
+use Rattle.std.specs.Prelude.{⊤, ◌≡◌, ◌≢◌, ◌⊎◌, ◌||◌, ◌==◌, ℕ, ◌+◌, ◌<◌, ◌≤◌, ◌/◌, ◌%◌, not, List, Some, IsTrue, codes, count_by, length, slice_get, take}
 use Rattle.std.specs.Bool.{nat_eq}
 use Rattle.std.specs.Char.{is_ascii_digit, is_ascii_hexdigit, is_ascii_uppercase}
 use Rattle.std.specs.List.{list_all, list_any, starts_with}
@@ -8,7 +8,8 @@ use Rattle.noise_names.specs.Names.{has_fault}
 use Rattle.noise_names.specs.declared.faults.NameFault.{NameFault}
 use Rattle.noise_names.specs.declared.faults.NameFault.TheVariants as names
 use Rattle.noise_vectors.specs.HexWord.{is_lower_digit}
-use Rattle.noise_explain.specs.VectorColumns.{HasShape}
+use Rattle.noise_vectors.specs.declared.faults.LineKind.{LineKind}
+use Rattle.noise_explain.specs.VectorColumns.{HasShape, IsWrongWord, first_word, shapes_of, word_from}
 use Rattle.noise_explain.specs.declared.shapes.Shape.{Shape}
 use Rattle.noise_explain.specs.declared.shapes.Shape.TheVariants as shapes
 use Rattle.noise_explain.specs.declared.word_faults.Slip.{Slip}
@@ -22,7 +23,7 @@ IsListed (shapes.Hex most) = (most ≡ 65535) ⊎ (most ≡ 131072)
 IsListed (shapes.Number most) = (most ≡ 4294967295) ⊎ (most ≡ 18446744073709551615)
 IsListed s = ⊤
 
--- a word that a line has in place of one of this shape
+-- a line has this word in place of one of this shape
 pub record IsWrong (s : Shape) (w : List ℕ) : Type 0 where
   pub some : 0 < length w
   pub wrong : ¬ HasShape s w
@@ -46,6 +47,7 @@ AreLower w = IsTrue (list_all is_lower_digit w)
 abbrev pub AreDecimal : List ℕ → Type 0
 AreDecimal w = IsTrue (list_all is_ascii_digit w)
 
+-- what is wrong with digits, if it isn't their number
 abbrev pub IsSlip : Slip → List ℕ → Type 0
 IsSlip slips.UpperCase w = HasUpper w
 IsSlip slips.Other w = HasOther w
@@ -53,7 +55,7 @@ IsSlip slips.Count w = AreLower w
 
 -- ---- sentences
 
--- A name has this fault. Of algorithms nothing is asserted: a name may end as it has to after other ones.
+-- A name has this fault. Of its algorithms nothing is asserted: a name may have others, and then end as it has to.
 abbrev pub NameAsserts : NameFault → List ℕ → Type 0
 NameAsserts names.Algorithm w = ⊤
 NameAsserts fault w = IsTrue (has_fault w fault)
@@ -90,3 +92,16 @@ WordAsserts faults.NumberLarger (shapes.Number most) w =
 WordAsserts faults.NameRight shapes.Name w = HasShape shapes.Name w
 WordAsserts (faults.Name fault) shapes.Name w = NameAsserts fault w
 WordAsserts fault s w = ⊥
+
+-- how many spaces (32) are among so many bytes of a line, which is how many words come before
+abbrev pub spaces_before : List ℕ → ℕ → ℕ
+spaces_before line at = count_by (λ b. b == 32) (take at line)
+
+-- Of a line that has to be of this kind: where its wrong word begins, its shape by the words before, and that what the
+-- sentence asserts is so.
+pub record IsSaidOf (kind : LineKind) (line : List ℕ) (fault : WordFault) : Type 0 where
+  pub at : ℕ
+  pub shape : Shape
+  pub wrong : IsWrongWord (shapes_of kind (first_word line)) line (at + 1)
+  pub place : slice_get (shapes_of kind (first_word line)) (spaces_before line at) ≡ Some shape
+  pub asserts : WordAsserts fault shape (word_from line at)

@@ -1,16 +1,48 @@
 //! Which sentences are said of a wrong word of a vector file.
 
-ghost use Rattle.std.specs.Prelude.{◌≡◌, ◌≤◌, ◌<◌, not, IsTrue};
+ghost use Rattle.std.specs.Prelude.{◌≡◌, ◌≤◌, ◌==◌, count_by, length, slice_get, IfSome};
 ghost use Rattle.std.specs.Char.{is_ascii_digit, is_ascii_hexdigit, is_ascii_uppercase};
 ghost use Rattle.std.specs.List.{list_all, list_any};
-ghost use Rattle.noise_explain.specs.WordFaults.{IsSlip, IsWrong, WordAsserts};
+ghost use Rattle.noise_explain.specs.WordFaults.{IsSaidOf, IsSlip, IsWrong, WordAsserts};
+ghost use Rattle.noise_explain.specs.WordFaults.{spaces_before};
 
+use crate::line_column::{first_word, word_from, wrong_at};
+use crate::line_shapes::shapes_of;
 use crate::shapes::Shape;
 use crate::word_sentences::WordFault;
 use noise_names::ProtocolName;
+use noise_vectors::LineKind;
+
+// What is wrong with the wrong word of a line that has to be of this kind, if it has one.
+pub(crate) fn wrong_word(kind: LineKind, line: &[u8]) -> Option<WordFault>
+    ensures { IfSome result (IsSaidOf kind line.now) }
+{
+    let shapes = shapes_of(kind, first_word(line));
+    let at = wrong_at(shapes, line)?;
+    let shape = shape_at(shapes, line, at)?;
+    let word = word_from(line, at);
+    if word.is_empty() {
+        return None;
+    }
+    Some(word_fault(shape, word))
+}
+
+// The shape of the word that so many bytes of the line stand before.
+fn shape_at(shapes: &[Shape], line: &[u8], at: usize) -> Option<Shape>
+    ensures { at ≤ length line.now → result ≡ slice_get shapes.now (spaces_before line.now at) }
+{
+    let (before, _) = line.split_at(at.min(line.len()));
+    shapes.get(spaces_in(before)).copied()
+}
+
+fn spaces_in(text: &[u8]) -> usize
+    ensures { result ≡ count_by (λ b. b == 32) text.now }
+{
+    text.iter().filter(|b| **b == b' ').count()
+}
 
 // What is wrong with a word that isn't of this shape.
-pub(crate) fn word_fault(shape: Shape, word: &[u8]) -> WordFault
+fn word_fault(shape: Shape, word: &[u8]) -> WordFault
     ensures { IsWrong shape word.now → WordAsserts result shape word.now }
 {
     match shape {
@@ -100,7 +132,8 @@ fn has_upper_case(word: &[u8]) -> bool
 }
 
 fn number_fault(word: &[u8], most: u64) -> WordFault
-    ensures { IsWrong (Shape.Number most) word.now → WordAsserts result (Shape.Number most) word.now }
+    ensures { IsWrong (Shape.Number most) word.now
+        → WordAsserts result (Shape.Number most) word.now }
 {
     if word.starts_with(b"+".as_slice()) || word.starts_with(b"-".as_slice()) {
         WordFault::NumberSign

@@ -7,7 +7,7 @@ ghost use Rattle.noise_lines.specs.PrintedWords.{is_printed_byte};
 use crate::advice::Sentences;
 use noise_names::NameFault;
 
-/// What is wrong with a word, as closely as an explanation reports it: its sentences say what each is.
+/// What is wrong with a word, as closely as an explanation reports it: its sentences say what.
 #[rattlefmt::skip]
 #[derive(Clone, Copy)]
 pub(crate) enum WordFault {
