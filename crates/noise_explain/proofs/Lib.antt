@@ -10,6 +10,8 @@ pub mod KeyLineLemmas
 pub mod PositionLemmas
 pub mod PushLemmas
 pub mod RuleLemmas
+pub mod SaidWordLemmas
 pub mod ShapeLemmas
 pub mod ValueLemmas
 pub mod WalkLemmas
+pub mod WordFaultLemmas

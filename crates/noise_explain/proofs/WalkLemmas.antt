@@ -20,7 +20,7 @@ first_word-more : (b : ℕ) (bs : List ℕ) → (b == 32) ≡ false → first_wo
 first_word-more b bs e =
     take_while-cons (λ c. not (c == 32)) b bs ∙ cond-true (not (b == 32)) (b ∷ first_word bs) [] (ap not e)
 
-lacks-first_word : (text : List ℕ) → lacks 32 (first_word text) ≡ true
+pub lacks-first_word : (text : List ℕ) → lacks 32 (first_word text) ≡ true
 lacks-first_word [] = refl
 lacks-first_word (b ∷ bs) = at (b == 32) refl (lacks-first_word bs) where
   at : (is : Bool) → (b == 32) ≡ is → lacks 32 (first_word bs) ≡ true → lacks 32 (first_word (b ∷ bs)) ≡ true
@@ -45,7 +45,7 @@ taken-word (b ∷ bs) = at (b == 32) refl (taken-word bs) where
 
 -- ---- shapes
 
-HaveShapes-push : (ss : List Shape) (ws : List (List ℕ)) (w : List ℕ) (s : Shape) (more : List Shape) → HaveShapes ss ws
+pub HaveShapes-push : (ss : List Shape) (ws : List (List ℕ)) (w : List ℕ) (s : Shape) (more : List Shape) → HaveShapes ss ws
     → drop (length ws) ss ≡ s ∷ more → IsTrue (lacks 32 w) → HasShape s w → HaveShapes ss (ws ++ w ∷ [])
 HaveShapes-push ss [] w s more right e plain has = rw e (plain, has, tt)
 HaveShapes-push [] (v ∷ ws) w s more right e plain has = absurd right

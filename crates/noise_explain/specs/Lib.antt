@@ -21,3 +21,4 @@ pub mod Template
 pub mod Values
 pub mod VectorColumns
 pub mod VectorExplained
+pub mod WordFaults

@@ -48,6 +48,7 @@ mod text_changes;
 mod tidy;
 mod values;
 mod vector_explanation;
+mod word_faults;
 mod word_sentences;
 
 pub use choice::{named_template, names_protocol, spelled_template};

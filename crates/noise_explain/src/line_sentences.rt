@@ -4,9 +4,8 @@ use crate::advice::{Advice, Sentences};
 use crate::line_column::{first_word, word_from, wrong_at};
 use crate::line_place::{is_after_datagrams, is_first_version, needed_role};
 use crate::line_shapes::shapes_of;
-use crate::shapes::Shape;
 use crate::text_advice::slip;
-use crate::word_sentences::word_reported;
+use crate::word_faults::wrong_word;
 use noise_names::Role;
 use noise_vectors::LineKind;
 
@@ -24,8 +23,11 @@ pub(crate) fn line_reported(kind: LineKind, text: &[u8], number: usize, line: &[
     if shapes.is_empty() {
         return first_reported(kind, text, number, line);
     }
+    if let Some(fault) = wrong_word(kind, line) {
+        return fault.sentences();
+    }
     match wrong_at(shapes, line) {
-        Some(at) => place_reported(shapes, line, at),
+        Some(at) => place_reported(line, at),
         None => whole_reported(kind, text, number, line),
     }
 }
@@ -36,17 +38,15 @@ const EXPECT_EMPTY: Sentences = (
     "Write the line that is expected, or leave this one out.",
 );
 
-// What is wrong with the word that so many bytes of a line stand before.
+// What is wrong after so many bytes of a line, where no word stands that has a shape.
 #[rattlefmt::skip]
-fn place_reported(shapes: &[Shape], line: &[u8], at: usize) -> Sentences {
-    let (before, _) = line.split_at(at.min(line.len()));
-    let index = before.iter().filter(|b| **b == b' ').count();
-    let word = word_from(line, at);
-    match shapes.get(index).copied() {
-        Some(shape) if !word.is_empty() => word_reported(shape, word),
-        _ if at >= line.len() => ("A word is missing at the end of the line.", "Write it after a space."),
-        _ if word.is_empty() => ("One space stands between two words, and here is another one.", "Take it out."),
-        _ => ("The line has a word too many.", "Leave it out."),
+fn place_reported(line: &[u8], at: usize) -> Sentences {
+    if at >= line.len() {
+        ("A word is missing at the end of the line.", "Write it after a space.")
+    } else if word_from(line, at).is_empty() {
+        ("One space stands between two words, and here is another one.", "Take it out.")
+    } else {
+        ("The line has a word too many.", "Leave it out.")
     }
 }
 

@@ -8,7 +8,7 @@ use noise_vectors::{
     is_hex_word, read_cuts, read_key, read_number, read_optional_key, read_own, read_role,
 };
 
-/// What a word has to be: its shape is told in `word_sentences`.
+/// What a word has to be: its shape is told in `WordFault`.
 #[rattlefmt::skip]
 #[derive(Clone, Copy)]
 pub(crate) enum Shape {
