@@ -22,14 +22,41 @@ commas-push : (read : List Token) (t : Token) (x : List ℕ) → with_commas (re
 commas-push [] t x = append_assoc (word_of t) (44 ∷ 32 ∷ []) x
 commas-push (r ∷ rs) t x = search (append_assoc, (commas-push rs t x))
 
+-- what follows the first comma
+abbrev past_comma : List ℕ → List ℕ
+past_comma [] = []
+past_comma (c ∷ cs) = cond (eqb c 44) cs (past_comma cs)
+
+past-word : (t : Token) (x : List ℕ) → past_comma (word_of t ++ 44 ∷ x) ≡ x
+past-word E x = refl
+past-word S x = refl
+past-word Ee x = refl
+past-word Es x = refl
+past-word Se x = refl
+past-word Ss x = refl
+past-word Psk x = refl
+
+past-last : (t : Token) → past_comma (word_of t) ≡ []
+past-last E = refl
+past-last S = refl
+past-last Ee = refl
+past-last Es = refl
+past-last Se = refl
+past-last Ss = refl
+past-last Psk = refl
+
+past-first : (r : Token) (rs : List Token) (left list : List ℕ) → with_commas (r ∷ rs) ++ left ≡ list → past_comma list ≡ 32 ∷ (with_commas rs ++ left)
+past-first r rs left list e =
+    ap past_comma (sym e ∙ append_assoc (word_of r) (44 ∷ 32 ∷ with_commas rs) left) ∙ past-word r (32 ∷ (with_commas rs ++ left))
+
 -- what is left of words is words
 rest-is : (read : List Token) (left : List ℕ) (t : Token) (ts : List Token) → with_commas read ++ left ≡ words (t ∷ ts)
     → (u : Token) × (us : List Token) × (left ≡ words (u ∷ us))
 rest-is [] left t ts e = (t, ts, e)
-rest-is (r ∷ rs) left t [] e = search rules
+rest-is (r ∷ rs) left t [] e = absurd (let none : 32 ∷ (with_commas rs ++ left) ≡ [] = sym (past-first r rs left (word_of t) e) ∙ past-last t in cc)
 rest-is (r ∷ rs) left t (v ∷ vs) e =
-    let f : word_of r ++ 44 ∷ (32 ∷ (with_commas rs ++ left)) ≡ word_of t ++ 44 ∷ (32 ∷ words (v ∷ vs)) = search rules in
-    let h : 44 ∷ 32 ∷ (with_commas rs ++ left) ≡ 44 ∷ 32 ∷ words (v ∷ vs) = search rules in
+    let h : 32 ∷ (with_commas rs ++ left) ≡ 32 ∷ words (v ∷ vs) =
+    sym (past-first r rs left (word_of t ++ 44 ∷ 32 ∷ words (v ∷ vs)) (e ∙ append_assoc (word_of t) (codes ", ") (words (v ∷ vs)))) ∙ past-word t (32 ∷ words (v ∷ vs)) in
     rest-is rs left v vs (cc)
 
 pub take-take : {A : Type 0} (n : ℕ) (xs ys : List A) → take n (take n xs ++ ys) ≡ take n (xs ++ ys)

@@ -29,4 +29,20 @@ pub psks_after-others-requires : goal.psks_after-others-requires
 psks_after-others-requires g t c = record { psk = psk-due (tokens_of c.args.placed.now) (tokens_of c.in_ok-first.later.now) c.in_ok-first.first.now.token (ap tokens_of c.in_ok-first.ensures.cases.0) (length c.args.psks.now) c.requires.psks }
 
 pub write_lacking-requires : goal.write_lacking-requires
-write_lacking-requires g t c κs k = search (rules, psks-later, all-later)
+write_lacking-requires g t c κs within =
+    let split = ap tokens_of c.in_ok-first.ensures.cases.0 in (
+      search rules,
+      (
+        within,
+        (
+          psks-later (tokens_of c.args.placed.now) (tokens_of c.in_ok-first.later.now) c.in_ok-first.first.now.token split c.args.psks.now
+              c.psks_after-others.result.now c.psks_after-others.ensures.value c.requires.psks,
+          (
+            all-later (tokens_of c.args.placed.now) (tokens_of c.in_ok-first.later.now) c.in_ok-first.first.now.token split
+                (has_own (g.K.Keys.pairs c.args.means.now.keys).public) c.requires.own,
+            all-later (tokens_of c.args.placed.now) (tokens_of c.in_ok-first.later.now) c.in_ok-first.first.now.token split
+                (is_known c.args.means.now.role (is_some c.args.known.now.e) (is_some c.args.known.now.s)) c.requires.known,
+          ),
+        ),
+      ),
+    )
