@@ -17,6 +17,7 @@ PARTS = ("src", "specs", "proofs")
 FUNCTION = re.compile(r"^( *)(?:pub(?:\([^)]*\))? )?(?:const )?(?:unsafe )?(?:extern \"C\" )?fn (\w+)", re.MULTILINE)
 IMPL = re.compile(r"^impl(?:<[^{]*?>)? (?:(?:\w+::)*(\w+)(?:<[^{]*?>)? for )?(?:\w+::)*(\w+)", re.MULTILINE)
 BODY = " loop {} "
+COPY = re.compile(r"(\w+)_mutant\d+")
 PROOF = """use {module}.Statement.{{statement}}
 use Rattle.{crate}.proofs.TakenAsProved.{{taken}}
 
@@ -119,9 +120,9 @@ def goals(said, file, lines):
 
 
 def function_named(file, text, path):
-    """The lines of the function of a path, as function_at has them."""
-    places = (it.end() for it in FUNCTION.finditer(text))
-    return next(lines for it, lines in (function_at(file, text, at) for at in places) if it == path)
+    """Where the function of a path begins, and its lines, as function_at has them."""
+    every = ((found, function_at(file, text, found.end())) for found in FUNCTION.finditer(text))
+    return next((found, lines) for found, (it, lines) in every if it == path)
 
 
 def place_of_proof(files, file, found):
@@ -148,6 +149,42 @@ def body_of(text, found):
     brace = text.find(f"\n{indent}{{\n", start, end)
     begin = brace + len(indent) + 2 if brace >= 0 else text.find(" {\n", start, end) + 2
     return (begin, end) if end >= 0 and begin > start + 1 else None
+
+
+def whole_of(text, found):
+    """The place of a function with the comments and the attributes above it, or None where body_of finds no body."""
+    begin, body = found.start(), body_of(text, found)
+    while (line := text[text.rfind("\n", 0, begin - 1) + 1:begin]).lstrip().startswith(("//", "#[")):
+        begin -= len(line)
+    return (begin, text.index("\n", body[1] + 1) + 1) if body else None
+
+
+def with_copy(file, text, edited, path, number):
+    """The text of a file with one more function, and the path of that: what the function of this path is in the edited
+    text of the file, under a name of its own, behind the function itself. None where no copy can be made. The others
+    call the function itself, and the copy has its contract, and its proof by copy_proofs."""
+    was, found = function_named(file, text, path)[0], function_named(file, edited, path)[0]
+    before, place = whole_of(text, was), whole_of(edited, found)
+    if not before or not place or not place_of_proof({file: edited}, file, found):
+        return None
+    name = f"{found[2]}_mutant{number}"
+    copy = edited[place[0]:found.start(2)] + name + edited[found.end(2):place[1]]
+    return f"{text[:before[1]]}\n{copy}{text[before[1]:]}", path.removesuffix(found[2]) + name
+
+
+def copy_proofs(name, room):
+    """Gives each copy of a function in a crate's folder what proofs/ has of the function, under the copy's name."""
+    files = {str(it.relative_to(room)): it.read_text(encoding="utf-8") for it in sorted(room.glob("src/**/*.rt"))}
+    for file, text in files.items():
+        for found in (it for it in FUNCTION.finditer(text) if COPY.fullmatch(it[2])):
+            of, place = COPY.fullmatch(found[2])[1], place_of_proof(files, file, found)
+            module = ".".join(["Rattle", name, "proofs", *place[:-1], ""])
+            folder = room.joinpath("proofs", *place[:-1], of)
+            for proof in sorted(folder.rglob("*.antt")):
+                copy = proof.read_text(encoding="utf-8").replace(f"{module}{of}.", f"{module}{found[2]}.")
+                to = folder.with_name(found[2]) / proof.relative_to(folder)
+                to.parent.mkdir(parents=True, exist_ok=True)
+                to.write_text(re.sub(rf"\b{of}_spec\b", f"{found[2]}_spec", copy), encoding="utf-8")
 
 
 def take_as_proved(name, room, functions):
@@ -186,8 +223,9 @@ def say(name, texts, functions, call):
         for file, text in texts.items():
             pathlib.Path(room, file).write_text(text, encoding="utf-8")
         paths = {path for _, path in functions}
+        copy_proofs(name, pathlib.Path(room))
         take_as_proved(name, pathlib.Path(room), paths)
-        lines = {(file, path): function_named(file, pathlib.Path(room, file).read_text(encoding="utf-8"), path)
+        lines = {(file, path): function_named(file, pathlib.Path(room, file).read_text(encoding="utf-8"), path)[1]
                  for file, path in functions}
         only = [word for path in sorted(paths) for word in ("--only", path)]
         ran = subprocess.run(
