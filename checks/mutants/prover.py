@@ -17,6 +17,7 @@ PARTS = ("src", "specs", "proofs")
 FUNCTION = re.compile(r"^( *)(?:pub(?:\([^)]*\))? )?(?:const )?(?:unsafe )?(?:extern \"C\" )?fn (\w+)", re.MULTILINE)
 IMPL = re.compile(r"^impl(?:<[^{]*?>)? (?:(?:\w+::)*(\w+)(?:<[^{]*?>)? for )?(?:\w+::)*(\w+)", re.MULTILINE)
 BODY = " loop {} "
+COPY = re.compile(r"(\w+)_mutant\d+")
 PROOF = """use {module}.Statement.{{statement}}
 use Rattle.{crate}.proofs.TakenAsProved.{{taken}}
 
@@ -113,15 +114,16 @@ def function_at(file, text, at):
     return "::".join(parts), range(text.count("\n", 0, first) + 1, text.count("\n", 0, end) + 3)
 
 
-def goals(said, file, lines):
-    """The open goals that the prover reports at these lines of a file."""
-    return [it[3] for it in GOAL.finditer(said) if it[1] == file and int(it[2]) in lines]
+def goals(said, file, lines, left=()):
+    """The open goals that the prover reports at these lines of a file, but for those of these names."""
+    found = (it for it in GOAL.finditer(said) if it[1] == file and int(it[2]) in lines)
+    return [it[3] for it in found if not any(f"(`{name}`)" in it[3] for name in left)]
 
 
 def function_named(file, text, path):
-    """The lines of the function of a path, as function_at has them."""
-    places = (it.end() for it in FUNCTION.finditer(text))
-    return next(lines for it, lines in (function_at(file, text, at) for at in places) if it == path)
+    """Where the function of a path begins, and its lines, as function_at has them."""
+    every = ((found, function_at(file, text, found.end())) for found in FUNCTION.finditer(text))
+    return next((found, lines) for found, (it, lines) in every if it == path)
 
 
 def place_of_proof(files, file, found):
@@ -148,6 +150,58 @@ def body_of(text, found):
     brace = text.find(f"\n{indent}{{\n", start, end)
     begin = brace + len(indent) + 2 if brace >= 0 else text.find(" {\n", start, end) + 2
     return (begin, end) if end >= 0 and begin > start + 1 else None
+
+
+def whole_of(text, found):
+    """The place of a function with the comments and the attributes above it, or None where body_of finds no body."""
+    begin, body = found.start(), body_of(text, found)
+    while (line := text[text.rfind("\n", 0, begin - 1) + 1:begin]).lstrip().startswith(("//", "#[")):
+        begin -= len(line)
+    return (begin, text.index("\n", body[1] + 1) + 1) if body else None
+
+
+def with_copy(file, text, edited, path, number):
+    """The text of a file with one more function, and the path of that: what the function of this path is in the edited
+    text of the file, under a name of its own, behind the function itself. None where no copy can be made. The others
+    call the function itself, and the copy has its contract, and its proof by copy_proofs."""
+    was, found = function_named(file, text, path)[0], function_named(file, edited, path)[0]
+    before, place = whole_of(text, was), whole_of(edited, found)
+    if not before or not place or not place_of_proof({file: edited}, file, found):
+        return None
+    name = f"{found[2]}_mutant{number}"
+    copy = edited[place[0]:found.start(2)] + name + edited[found.end(2):place[1]]
+    return f"{text[:before[1]]}\n{copy}{text[before[1]:]}", path.removesuffix(found[2]) + name
+
+
+def copy_proofs(name, room):
+    """Gives each copy of a function in a crate's folder what proofs/ has of the function, under the copy's name."""
+    files = {str(it.relative_to(room)): it.read_text(encoding="utf-8") for it in sorted(room.glob("src/**/*.rt"))}
+    for file, text in files.items():
+        for found in (it for it in FUNCTION.finditer(text) if COPY.fullmatch(it[2])):
+            of, place = COPY.fullmatch(found[2])[1], place_of_proof(files, file, found)
+            module = ".".join(["Rattle", name, "proofs", *place[:-1], ""])
+            folder = room.joinpath("proofs", *place[:-1], of)
+            for proof in sorted(folder.rglob("*.antt")):
+                copy = proof.read_text(encoding="utf-8").replace(f"{module}{of}.", f"{module}{found[2]}.")
+                to = folder.with_name(found[2]) / proof.relative_to(folder)
+                to.parent.mkdir(parents=True, exist_ok=True)
+                to.write_text(re.sub(rf"\b{of}_spec\b", f"{found[2]}_spec", copy), encoding="utf-8")
+
+
+def leave_open(name, room, functions):
+    """Has the prover try none of the goals of these names, by an answer that is a hole, but for those of functions
+    whose proofs stand elsewhere. `functions` has the names for each function, by its file and path."""
+    files = {str(it.relative_to(room)): it.read_text(encoding="utf-8") for it in sorted(room.glob("src/**/*.rt"))}
+    for (file, path), left in functions.items():
+        place = place_of_proof(files, file, function_named(file, files[file], path)[0])
+        if not place:
+            continue
+        answers = room.joinpath("proofs", *place, "Answers.antt")
+        if not answers.exists():
+            answers.parent.mkdir(parents=True, exist_ok=True)
+            answers.write_text(f"use {'.'.join(['Rattle', name, 'proofs', *place])}.Goals as goal\n", encoding="utf-8")
+        with answers.open("a", encoding="utf-8") as text:
+            text.writelines(f"\npub {goal} : goal.{goal}\n{goal} = ?\n" for goal in left)
 
 
 def take_as_proved(name, room, functions):
@@ -177,8 +231,9 @@ def take_as_proved(name, room, functions):
 
 
 def say(name, texts, functions, call):
-    """What the prover prints of these functions, each with its file and path, where a crate has these texts in place of
-    its own, with its status, whether it came to its end, and the lines of each function in what it read."""
+    """What the prover prints of these functions, where a crate has these texts in place of its own, with its status,
+    whether it came to its end, and the lines of each function in what it read. `functions` has for the file and the
+    path of each the names of the goals that aren't tried."""
     with tempfile.TemporaryDirectory(prefix="mutant-") as room:
         for part in PARTS:
             if (ROOT / "crates" / name / part).is_dir():
@@ -186,8 +241,10 @@ def say(name, texts, functions, call):
         for file, text in texts.items():
             pathlib.Path(room, file).write_text(text, encoding="utf-8")
         paths = {path for _, path in functions}
+        copy_proofs(name, pathlib.Path(room))
+        leave_open(name, pathlib.Path(room), {it: left for it, left in functions.items() if left})
         take_as_proved(name, pathlib.Path(room), paths)
-        lines = {(file, path): function_named(file, pathlib.Path(room, file).read_text(encoding="utf-8"), path)
+        lines = {(file, path): function_named(file, pathlib.Path(room, file).read_text(encoding="utf-8"), path)[1]
                  for file, path in functions}
         only = [word for path in sorted(paths) for word in ("--only", path)]
         ran = subprocess.run(
@@ -207,22 +264,22 @@ def is_met(name, said, path):
 def refused_together(name, texts, functions_of, call):
     """For each edit the first open goal of its functions, or None, where a crate has the texts that all edits give. No
     two edits change one function: so each is refused by the contract of a body that it alone has changed, since of the
-    others a proof knows the contracts alone. `functions_of` has the files and paths of the functions of each edit."""
-    every = {it for functions in functions_of.values() for it in functions}
+    others a proof knows the contracts alone. `functions_of` has the functions of each edit, as `say` takes them."""
+    every = {it: left for functions in functions_of.values() for it, left in functions.items()}
     said, status, ended, lines = say(name, texts, every, call)
     if status != 1 or not ended:
         return {}
-    return {edit: next((goal for it in sorted(functions) for goal in goals(said, it[0], lines[it])), None)
+    return {edit: next((goal for it in sorted(functions) for goal in goals(said, it[0], lines[it], every[it])), None)
             for edit, functions in functions_of.items()}
 
 
 def verdict(name, texts, functions, call):
     """The first open goal of a changed function, where a crate has these texts in place of its own. `functions` has the
-    file and the path of each."""
+    functions as `say` takes them."""
     said, status, ended, lines = say(name, texts, functions, call)
     if ended and all(is_met(name, said, path) for _, path in functions):
         raise NotRefused("not refused: " + ", ".join(path for _, path in functions) + " still meets its contract")
-    found = [goal for it in sorted(functions) for goal in goals(said, it[0], lines[it])]
+    found = [goal for it in sorted(functions) for goal in goals(said, it[0], lines[it], functions[it])]
     if status != 1 or not ended or not found:
         told = [it for it in said.rstrip().split("\n") if re.match(r"(note: )?\S+:\d+:\d+: ", it)]
         told = [it for it in told if "TakenAsProved" not in it] or said.rstrip().split("\n")[-1:]
@@ -233,5 +290,5 @@ def verdict(name, texts, functions, call):
 def unmet(name, functions, call):
     """The paths of those of these functions that don't meet their contracts as they are, or whose run came to no
     end."""
-    said, _, ended, _ = say(name, {}, functions, call)
+    said, _, ended, _ = say(name, {}, dict.fromkeys(functions, ()), call)
     return sorted(path for _, path in functions if not ended or not is_met(name, said, path))
