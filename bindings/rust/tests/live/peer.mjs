@@ -58,7 +58,8 @@ async function write(channel) {
   let wrote = 0;
   try {
     while (wrote < size) {
-      const part = Uint8Array.from({ length: Math.min(10000, size - wrote) }, (_, i) => byteOf(isInitiator, wrote + i));
+      const part = new Uint8Array(Math.min(10000, size - wrote));
+      for (let i = 0; i < part.length; i++) part[i] = byteOf(isInitiator, wrote + i);
       wrote += part.length;    // also where it fails after a part of it was sent
       await channel.send(part);
     }
