@@ -7,6 +7,7 @@ import { overTcp } from '../../bindings/js/test/connections.mjs';
 import { NOTHING, check, damaged, party } from '../../bindings/js/test/law.mjs';
 import { relayed } from './live/carriers.mjs';
 
+Error.stackTraceLimit = 0;    // thousands of errors are made
 const AT_ONCE = 64;
 /** Where nothing happened for so many milliseconds, the relay breaks the connection. */
 const IDLE = 400;

@@ -10,6 +10,7 @@ import hashlib
 import hmac
 import struct
 from collections.abc import Callable, Iterator
+from functools import lru_cache
 from typing import NamedTuple
 
 from cryptography.exceptions import InvalidTag
@@ -47,12 +48,18 @@ class RefusedError(Exception):
     """A message that a party refuses."""
 
 
+@lru_cache(None)
+def private_and_public(secret: bytes) -> tuple[X25519PrivateKey, bytes]:
+    """OpenSSL takes a millisecond to read a private key."""
+    private = X25519PrivateKey.from_private_bytes(secret)
+    return private, private.public_key().public_bytes(Encoding.Raw, PublicFormat.Raw)
+
+
 class Key:
     """A key pair."""
 
     def __init__(self, secret: bytes) -> None:
-        self.private = X25519PrivateKey.from_private_bytes(secret)
-        self.public = self.private.public_key().public_bytes(Encoding.Raw, PublicFormat.Raw)
+        self.private, self.public = private_and_public(secret)
 
     def agree(self, public: bytes) -> bytes:
         return self.private.exchange(X25519PublicKey.from_public_bytes(public))

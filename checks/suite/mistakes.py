@@ -9,7 +9,6 @@ from __future__ import annotations
 
 import json
 import sys
-from functools import lru_cache
 from pathlib import Path
 from typing import Any
 
@@ -18,10 +17,6 @@ sys.path[:0] = [str(TOP / "tools" / "vectors"), str(TOP / "examples" / "vectors-
 
 import mistaken  # noqa: E402
 import runner  # noqa: E402
-
-
-mistaken.public_of = lru_cache(None)(mistaken.public_of)
-mistaken.agreement = lru_cache(None)(mistaken.agreement)
 
 
 def kind_of(mistake: str) -> Any:

@@ -13,6 +13,8 @@ from functools import lru_cache
 from pathlib import Path
 from typing import Any
 
+from cryptography.hazmat.primitives.asymmetric.x25519 import X25519PrivateKey
+
 HERE = Path(__file__).resolve().parent
 sys.path.insert(0, str(HERE.parent.parent / "examples" / "vectors-runners" / "python"))
 
@@ -21,6 +23,12 @@ from mutants_list import ESCAPES, MUTANTS  # noqa: E402
 
 LIMIT = 300  # seconds of the processor, of a mutant that doesn't end
 PLAIN = (HERE / "plain.py").read_text("utf-8")
+
+
+class PrivateKey:
+    """Private keys, each of which OpenSSL reads once for all mutants: that takes a millisecond."""
+
+    from_private_bytes = staticmethod(lru_cache(None)(X25519PrivateKey.from_private_bytes))
 
 
 class TooLong(BaseException):
@@ -35,12 +43,11 @@ def edited(mutant: tuple[str, str, str]) -> str:
 
 
 def party_of(text: str) -> Any:
-    """The party of a mutant; X25519 is computed once for each pair of keys."""
+    """The party of a mutant."""
     module = types.ModuleType("mutant")
     sys.modules["mutant"] = module
     exec(compile(text, "mutant", "exec"), module.__dict__)
-    for name in ("dh", "public_key"):
-        setattr(module, name, lru_cache(None)(getattr(module, name)))
+    setattr(module, "X25519PrivateKey", PrivateKey)
     return module.Party
 
 

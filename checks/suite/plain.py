@@ -10,6 +10,7 @@ from __future__ import annotations
 import hashlib
 import hmac
 from copy import copy
+from functools import lru_cache
 from typing import Any
 
 from cryptography.hazmat.primitives.asymmetric.x25519 import X25519PrivateKey, X25519PublicKey
@@ -47,14 +48,16 @@ class Refused(Exception):
         self.token = token
 
 
-# 4.1, 12.1
+# 4.1, 12.1: OpenSSL takes a millisecond to read a private key, and the tests have few
 
 
+@lru_cache(None)
 def public_key(private: bytes) -> bytes:
     key = X25519PrivateKey.from_private_bytes(private)
     return key.public_key().public_bytes(Encoding.Raw, PublicFormat.Raw)
 
 
+@lru_cache(None)
 def dh(private: bytes, public: bytes) -> bytes:
     try:
         return X25519PrivateKey.from_private_bytes(private).exchange(X25519PublicKey.from_public_bytes(public))

@@ -84,7 +84,19 @@ function numbers(start) {
   };
 }
 
-/** Patterns of one's own of which the library says what is wanted, drawn until there are so many. */
+/** Whether both keys of each DH come before it, without which no pattern is valid: most that are drawn fail here. */
+function hasKeys(text) {
+  const keys = { '->': new Set(), '<-': new Set() };
+  for (const line of text.split('\n').slice(1)) {
+    for (const token of line.slice(5).split(', ')) {
+      if (token.length !== 2) keys[line.slice(2, 4)]?.add(token);
+      else if (!keys['->'].has(token[0]) || !keys['<-'].has(token[1])) return false;
+    }
+  }
+  return true;
+}
+
+/** Patterns of one's own that are wanted, drawn until there are so many. */
 function drawn(count, isWanted) {
   const next = numbers(82);
   const pick = (list) => list[next(list.length)];
@@ -99,7 +111,7 @@ function drawn(count, isWanted) {
     });
     const places = body.flatMap((line, n) => (line.includes('psk') ? [`psk${n + 1}`] : [])).join('+');
     const text = `MINE${places}:\n${pick(known)}${body.join('')}`;
-    if (isWanted(checkPattern(text))) found.add(text);
+    if (isWanted(text)) found.add(text);
   }
   return [...found];
 }
@@ -184,9 +196,9 @@ function saidOf(texts, status) {
 }
 
 await load();
-const texts = [...ofTheStandard(), ...drawn(400, ({ valid }) => valid)];
+const texts = [...ofTheStandard(), ...drawn(400, (text) => hasKeys(text) && checkPattern(text).valid)];
 saidOf(texts, 0).forEach((said, n) => assert.equal(said, explained(`${n}.pattern`, texts[n]), texts[n]));
-const wrong = drawn(300, ({ rule }) => rule);
+const wrong = drawn(300, (text) => checkPattern(text).rule);
 saidOf(wrong, 1).forEach(
   (said, n) => assert.equal(said.split('\n').slice(3).join('\n'), faultLines(wrong[n]), wrong[n]),
 );

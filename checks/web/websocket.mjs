@@ -25,7 +25,8 @@ function firstFrame(bytes) {
   if (bytes.length < from + 4) return undefined;
   const length = short < 126 ? short : short === 126 ? bytes.readUInt16BE(2) : Number(bytes.readBigUInt64BE(2));
   if (bytes.length < from + 4 + length) return undefined;
-  const payload = Uint8Array.from(bytes.subarray(from + 4, from + 4 + length), (byte, n) => byte ^ bytes[from + n % 4]);
+  const payload = Uint8Array.from(bytes.subarray(from + 4, from + 4 + length));
+  for (let n = 0; n < length; n += 1) payload[n] ^= bytes[from + n % 4];
   return { opcode: bytes[0] & 15, isLast: bytes[0] > 127, payload, size: from + 4 + length };
 }
 

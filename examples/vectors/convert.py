@@ -23,6 +23,7 @@ import json
 import pathlib
 import re
 import sys
+from functools import lru_cache
 
 from cryptography.exceptions import InvalidTag
 from cryptography.hazmat.primitives.asymmetric.x25519 import X25519PrivateKey, X25519PublicKey
@@ -121,12 +122,17 @@ class KeySchedule:
         self.is_keyed = True
 
 
+# (OpenSSL takes a millisecond to read a private key, and the vectors of a project have few)
+private_key = lru_cache(1024)(X25519PrivateKey.from_private_bytes)
+
+
+@lru_cache(1024)
 def public_of(private):
-    return X25519PrivateKey.from_private_bytes(private).public_key().public_bytes(Encoding.Raw, PublicFormat.Raw)
+    return private_key(private).public_key().public_bytes(Encoding.Raw, PublicFormat.Raw)
 
 
 def agreement(private, public):
-    return X25519PrivateKey.from_private_bytes(private).exchange(X25519PublicKey.from_public_bytes(public))
+    return private_key(private).exchange(X25519PublicKey.from_public_bytes(public))
 
 
 class Vector:

@@ -9,6 +9,7 @@ from __future__ import annotations
 
 import hashlib
 import hmac
+from functools import lru_cache
 
 from cryptography.exceptions import InvalidTag
 from cryptography.hazmat.primitives.asymmetric.x25519 import X25519PrivateKey, X25519PublicKey
@@ -105,12 +106,20 @@ class Refused(Exception):
     """The message, or the call, is refused."""
 
 
+@lru_cache(None)
+def private_key(private: bytes) -> X25519PrivateKey:
+    """OpenSSL takes a millisecond to read a private key, and the tests have few."""
+    return X25519PrivateKey.from_private_bytes(private)
+
+
+@lru_cache(None)
 def public_of(private: bytes) -> bytes:
-    return X25519PrivateKey.from_private_bytes(private).public_key().public_bytes(Encoding.Raw, PublicFormat.Raw)
+    return private_key(private).public_key().public_bytes(Encoding.Raw, PublicFormat.Raw)
 
 
+@lru_cache(None)
 def agreement(private: bytes, public: bytes) -> bytes:
-    return X25519PrivateKey.from_private_bytes(private).exchange(X25519PublicKey.from_public_bytes(public))
+    return private_key(private).exchange(X25519PublicKey.from_public_bytes(public))
 
 
 def agreement_of(private: bytes | None, public: bytes | None) -> bytes:

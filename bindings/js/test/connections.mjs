@@ -41,12 +41,12 @@ export function pair(...strategies) {
  * that instead.
  */
 export function duplexes() {
-  const write = function write(bytes, _, done) {
+  const write = function write(part, _, done) {
     if (this.refuses) {
       this.refuses(done);
       return;
     }
-    this.other.push(bytes);
+    this.other.push(part);
     done();
   };
   const final = function final(done) { this.other.push(null); done(); };
@@ -133,6 +133,13 @@ export async function outcome(promise, milliseconds = 60000) {
   } finally {
     clearTimeout(timer);
   }
+}
+
+/** Bytes that differ from place to place, counted from a place on. */
+export function bytes(size, from = 0) {
+  const all = new Uint8Array(size);
+  for (let n = 0; n < size; n += 1) all[n] = ((n + from) * 7 + ((n + from) >> 8)) & 255;
+  return all;
 }
 
 /** Runs a script of this folder in a program of its own, with the module that this one has. */

@@ -6,7 +6,7 @@ import { PassThrough } from 'node:stream';
 import { pipeline } from 'node:stream/promises';
 import { text as textOf } from 'node:stream/consumers';
 import { load } from '../noise.mjs';
-import { channels, duplexes, outcome, overTcp, refused, text } from './connections.mjs';
+import { bytes, channels, duplexes, outcome, overTcp, refused, text } from './connections.mjs';
 
 const later = (milliseconds) => new Promise((resolve) => { setTimeout(resolve, milliseconds); });
 const turn = () => new Promise((resolve) => { setImmediate(resolve); });
@@ -67,7 +67,7 @@ test('the ends of a stream of Node', { timeout: 300000 }, async (t) => {
 
   for (const [name, read] of Object.entries(READERS)) {
     await t.test(`${name}: who reads all ends it as a socket does, and what was written leaves`, async () => {
-      const whole = Buffer.from(Array.from({ length: 1 << 20 }, (_, n) => (n * 7 + (n >> 8)) & 255));
+      const whole = Buffer.from(bytes(1 << 20));
       for (const question of [Buffer.from('question'), whole]) {
         const [a, b] = await channels(await overTcp());
         const events = [];
@@ -128,7 +128,7 @@ test('the ends of a stream of Node', { timeout: 300000 }, async (t) => {
         const [near, far] = duplexes();
         const [a, b] = await channels([near, far]);
         await turn();
-        if (kind === 'slow') near._write = (bytes, _, done) => { setTimeout(() => { far.push(bytes); done(); }, 5); };
+        if (kind === 'slow') near._write = (part, _, done) => { setTimeout(() => { far.push(part); done(); }, 5); };
         const one = a.duplex.on('error', () => {});    // after `close` it can't be read
         one.write('0');
         const calls = [a.send(text('1'))];
@@ -162,7 +162,7 @@ test('the ends of a stream of Node', { timeout: 300000 }, async (t) => {
       const [a, b] = await channels([near, far]);
       await turn();
       const held = [];
-      near._write = (bytes, _, done) => { held.push(() => { far.push(bytes); done(); }); };
+      near._write = (part, _, done) => { held.push(() => { far.push(part); done(); }); };
       a.duplex.on('error', () => {}).write('1');
       await turn();
       a.duplex.write('2');

@@ -3,13 +3,10 @@
 import test from 'node:test';
 import assert from 'node:assert/strict';
 import { NoiseSocket, load } from '../noise.mjs';
-import { NN, channels, duplexes, openSockets, outcome, overTcp, pair, refused, text } from './connections.mjs';
+import { NN, bytes, channels, duplexes, openSockets, outcome, overTcp, pair, refused, text } from './connections.mjs';
 
 const turn = () => new Promise((resolve) => { setImmediate(resolve); });
 const joined = (parts) => new Uint8Array(Buffer.concat(parts));
-/** Bytes that differ from place to place. */
-const byteAt = (n) => (n * 7 + (n >> 8)) & 255;
-const bytes = (size, from = 0) => Uint8Array.from({ length: size }, (_, n) => byteAt(n + from));
 
 async function received(channel) {
   const parts = [];

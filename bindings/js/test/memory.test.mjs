@@ -19,6 +19,7 @@ import {
   Transport,
   load,
 } from '../noise.mjs';
+import { bytes } from './connections.mjs';
 
 /** Both parties of NN, after its messages. */
 async function passed() {
@@ -125,7 +126,7 @@ test('memory', async (t) => {
   });
 
   await t.test('bytes are found whole in whichever chunks they come', async () => {
-    const all = Uint8Array.from({ length: 300000 }, (_, n) => (n * 7 + (n >> 8)) & 255);
+    const all = bytes(300000);
     // around that from which on a chunk isn't copied
     const sizes = [1, 0, 2047, 2048, 2049, 3, 0, 4095, 4096, 1, 65536, 1, 1, 20000];
     let [from, chunk] = [0, 0];

@@ -6,6 +6,7 @@ import { load } from '../noise.mjs';
 import { openSockets } from './connections.mjs';
 import { NOTHING, ORDERS, check, damaged, party } from './law.mjs';
 
+Error.stackTraceLimit = 0;    // thousands of errors are made
 let seed = 20261126;
 /** A number from 1 to `most`, the same in each run. */
 function some(most) {

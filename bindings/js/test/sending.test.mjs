@@ -7,14 +7,11 @@ import { tmpdir } from 'node:os';
 import { join } from 'node:path';
 import { pipeline } from 'node:stream/promises';
 import { KeyPair, load } from '../noise.mjs';
-import { channels, openSockets, outcome, overTcp, pair, refused, text } from './connections.mjs';
+import { bytes, channels, openSockets, outcome, overTcp, pair, refused, text } from './connections.mjs';
 
 const roomy = () => pair({ highWaterMark: 1e6 }, { highWaterMark: 1e6 });
 const KINDS = { TCP: overTcp, streams: roomy, WebSocket: openSockets };
 const pause = (milliseconds) => new Promise((resolve) => { setTimeout(resolve, milliseconds); });
-
-/** Bytes that differ from place to place. */
-const bytes = (size) => Uint8Array.from({ length: size }, (_, n) => (n * 7 + (n >> 8)) & 255);
 
 /** All that comes. */
 async function received(channel) {

@@ -4,10 +4,9 @@ import assert from 'node:assert/strict';
 import { once } from 'node:events';
 import { connect, createServer } from 'node:net';
 import { NoiseSocket, load } from '../noise.mjs';
-import { NN, channels, outcome, overTcp, refused, text } from './connections.mjs';
+import { NN, bytes, channels, outcome, overTcp, refused, text } from './connections.mjs';
 
 const turn = () => new Promise((resolve) => { setImmediate(resolve); });
-const bytes = (size) => Uint8Array.from({ length: size }, (_, n) => (n * 7 + (n >> 8)) & 255);
 
 async function received(channel) {
   const parts = [];

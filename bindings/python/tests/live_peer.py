@@ -1,14 +1,16 @@
 """One end over TCP, for bindings/rust/tests/live/run.py, with the words of bindings/rust/examples/live/main.rs:
 live_peer.py PATTERN OWN_SECRET PEER_KEY PSK ADDRESS ORDER SIZE [async]."""
-import asyncio
 import logging
 import socket
 import sys
 import threading
 
-from yulimosar import (
-    ChannelCut, Config, KeyPair, MessageRefused, NoiseError, accept, connect, layout, open_connection, start_server,
-)
+from yulimosar import ChannelCut, Config, KeyPair, MessageRefused, NoiseError, accept, connect, layout
+
+if sys.argv[-1] == "async":    # (to import asyncio takes a third of what a short session takes)
+    import asyncio
+
+    from yulimosar import open_connection, start_server
 
 PART = 10000
 FAULTS = (NoiseError, OSError)

@@ -4,6 +4,7 @@ import contextlib
 import gc
 import logging
 import os
+import traceback
 
 import pytest
 from toys import configs
@@ -12,6 +13,16 @@ from yulimosar import memory, open_connection, start_server
 
 LOOPS = ["asyncio", "uvloop"]
 factories = [None]    # that of the loop of this test
+_extract = traceback.StackSummary.extract
+
+
+def _last_frame(frames, *, lookup_lines=True, limit=None, **words):
+    """In debug mode the loops ask for ten frames of each call and task, without their lines. That took more than half
+    of the time of the tests: they get the last one."""
+    return _extract(frames, lookup_lines=lookup_lines, limit=limit if lookup_lines else 1, **words)
+
+
+traceback.StackSummary.extract = _last_frame
 
 
 @pytest.fixture(params=LOOPS)

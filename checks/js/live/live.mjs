@@ -20,7 +20,8 @@ const ORDERS = [
 const NOTHING = { kind: 'nothing', at: 0 };
 const MEGABYTE = 1 << 20;
 
-const bytes = (size) => Uint8Array.from({ length: size }, (_, n) => n % 251);
+const ALL = new Uint8Array(Buffer.alloc(MEGABYTE, Uint8Array.from({ length: 251 }, (_, n) => n)));
+const bytes = (size) => ALL.subarray(0, size);
 const sum = (payload) => createHash('sha256').update(payload).digest('hex');
 const hex = (it) => Buffer.from(it).toString('hex');
 

@@ -3,6 +3,7 @@
 from __future__ import annotations
 
 import logging
+from functools import lru_cache
 from typing import Any
 
 from dissononce.cipher.aesgcm import AESGCMCipher
@@ -25,8 +26,24 @@ from runner import NotSupported
 logging.disable(logging.CRITICAL)
 
 
-def key_pair(secret: str) -> Any:
-    return X25519DH().generate_keypair(PrivateKey(bytes.fromhex(secret)))
+@lru_cache(None)
+def key_pair(secret: bytes) -> Any:
+    return X25519DH().generate_keypair(PrivateKey(secret))
+
+
+@lru_cache(None)
+def agreement(secret: bytes, public: bytes) -> bytes:
+    return X25519DH().dh(key_pair(secret), PublicKey(public))
+
+
+class KeptDH(X25519DH):
+    """dissononce's DH, of which each result is computed once: OpenSSL takes a millisecond to read a private key."""
+
+    def dh(self, keypair: Any, publickey: PublicKey) -> bytes:
+        return agreement(keypair.private.data, publickey.data)
+
+    def generate_keypair(self, privatekey: PrivateKey | None = None) -> Any:
+        return key_pair(privatekey.data) if privatekey else super().generate_keypair()
 
 
 def pattern_of(setup: dict[str, Any]) -> HandshakePattern:
@@ -62,7 +79,7 @@ class Party:
         if setup.get("what") == "pattern":
             raise NotSupported("patterns aren't checked")
         pattern = named(setup["protocol"]) if setup.get("what") == "name" else pattern_of(setup)
-        dh = NoGenDH(X25519DH(), PrivateKey(bytes.fromhex(own["e"]))) if "e" in own else X25519DH()
+        dh = NoGenDH(KeptDH(), PrivateKey(bytes.fromhex(own["e"]))) if "e" in own else KeptDH()
         cipher, digest = suite_of(setup["protocol"])
         self.inner = HandshakeState(SymmetricState(CipherState(cipher), digest), dh)
         self.handshake = GuardedHandshakeState(self.inner)
@@ -71,8 +88,8 @@ class Party:
             pattern,
             self.is_initiator,
             setup["prologue"],
-            s=key_pair(own["s"]) if "s" in own else None,
-            e=key_pair(own["e"]) if "e" in mine else None,
+            s=key_pair(bytes.fromhex(own["s"])) if "s" in own else None,
+            e=key_pair(bytes.fromhex(own["e"])) if "e" in mine else None,
             rs=PublicKey(bytes.fromhex(own["rs"])) if "rs" in own else None,
             re=PublicKey(bytes.fromhex(own["re"])) if "re" in own else None,
             psks=[bytes.fromhex(it) for it in setup["psks"]] or None,

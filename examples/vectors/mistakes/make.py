@@ -18,6 +18,7 @@ import hashlib
 import hmac
 import pathlib
 import sys
+from functools import lru_cache
 from typing import NamedTuple
 
 from cryptography.exceptions import InvalidTag
@@ -88,11 +89,13 @@ class RefusedError(Exception):
     """The token and the cause of a refusal."""
 
 
+@lru_cache(None)
 def private_key(role: str, letter: str) -> X25519PrivateKey:
-    """A private key of the table."""
+    """A private key of the table. (OpenSSL takes a millisecond to read one.)"""
     return X25519PrivateKey.from_private_bytes(bytes.fromhex(PRIVATE[role, letter]))
 
 
+@lru_cache(None)
 def public_key(role: str, letter: str) -> bytes:
     """The public key to a private key of the table."""
     return private_key(role, letter).public_key().public_bytes(Encoding.Raw, PublicFormat.Raw)
